@@ -1,0 +1,79 @@
+ghost use Rattle.std.specs.Prelude.{◌≡◌, ◌<◌, List, [], ◌∷◌, ◌++◌, length, OnOk, IfErr, MatchOption, slice_get, Some};
+
+use crate::{Blob, FaultNote, OutOfMemory, QueueName, Text};
+use std::alloc::Global;
+use std::marker::Model;
+
+/// A list that grows and shrinks at its end. Contracts see the items in order.
+#[derive(Debug, Drop)]
+pub struct ListOf<T> {
+    items: Vec<T>,
+}
+
+impl<T> Model for ListOf<T> {
+    ghost Value = { List T };
+
+    ghost view = { λ l. l.items.items };
+}
+
+impl<T> ListOf<T> {
+    /// The empty list. It takes no memory.
+    pub fn new(alloc: Global) -> Self
+        ensures { result ≡ [] }
+    {
+        ListOf {
+            items: Vec::new(alloc),
+        }
+    }
+
+    /// Puts an item at the end. Without memory for it, the list stays and the item comes back.
+    pub fn push(&mut self, item: T) -> Result<(), (OutOfMemory, T)>
+        ensures ok { OnOk result (self.new ≡ self.old ++ item ∷ []) }
+        ensures err { IfErr result (λ e. (e.1 ≡ item) × (self.new ≡ self.old)) }
+    {
+        match self.items.push(item) {
+            Ok(()) => Ok(()),
+            Err(e) => Err((OutOfMemory, e.value)),
+        }
+    }
+
+    /// Takes the last item off.
+    pub fn pop(&mut self) -> Option<T>
+        ensures { MatchOption result ((self.old ≡ []) × (self.new ≡ [])) (λ last. self.old ≡ self.new ++ last ∷ []) }
+    {
+        self.items.pop()
+    }
+
+    pub fn len(&self) -> usize
+        ensures { result ≡ length self.now }
+    {
+        self.items.len()
+    }
+
+    pub fn at(&self, i: usize) -> &T
+        requires { i < length self.now }
+        ensures { slice_get self.now i ≡ Some result.now }
+    {
+        &self.items[i]
+    }
+
+    pub fn as_slice(&self) -> &[T]
+        ensures { result.now ≡ self.now }
+    {
+        &self.items
+    }
+}
+
+pub type NumberList = ListOf<u64>;
+
+pub type TextList = ListOf<Text>;
+
+pub type LineList = ListOf<Blob>;
+
+pub type QueueList = ListOf<QueueName>;
+
+pub type NamedList = ListOf<(Text, Blob)>;
+
+pub type SendList = ListOf<(QueueName, Blob)>;
+
+pub type NoteList = ListOf<(Blob, FaultNote)>;
