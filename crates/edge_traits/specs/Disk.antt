@@ -1,0 +1,57 @@
+-- A disk of numbered files: what its calls do to them, and what a crash may leave.
+--
+-- Between two syncs of a file, each range that was written and the part past the old end may hold any bytes after a
+-- crash, and the length may be any between the least and the greatest since the sync. The bytes outside stay.
+use Rattle.std.specs.Prelude.{◌≡◌, ◌≢◌, ◌⊎◌, ◌≤◌, ◌+◌, ℕ, min, max, List, ◌++◌, length, take, drop, Option, Some}
+
+-- the content of each file; one that was never written is empty
+abbrev pub Image : Type 0
+Image = ℕ → List ℕ
+
+-- what a read gives, if it is told; the count of faults; and the moment, a number that doesn't fall
+pub record DiskView : Type 0 where
+  pub told : Option Image
+  pub faults : ℕ
+  pub moment : ℕ
+
+-- the bytes stand at this offset, and the others as before
+abbrev pub overwritten : List ℕ → ℕ → List ℕ → List ℕ
+overwritten old at bytes = take at old ++ bytes ++ drop (at + length bytes) old
+
+-- what is told afterwards differs in this file alone
+abbrev pub ChangesOnly : Image → Option Image → ℕ → Type 0
+ChangesOnly files now file = (after : Image) × (now ≡ Some after) × ((other : ℕ) → other ≢ file → after other ≡ files other)
+
+-- after a write of n bytes that a crash cuts short: any bytes in the range and past the old end, the same elsewhere
+pub record Torn (at n : ℕ) (old new : List ℕ) : Type 0 where
+  pub before : take (min at (length old)) new ≡ take at old
+  pub behind : drop (at + n) new ≡ drop (at + n) old
+  pub no_shorter : length old ≤ length new
+  pub no_longer : length new ≤ max (length old) (at + n)
+
+-- after a cut: a front of the old content, no shorter than the cut makes it
+pub record Cut (len : ℕ) (old new : List ℕ) : Type 0 where
+  pub front : take (length new) old ≡ new
+  pub no_shorter : min len (length old) ≤ length new
+
+-- whatever a crash may leave now, it might have left before, after a step
+abbrev pub Follows : (List ℕ → List ℕ → Type 0) → (List ℕ → Type 0) → (List ℕ → Type 0) → Type 0
+Follows step old new = (c : List ℕ) → new c → (d : List ℕ) × old d × step d c
+
+-- whatever a crash may leave now in a file that passes, it might have left there before
+abbrev pub Adds : (ℕ → List ℕ → Type 0) → (ℕ → List ℕ → Type 0) → (ℕ → Type 0) → Type 0
+Adds old new passes = (file : ℕ) → passes file → (c : List ℕ) → new file c → old file c
+
+-- a crash leaves this content and no other
+abbrev pub Only : List ℕ → (List ℕ → Type 0) → Type 0
+Only content may_leave = (c : List ℕ) → may_leave c → c ≡ content
+
+-- a crash may leave these files, each as it may be left
+abbrev pub IsImage : (ℕ → List ℕ → Type 0) → Image → Type 0
+IsImage may_leave image = (file : ℕ) → may_leave file (image file)
+
+-- time goes on: a crash since t might have left what it might have left before, or what it may leave now
+pub record Elapses (before now : ℕ) (past since : ℕ → Image → Type 0) (may_leave : ℕ → List ℕ → Type 0) : Type 0 where
+  pub later : before ≤ now
+  pub nothing_else : (t : ℕ) (image : Image) → t ≤ before → since t image → past t image ⊎ IsImage may_leave image
+  pub keeps : (t : ℕ) (image : Image) → t ≤ before → past t image → since t image
