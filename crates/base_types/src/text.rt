@@ -36,6 +36,14 @@ impl Eq for Text {
     ghost laws = { Prim.search (comparing, rules) };
 }
 
+impl From<String> for Text {
+    ghost from_gives = { λ string text. text ≡ string_bytes string };
+
+    fn from(text: String) -> Self {
+        Text { text }
+    }
+}
+
 /// Why bytes are no text.
 #[derive(Clone, Copy, Debug, PartialEq, Eq)]
 pub enum TextFault {
@@ -100,6 +108,14 @@ impl Model for Blob {
     ghost Value = { List ℕ };
 
     ghost view = { λ b. b.bytes.items };
+}
+
+impl From<Vec<u8>> for Blob {
+    ghost from_gives = { λ bytes blob. blob ≡ bytes.items };
+
+    fn from(bytes: Vec<u8>) -> Self {
+        Blob { bytes }
+    }
 }
 
 impl PartialEq for Blob {

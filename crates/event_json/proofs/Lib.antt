@@ -1,0 +1,10 @@
+pub mod Blanks
+pub mod Dots
+pub mod FieldLemmas
+pub mod FieldsLemmas
+pub mod MemberLemmas
+pub mod MessageText
+pub mod Places
+pub mod Plain
+pub mod QuoteLemmas
+pub mod Trees

@@ -1,0 +1,31 @@
+-- The first line of a feed.
+use Rattle.std.proofs.Common.{◌≡◌, ◌<◌, ◌≤◌, ◌+◌, ℕ, List, [], ◌∷◌, Bool, true, false, cond, Some, None, length, take, drop, position, nat_lt, refl, subst, arith}
+use Rattle.std.specs.List.{All, slice_split, position_or_len}
+use Rattle.std.proofs.lemmas.Grind.{common_steps}
+use Rattle.std.proofs.lemmas.List.Splits.{slice_split_first, slice_split_none}
+use Rattle.std.proofs.lemmas.List.Sums.{fails_before_first}
+use Rattle.std.proofs.lemmas.Bool.{ltb-true, ltb-false}
+
+-- what the first place says of its length
+place_found : (b : Bool) (k n i : ℕ) → nat_lt k n ≡ b → cond b (Some k) None ≡ Some i → (k < n) × (k ≡ i)
+place_found true k n i test e = (ltb-true k n test, cc)
+place_found false k n i test e = cc
+
+place_missing : (b : Bool) (k n : ℕ) → nat_lt k n ≡ b → cond b (Some k) None ≡ None → n ≤ k
+place_missing true k n test e = cc
+place_missing false k n test e = ltb-false k n test
+
+module _ (p : ℕ → Bool) where
+  -- no byte of such a list passes
+  fails_all : (xs : List ℕ) → length xs ≤ position_or_len p xs → All (λ x. p x ≡ false) xs
+  fails_all xs none = λ k e m. let k' = fails_before_first p xs k e (grind (arith, common_steps)) in grind (arith, common_steps)
+
+  -- where the byte isn't there, the list is the one part
+  pub split_missing : (xs : List ℕ) → position p xs ≡ None → slice_split p xs ≡ xs ∷ []
+  split_missing xs none = slice_split_none p xs (fails_all xs (place_missing _ (position_or_len p xs) (length xs) refl none))
+
+  -- where it is, the list is what stands before it, and the parts of what stands behind it
+  pub split_found : (xs : List ℕ) (i : ℕ) → position p xs ≡ Some i → slice_split p xs ≡ take i xs ∷ slice_split p (drop (i + 1) xs)
+  split_found xs i found =
+      let at = place_found _ (position_or_len p xs) (length xs) i refl found in
+      subst (λ k. slice_split p xs ≡ take k xs ∷ slice_split p (drop (k + 1) xs)) at.1 (slice_split_first p xs 0 at.0)

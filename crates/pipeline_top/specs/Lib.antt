@@ -1,0 +1,7 @@
+pub mod Convert
+pub mod Feed
+pub mod Halt
+pub mod Line
+pub mod Output
+pub mod StatusText
+pub mod Words
