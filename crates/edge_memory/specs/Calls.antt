@@ -1,0 +1,21 @@
+-- The calls that were made of an object, and those that are to fail.
+use Rattle.std.specs.Prelude.{ℕ, ◌+◌, ◌==◌, Bool, List, min}
+use Rattle.std.specs.List.{list_any}
+use Rattle.edge_traits.specs.Count.{last_count}
+
+-- how many were made, and the numbers, from 1, of those that are to fail
+pub record Calls : Type 0 where
+  pub made : ℕ
+  pub fail : List ℕ
+
+-- the number of the next call
+abbrev pub next_number : Calls → ℕ
+next_number calls = min (calls.made + 1) last_count
+
+-- one call more was made
+abbrev pub counted : Calls → Calls
+counted calls = record calls { made = next_number calls }
+
+-- the next call is to fail
+abbrev pub is_to_fail : Calls → Bool
+is_to_fail calls = list_any (λ n. n == next_number calls) calls.fail

@@ -1,0 +1,14 @@
+-- The words behind the program's name.
+use Rattle.std.specs.Prelude.{ℕ, List, [], ◌∷◌, Bool, false, ◌||◌, codes, is_some}
+use Rattle.std.specs.Str.{bytes_eq}
+use Rattle.pipeline_top.specs.Words.{feed_name}
+
+-- the words that stand alone
+abbrev pub stands_alone : List ℕ → Bool
+stands_alone word = bytes_eq word (codes "--help") || bytes_eq word (codes "--version")
+
+-- a word that stands alone, or the store's folder and a command
+abbrev pub is_command : List (List ℕ) → Bool
+is_command [] = false
+is_command (word ∷ []) = stands_alone word
+is_command (store ∷ command) = is_some (feed_name command)

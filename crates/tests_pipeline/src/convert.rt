@@ -1,0 +1,379 @@
+use base_types::{Blob, NumberList, Text, TextList};
+use edge_memory::{MemClock, MemShelf, MemSink};
+use edge_traits::NoDisk;
+use pipeline_top::{Status, run_tool, status_text};
+use std::alloc::Global;
+use std::process::Abort;
+use std::test::Fail;
+
+const NOW: u64 = 1_700_000_000;
+
+fn numbers(alloc: Global, all: &[u64]) -> Result<NumberList, Fail> {
+    let mut list = NumberList::new(alloc);
+    for n in all {
+        if list.push(*n).is_err() {
+            return Err(Fail::from("memory"));
+        }
+    }
+    Ok(list)
+}
+
+fn words_of(alloc: Global, words: &[&str]) -> Result<TextList, Fail> {
+    let mut list = TextList::new(alloc);
+    for word in words {
+        if list.push(Text::new(alloc, word.as_bytes())?).is_err() {
+            return Err(Fail::from("memory"));
+        }
+    }
+    Ok(list)
+}
+
+// What fails, and where: the fetches, the reads of the feed and the writes with these numbers.
+struct Faults {
+    fetches: &'static [u64],
+    reads: &'static [u64],
+    writes: &'static [u64],
+}
+
+const NONE: Faults = Faults {
+    fetches: &[],
+    reads: &[],
+    writes: &[],
+};
+
+// Runs the words over a shelf with one feed, and gives the text of the status and what was written.
+fn outcome(
+    alloc: Global,
+    words: &[&str],
+    feed: &[u8],
+    faults: &Faults,
+) -> Result<(Status, Blob), Fail> {
+    let mut shelf = MemShelf::new(alloc, numbers(alloc, faults.fetches)?);
+    let name = Text::new(alloc, b"feed.json")?;
+    shelf.put(
+        alloc,
+        &name,
+        &Blob::new(alloc, feed)?,
+        numbers(alloc, faults.reads)?,
+    )?;
+    let mut out = MemSink::new(alloc, numbers(alloc, faults.writes)?);
+    let words = words_of(alloc, words)?;
+    let (status, _) = run_tool(
+        alloc,
+        words.as_slice(),
+        &mut shelf,
+        NoDisk::new(),
+        &mut out,
+        &MemClock::new(NOW),
+    );
+    Ok((status, Blob::new(alloc, out.bytes())?))
+}
+
+const CONVERT: [&str; 3] = ["convert", "--feed", "feed.json"];
+
+struct Row {
+    feed: &'static str,
+    text: &'static str,
+    status: &'static str,
+    number: u8,
+}
+
+fn check_rows(rt: &impl Abort, alloc: Global, rows: &[Row]) -> Result<(), Fail> {
+    for row in rows {
+        let (status, written) = outcome(alloc, &CONVERT, row.feed.as_bytes(), &NONE)?;
+        assert_eq!(rt; status_text(alloc, &status)?.as_str(), row.status);
+        assert_eq!(rt; status.number(), row.number);
+        assert_eq!(rt; written.bytes(), row.text.as_bytes());
+    }
+    Ok(())
+}
+
+const FEEDS: [Row; 13] = [
+    Row {
+        feed: "",
+        text: "",
+        status: "done",
+        number: 0,
+    },
+    Row {
+        feed: "\n\n\n",
+        text: "",
+        status: "done",
+        number: 0,
+    },
+    Row {
+        feed: "{\"source.ip\":\"192.0.2.1\"}\n",
+        text: "{\"__type\":\"Event\",\"source.ip\":\"192.0.2.1\"}\n",
+        status: "done",
+        number: 0,
+    },
+    // No newline at the end.
+    Row {
+        feed: "{\"source.ip\":\"192.0.2.1\"}",
+        text: "{\"__type\":\"Event\",\"source.ip\":\"192.0.2.1\"}\n",
+        status: "done",
+        number: 0,
+    },
+    Row {
+        feed: "{\"comment\":\"  hi \",\"malware.name\":\"ABC\"}\n",
+        text: "{\"__type\":\"Event\",\"comment\":\"hi\",\"malware.name\":\"abc\"}\n",
+        status: "done",
+        number: 0,
+    },
+    Row {
+        feed: "{\"comment\":\"a\"}\n[\n",
+        text: "{\"__type\":\"Event\",\"comment\":\"a\"}\n",
+        status: "bad line 2",
+        number: 17,
+    },
+    Row {
+        feed: "{\"source.ip\":\"192.0.2.300\"}\n",
+        text: "",
+        status: "bad line 1",
+        number: 17,
+    },
+    Row {
+        feed: "{\"source.port\":\"80\"}\n",
+        text: "",
+        status: "unbuilt 1",
+        number: 19,
+    },
+    // Empty lines count, and what is behind the bad line isn't written.
+    Row {
+        feed: "\n{\"comment\":\"a\"}\n\n{\"comment\":7}\n{\"comment\":\"b\"}\n",
+        text: "{\"__type\":\"Event\",\"comment\":\"a\"}\n",
+        status: "unbuilt 4",
+        number: 19,
+    },
+    Row {
+        feed: "\n\nno\n{\"comment\":7}\n",
+        text: "",
+        status: "bad line 3",
+        number: 17,
+    },
+    // An empty line that ends as on another system isn't empty.
+    Row {
+        feed: "\r\n",
+        text: "",
+        status: "bad line 1",
+        number: 17,
+    },
+    // A carriage return stays, and a JSON text may end with it.
+    Row {
+        feed: "{\"comment\":\"a\"}\r\n",
+        text: "{\"__type\":\"Event\",\"comment\":\"a\"}\n",
+        status: "done",
+        number: 0,
+    },
+    Row {
+        feed: "{\"__type\":\"Report\",\"feed.name\":\"Demo\"}\n",
+        text: "{\"__type\":\"Report\",\"feed.name\":\"Demo\"}\n",
+        status: "done",
+        number: 0,
+    },
+];
+
+#[test]
+fn feeds(rt: HostRuntime) -> Result<(), Fail> {
+    check_rows(&rt, rt.alloc(), &FEEDS)
+}
+
+// The words that are no command.
+const NO_COMMANDS: [&[&str]; 12] = [
+    &[],
+    &["convert"],
+    &["convert", "--feed"],
+    &["convert", "feed.json"],
+    &["convert", "feed.json", "--feed"],
+    &["convert", "--feed", ""],
+    &["convert", "--feed=feed.json"],
+    &["convert", "--Feed", "feed.json"],
+    &["Convert", "--feed", "feed.json"],
+    &["convert", "--feed", "feed.json", "--feed", "feed.json"],
+    &["drain"],
+    &["run", "--feed", "feed.json"],
+];
+
+#[test]
+fn words_that_are_no_command(rt: HostRuntime) -> Result<(), Fail> {
+    let alloc = rt.alloc();
+    for words in &NO_COMMANDS {
+        let (status, written) = outcome(alloc, words, b"{}\n", &NONE)?;
+        assert_eq!(rt; status, Status::Words);
+        assert_eq!(rt; status_text(alloc, &status)?.as_str(), "words");
+        assert_eq!(rt; status.number(), 2);
+        assert_eq!(rt; written.bytes(), b"".as_slice());
+    }
+    Ok(())
+}
+
+#[test]
+fn names_of_255_and_256_bytes(rt: HostRuntime) -> Result<(), Fail> {
+    let alloc = rt.alloc();
+    let mut name = String::new(alloc);
+    for _ in 0..255 {
+        name.push('n')?;
+    }
+    let (status, _) = outcome(alloc, &["convert", "--feed", name.as_str()], b"", &NONE)?;
+    assert_eq!(rt; status.number(), 4);
+    name.push('n')?;
+    let (status, _) = outcome(alloc, &["convert", "--feed", name.as_str()], b"", &NONE)?;
+    assert_eq!(rt; status, Status::Words);
+    Ok(())
+}
+
+#[test]
+fn an_absent_feed(rt: HostRuntime) -> Result<(), Fail> {
+    let alloc = rt.alloc();
+    let (status, written) = outcome(alloc, &["convert", "--feed", "other.json"], b"{}\n", &NONE)?;
+    assert_eq!(rt;
+        status_text(alloc, &status)?.as_str(),
+        "feed other.json absent"
+    );
+    assert_eq!(rt; status.number(), 4);
+    assert_eq!(rt; written.bytes(), b"".as_slice());
+    Ok(())
+}
+
+// Lines of an event, until there are that many bytes.
+fn long_feed(alloc: Global, bytes: usize) -> Result<String, Fail> {
+    let mut feed = String::new(alloc);
+    for _ in 0..bytes {
+        if feed.len() >= bytes {
+            break;
+        }
+        feed.push_str("{\"comment\":\"seen by the sensor\"}\n")?;
+    }
+    Ok(feed)
+}
+
+struct FaultRow {
+    faults: Faults,
+    status: &'static str,
+    // How many bytes are written.
+    written: usize,
+}
+
+// The feed has some 200,000 bytes, so that there are many reads and more than one write.
+const FAULTS: [FaultRow; 7] = [
+    FaultRow {
+        faults: NONE,
+        status: "done",
+        written: 303_050,
+    },
+    FaultRow {
+        faults: Faults {
+            fetches: &[1],
+            reads: &[],
+            writes: &[],
+        },
+        status: "feed feed.json failed",
+        written: 0,
+    },
+    FaultRow {
+        faults: Faults {
+            fetches: &[],
+            reads: &[1],
+            writes: &[],
+        },
+        status: "feed feed.json failed",
+        written: 0,
+    },
+    FaultRow {
+        faults: Faults {
+            fetches: &[],
+            reads: &[3],
+            writes: &[],
+        },
+        status: "feed feed.json failed",
+        written: 0,
+    },
+    FaultRow {
+        faults: Faults {
+            fetches: &[2],
+            reads: &[100],
+            writes: &[100],
+        },
+        status: "done",
+        written: 303_050,
+    },
+    FaultRow {
+        faults: Faults {
+            fetches: &[],
+            reads: &[],
+            writes: &[1],
+        },
+        status: "sink",
+        written: 0,
+    },
+    FaultRow {
+        faults: Faults {
+            fetches: &[],
+            reads: &[],
+            writes: &[2],
+        },
+        status: "sink",
+        written: 65_550,
+    },
+];
+
+#[test]
+fn faults_of_the_outside(rt: HostRuntime) -> Result<(), Fail> {
+    let alloc = rt.alloc();
+    let feed = long_feed(alloc, 200_000)?;
+    for row in &FAULTS {
+        let (status, written) = outcome(alloc, &CONVERT, feed.as_bytes(), &row.faults)?;
+        assert_eq!(rt; status_text(alloc, &status)?.as_str(), row.status);
+        assert_eq!(rt; written.bytes().len(), row.written);
+    }
+    Ok(())
+}
+
+#[test]
+fn the_count_on_the_feed_rises_by_its_faults(rt: HostRuntime) -> Result<(), Fail> {
+    let alloc = rt.alloc();
+    let mut shelf = MemShelf::new(alloc, numbers(alloc, &[])?);
+    let name = Text::new(alloc, b"feed.json")?;
+    shelf.put(
+        alloc,
+        &name,
+        &Blob::new(alloc, b"{}")?,
+        numbers(alloc, &[1])?,
+    )?;
+    let mut out = MemSink::new(alloc, numbers(alloc, &[])?);
+    let words = words_of(alloc, &CONVERT)?;
+    let clock = MemClock::new(NOW);
+    let (first, disk) = run_tool(
+        alloc,
+        words.as_slice(),
+        &mut shelf,
+        NoDisk::new(),
+        &mut out,
+        &clock,
+    );
+    assert_eq!(rt; first.number(), 4);
+    assert_eq!(rt; shelf.faults(&name), 1);
+    let (second, _) = run_tool(alloc, words.as_slice(), &mut shelf, disk, &mut out, &clock);
+    assert_eq!(rt; second, Status::Done);
+    assert_eq!(rt; shelf.faults(&name), 1);
+    assert_eq!(rt; out.bytes(), b"{\"__type\":\"Event\"}\n".as_slice());
+    Ok(())
+}
+
+#[test]
+fn the_longest_feed_for_now(rt: HostRuntime) -> Result<(), Fail> {
+    let alloc = rt.alloc();
+    let mut feed = String::new(alloc);
+    for _ in 0..1_048_576 {
+        feed.push('\n')?;
+    }
+    let (status, written) = outcome(alloc, &CONVERT, feed.as_bytes(), &NONE)?;
+    assert_eq!(rt; status, Status::Done);
+    assert_eq!(rt; written.bytes(), b"".as_slice());
+    feed.push('\n')?;
+    let (status, written) = outcome(alloc, &CONVERT, feed.as_bytes(), &NONE)?;
+    assert_eq!(rt; status_text(alloc, &status)?.as_str(), "unbuilt 0");
+    assert_eq!(rt; status.number(), 19);
+    assert_eq!(rt; written.bytes(), b"".as_slice());
+    Ok(())
+}

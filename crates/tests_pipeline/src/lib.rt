@@ -1,0 +1,9 @@
+//! Tests of the top calls and of what they stand on, through public calls alone.
+#![tactic(auto)]
+
+#[cfg(test)]
+mod convert;
+#[cfg(test)]
+mod ground;
+#[cfg(test)]
+mod messages;
