@@ -11,6 +11,7 @@ use crate::Status;
 use crate::buffer::Buffer;
 use base_types::OutOfMemory;
 use event_json::{Message, ReadFault, clean_message, write_message};
+use memchr::memchr;
 use std::alloc::Global;
 
 /// Why a line isn't converted.
@@ -49,7 +50,7 @@ pub fn first_line(feed: &[u8]) -> (&[u8], Option<&[u8]>)
 fn newline_in(feed: &[u8]) -> Option<usize>
     ensures { result ≡ position (λ b. b == 10) feed.now }
 {
-    feed.iter().position(|b| *b == b'\n')
+    memchr(b'\n', feed)
 }
 
 /// Puts the text of a line's message and a newline into the buffer, nothing for an empty line, or says why the line
