@@ -1,7 +1,6 @@
 -- Texts that stand in a JSON string as they are.
-use Rattle.std.proofs.Common.{◌≡◌, ℕ, ◌≤◌, List, [], ◌∷◌, ◌&&◌, ◌==◌, not, nat_le, nat_lt, true, false, flat_map, refl, arith}
-use Rattle.std.specs.List.{list_all}
-use Rattle.std.proofs.lemmas.Bool.{and_parts, leb-true, ne_eqb, not-true, le-ltb}
+use Rattle.std.proofs.Common.{◌≡◌, ℕ, ◌≤◌, List, Bool, [], ◌∷◌, ◌&&◌, ◌==◌, not, nat_le, nat_lt, true, false, flat_map, fold, ◌||◌, refl, sym, ◌∙◌, arith}
+use Rattle.std.proofs.lemmas.Bool.{false≢true, and_parts, leb-true, ne_eqb, not-true, le-ltb}
 use Rattle.event_json.specs.Writing.{escaped, is_plain}
 
 escaped-plain : (b : ℕ) → is_plain b ≡ true → escaped b ≡ b ∷ []
@@ -19,8 +18,19 @@ escaped-plain b plain =
     let low : nat_lt b 32 ≡ false = le-ltb b 32 above in
     rw (quotation, backslash, e8, e9, e10, e12, e13, low) refl
 
-pub content-plain : (text : List ℕ) → list_all is_plain text ≡ true → flat_map escaped text ≡ text
-content-plain [] plain = refl
-content-plain (b ∷ text) plain =
-    let parts = and_parts (is_plain b) (list_all is_plain text) plain in
+abbrev has_escapes_after : Bool → List ℕ → Bool
+has_escapes_after found text = fold (λ found b. found || not (is_plain b)) found text
+
+found_stays : (text : List ℕ) → has_escapes_after true text ≡ true
+found_stays [] = refl
+found_stays (b ∷ text) = found_stays text
+
+none_in : (plain : Bool) (text : List ℕ) → has_escapes_after (not plain) text ≡ false → (plain ≡ true) × (has_escapes_after false text ≡ false)
+none_in true text none = (refl, none)
+none_in false text none = absurd (false≢true (sym none ∙ found_stays text))
+
+pub content-plain : (text : List ℕ) → has_escapes_after false text ≡ false → flat_map escaped text ≡ text
+content-plain [] none = refl
+content-plain (b ∷ text) none =
+    let parts = none_in (is_plain b) text none in
     rw (escaped-plain b parts.0, content-plain text parts.1) refl

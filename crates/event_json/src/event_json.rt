@@ -71,11 +71,14 @@ fn clean_members(alloc: Global, members: &Map<String, Value>) -> Result<Message,
     }
 }
 
+// Most texts have fewer bytes, and grow no more than once.
+const USUAL_LENGTH: usize = 512;
+
 /// The canonical text of a message: one line of JSON without its newline.
 pub fn write_message(alloc: Global, message: &Message) -> Result<Blob, OutOfMemory>
     ensures { IfOk result (λ text. text ≡ message_text message.now) }
 {
-    let mut out = Vec::new(alloc);
+    let mut out = Vec::with_capacity(alloc, USUAL_LENGTH)?;
     push_message(&mut out, message)?;
     Ok(Blob::from(out))
 }

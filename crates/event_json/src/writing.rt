@@ -1,5 +1,4 @@
-ghost use Rattle.std.specs.Prelude.{◌≡◌, ◌∷◌, ◌++◌, ◌<◌, flat_map, OnOk};
-ghost use Rattle.std.specs.List.{list_all};
+ghost use Rattle.std.specs.Prelude.{◌≡◌, ◌∷◌, ◌++◌, ◌<◌, ◌||◌, flat_map, fold, not, false, OnOk};
 ghost use Rattle.event_json.specs.Writing.{escaped, hex_digit, is_plain, quoted, pair_text, kind_word, message_text};
 
 use crate::{Kind, Message};
@@ -50,17 +49,18 @@ fn push_escaped(out: &mut Vec<u8>, byte: u8) -> Result<(), OutOfMemory>
     Ok(())
 }
 
-fn are_plain(text: &[u8]) -> bool
-    ensures { result ≡ list_all is_plain text.now }
+// Whether a byte has to be escaped. It looks at all of them, which is faster than to stop at the first.
+fn has_escapes(text: &[u8]) -> bool
+    ensures { result ≡ fold (λ found b. found || not (is_plain b)) false text.now }
 {
-    text.iter().all(|b| is_plain(*b))
+    text.iter().fold(false, |found, b| found | !is_plain(*b))
 }
 
 // The inside of a JSON string.
 fn push_content(out: &mut Vec<u8>, text: &[u8]) -> Result<(), OutOfMemory>
     ensures { OnOk result (out.new.items ≡ out.old.items ++ flat_map escaped text.now) }
 {
-    if are_plain(text) {
+    if !has_escapes(text) {
         out.extend_from_slice(text)?;
         return Ok(());
     }
