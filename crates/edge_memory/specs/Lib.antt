@@ -1,5 +1,14 @@
 pub mod CallCount
 pub mod Calls
+pub mod Course
+pub mod Crashed
+pub mod Disk
+pub mod Moments
+pub mod Entries
+pub mod FailPlan
+pub mod Found
+pub mod Plan
+pub mod Torn
 pub mod Shelf
 pub mod Sink
 pub mod Source

@@ -30,7 +30,7 @@ impl CallCount {
     }
 }
 
-fn has_number(numbers: &NumberList, number: u64) -> bool
+pub fn has_number(numbers: &NumberList, number: u64) -> bool
     ensures { result ≡ list_any (λ n. n == number) numbers.now }
 {
     numbers.as_slice().iter().any(|n| *n == number)

@@ -71,6 +71,8 @@ impl Sink for MemSink {
         ensures failed { IsErr result → Rose (sink_view self.old).faults (sink_view self.new).faults }
         ensures count { (sink_view self.old).faults ≤ (sink_view self.new).faults }
 
+        // It takes all of the bytes, and fails where it was told to, or for want of memory.
+        ensures whole { IfOk result (λ n. n ≡ length bytes.now) }
         ensures as_told { IsTrue (is_to_fail (writes_of self.old)) → IsErr result }
         ensures starved { is_starved self.new
             ≡ (is_starved self.old || (is_err result && not (is_to_fail (writes_of self.old)))) }

@@ -88,7 +88,9 @@ impl Source for MemSource {
         ensures told { (source_view self.new).told ≡ (source_view self.old).told }
         ensures count { (source_view self.old).faults ≤ (source_view self.new).faults }
 
-        // It fails where it was told to, and nowhere else.
+        // It gives all that the buffer has room for, and fails where it was told to, and nowhere else.
+        ensures whole { (content : List ℕ) → (source_view self.old).told ≡ Some content
+            → IfOk result (λ n. n ≡ min (length buf.new) (length content - at)) }
         ensures as_told { IsErr result ↔ IsTrue (is_to_fail (reads_of self.old)) }
         ensures reads { reads_of self.new ≡ counted (reads_of self.old) }
     {

@@ -6,6 +6,7 @@
 
 mod clock;
 mod disk;
+mod gate;
 mod no_disk;
 mod shelf;
 mod sink;
@@ -13,6 +14,7 @@ mod source;
 
 pub use clock::Clock;
 pub use disk::Disk;
+pub use gate::{Gate, When};
 pub use no_disk::NoDisk;
 pub use shelf::{Shelf, ShelfFault};
 pub use sink::Sink;

@@ -1,0 +1,87 @@
+-- A call of a disk, as a step from one moment to the next.
+use Rattle.std.proofs.Common.{◌≡◌, ◌≤◌, ◌<◌, ◌+◌, ◌⊎◌, ◌&&◌, ⊎_elim, inl, inr, ℕ, Bool, true, false, nat_le, Option, Some, Result, Ok, Err, OnOk, OnErr, List, [], ◌∷◌, ◌++◌, reverse, refl, sym, ap, ◌∙◌, subst, cond, arith}
+use Rattle.std.specs.List.{take_while}
+use Rattle.std.proofs.lemmas.Bool.{leb-true, le-leb, cases_lt}
+use Rattle.std.proofs.lemmas.List.Sums.{take_while-cons}
+use Rattle.std.proofs.lemmas.List.Folds.{list_all-append}
+use Rattle.edge_traits.specs.Disk.{Elapses}
+use Rattle.edge_traits.specs.declared.source.Failed.{Failed}
+use Rattle.edge_memory.specs.declared.change.Change.{Change}
+use Rattle.edge_memory.specs.declared.change.Entry.{Entry}
+use Rattle.edge_memory.specs.Entries.{left, made}
+use Rattle.edge_memory.specs.Moments.{left_since, numbered_to, made_all, IsStep}
+
+first_of_both : (a b : Bool) → (a && b) ≡ true → a ≡ true
+first_of_both true b e = refl
+first_of_both false b e = e
+
+second_of_both : (a b : Bool) → (a && b) ≡ true → b ≡ true
+second_of_both true b e = e
+second_of_both false b e = absurd (cc)
+
+both : (a b : Bool) → a ≡ true → b ≡ true → (a && b) ≡ true
+both a b p q = rw (p, q)
+
+-- a crash in the time of a step leaves what one before it might have left, or what one may leave now
+pub elapses : (old : List Entry) (before : ℕ) (new : List Entry) (now : ℕ) → IsStep old before new now → Elapses before now (left_since old before) (left_since new now) (λ file c. left file (reverse new) c)
+elapses old before new now step = record {
+  later = step.later;
+  nothing_else = λ t image le since. ⊎_elim (λ late. inr (λ file. subst (λ (es : List Entry). left file es (image file)) (step.last since.0 late since.2) (since.3 file))) (λ early. inl (since.0, since.1, early, λ file. subst (λ (es : List Entry). left file es (image file)) (step.same since.0 early) (since.3 file))) (cases_lt before since.0);
+  keeps = λ t image le past. (past.0, past.1, omega (arith, step.later, past.2), λ file. subst (λ (es : List Entry). left file es (image file)) (sym (step.same past.0 past.2)) (past.3 file));
+}
+
+pub numbered_up : (a b : ℕ) (entries : List Entry) → a ≤ b → numbered_to a entries ≡ true → numbered_to b entries ≡ true
+numbered_up a b [] le all = refl
+numbered_up a b (e ∷ entries) le all =
+    let below : e.number ≤ a = leb-true _ _ (first_of_both _ _ all) in
+    let here : nat_le e.number b ≡ true = le-leb _ _ (omega arith) in
+    both _ _ here (numbered_up a b entries le (second_of_both _ _ all))
+
+not_le : (a b : ℕ) → b < a → nat_le a b ≡ false
+not_le a b lt = by_test (nat_le a b) refl
+  where
+    by_test : (t : Bool) → t ≡ nat_le a b → t ≡ false
+    by_test true e = let le : a ≤ b = leb-true a b (sym e) in absurd (omega arith)
+    by_test false e = refl
+
+-- what was noted later isn't among the first calls
+made_before : (k : ℕ) (old : List Entry) (e : Entry) → k < e.number → take_while (λ x. nat_le x.number k) (old ++ e ∷ []) ≡ take_while (λ x. nat_le x.number k) old
+made_before k [] e lt =
+    let later : nat_le e.number k ≡ false = not_le e.number k lt in
+    take_while-cons (λ x. nat_le x.number k) e [] ∙ ap (λ b. cond b (e ∷ take_while (λ x. nat_le x.number k) []) []) later
+made_before k (x ∷ old) e lt =
+    take_while-cons (λ y. nat_le y.number k) x (old ++ e ∷ []) ∙ ap (λ es. cond (nat_le x.number k) (x ∷ es) []) (made_before k old e lt) ∙ sym (take_while-cons (λ y. nat_le y.number k) x old)
+
+pub step_still : (old new : List Entry) (before now : ℕ) → new ≡ old → now ≡ before → IsStep old before new now
+step_still old new before now same still = record { later = omega arith; same = λ k le. ap (made k) same; last = λ k lt le. absurd (omega arith) }
+
+-- a call that changed nothing
+pub step_idle : (old new : List Entry) (before now : ℕ) → numbered_to before old ≡ true → new ≡ old → now ≡ before + 1 → IsStep old before new now
+step_idle old new before now all same counted = record {
+  later = omega arith;
+  same = λ k le. ap (made k) same;
+  last = λ k lt le. rw same (made_all k old (numbered_up before k old (omega arith) all));
+}
+
+-- a call that changed a file
+pub step_noted : (old new : List Entry) (before now : ℕ) (e : Entry) → numbered_to before old ≡ true → e.number ≡ now → new ≡ old ++ e ∷ [] → now ≡ before + 1 → IsStep old before new now
+step_noted old new before now e all number noted counted = record {
+  later = omega arith;
+  same = λ k le. rw noted (ap reverse (made_before k old e (omega arith)));
+  last = λ k lt le.
+      let here : nat_le e.number k ≡ true = le-leb _ _ (omega arith) in
+      let both : numbered_to k (old ++ e ∷ []) ≡ true = list_all-append (λ x. nat_le x.number k) old (e ∷ []) ∙ both _ _ (numbered_up before k old (omega arith) all) (both _ _ here refl) in
+      rw noted (made_all k (old ++ e ∷ []) both);
+}
+
+-- the call was counted, and it noted what it changed, or failed at that
+pub step_of_note : (r : Result (Unit {0}) Failed) (old mid new : List Entry) (before counted now file : ℕ) (change : Option Change) → numbered_to before old ≡ true → mid ≡ old → counted ≡ before + 1 → now ≡ counted → OnOk r ((done : Change) × (change ≡ Some done) × (new ≡ mid ++ record { number = counted; file = file; change = done } ∷ [])) → OnErr r (new ≡ mid) → IsStep old before new now
+step_of_note (Ok u) old mid new before counted now file change all same more still ok err =
+    step_noted old new before now (record { number = counted; file = file; change = ok.0 }) all (sym still) (ok.2 ∙ ap (λ es. es ++ record { number = counted; file = file; change = ok.0 } ∷ []) same) (still ∙ more)
+step_of_note (Err e) old mid new before counted now file change all same more still ok err = step_idle old new before now all (err ∙ same) (still ∙ more)
+
+-- the call was counted and failed, and noted a part or nothing
+pub step_of_part : (old mid new : List Entry) (before counted now file : ℕ) (part : Option Change) → numbered_to before old ≡ true → mid ≡ old → counted ≡ before + 1 → now ≡ counted → ((new ≡ mid) ⊎ ((done : Change) × (part ≡ Some done) × (new ≡ mid ++ record { number = counted; file = file; change = done } ∷ []))) → IsStep old before new now
+step_of_part old mid new before counted now file part all same more still (inl none) = step_idle old new before now all (none ∙ same) (still ∙ more)
+step_of_part old mid new before counted now file part all same more still (inr (done, is, noted)) =
+    step_noted old new before now (record { number = counted; file = file; change = done }) all (sym still) (noted ∙ ap (λ es. es ++ record { number = counted; file = file; change = done } ∷ []) same) (still ∙ more)

@@ -1,0 +1,16 @@
+use Rattle.std.proofs.Common.{ap, ◌∙◌}
+use Rattle.edge_memory.proofs.Steps.{step_idle}
+use Rattle.edge_memory.proofs.disk.MemDisk.read.Goals as goal
+
+pub returns-in-Ok-clause-time : goal.returns-in-Ok-clause-time
+returns-in-Ok-clause-time c = step_idle _ _ _ _ c.args.self.now.log.numbered c.in-Goes.ensures.entries c.in-Goes.ensures.course.1
+
+pub returns-in-Err-clause-time : goal.returns-in-Err-clause-time
+returns-in-Err-clause-time c =
+    let same = c.starve.ensures.same in
+    step_idle _ _ _ _ c.args.self.now.log.numbered (ap (λ d. d.log.entries.items) same ∙ c.in-Goes.ensures.entries) (ap (λ d. d.log.calls) same ∙ c.in-Goes.ensures.course.1)
+
+pub returns-in-Fails-clause-time : goal.returns-in-Fails-clause-time
+returns-in-Fails-clause-time c =
+    let same = c.fail.ensures.same in
+    step_idle _ _ _ _ c.args.self.now.log.numbered (ap (λ d. d.log.entries.items) same ∙ c.in-Fails.ensures.entries) (ap (λ d. d.log.calls) same ∙ c.in-Fails.ensures.course.1)

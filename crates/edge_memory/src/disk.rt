@@ -1,0 +1,351 @@
+ghost use Rattle.std.specs.Prelude.{◌≡◌, ◌≢◌, ◌<◌, ◌≤◌, ◌↔◌, ◌+◌, ◌-◌, ◌^◌, ◌⊎◌, ◌||◌, ◌&&◌, ◌∷◌, ◌++◌, [], List, ℕ, Bool, min, length, take, drop, not, true, false, is_err, reverse, Some, None, Option, IfOk, OnOk, OnErr, IsErr, IsTrue, ⊤};
+ghost use Rattle.edge_traits.specs.Count.{Rose, last_count};
+ghost use Rattle.edge_traits.specs.Disk.{Image, overwritten, ChangesOnly, Torn, Cut, Follows, Adds, Only, IsImage, Elapses};
+ghost use Rattle.edge_memory.specs.Entries.{content};
+ghost use Rattle.edge_memory.specs.Moments.{IsStep};
+ghost use Rattle.edge_memory.specs.declared.change.Change.{Change};
+ghost use Rattle.edge_memory.specs.Course.{IsCourse};
+ghost use Rattle.edge_memory.specs.Plan.{is_planned};
+
+mod image;
+
+use crate::change::Change;
+use crate::log::Log;
+use crate::plan::FailPlan;
+use crate::replay::content_of;
+use crate::source::copy_from;
+use base_types::{NumberList, OutOfMemory};
+use edge_traits::{Disk, Failed};
+pub use image::image_is_left_since;
+use std::alloc::Global;
+
+/// A disk in memory, which keeps the list of its calls. It tells what it holds, and what a crash after any of its calls
+/// may leave.
+///
+/// It makes 2^64 - 1 calls at most. After them every call fails, as after a stop.
+#[derive(Debug, Drop)]
+pub struct MemDisk {
+    alloc: Global,
+    log: Log,
+    plan: FailPlan,
+    faults: u64,
+    starved: bool,
+}
+
+// How a call goes on that has been counted.
+#[derive(Clone, Copy, Debug)]
+enum Course {
+    Goes,
+    Fails,
+    // There is no number left for it.
+    Over,
+}
+
+impl MemDisk {
+    ghost use Rattle.edge_memory.specs.Disk.{files_of, plan_of, is_starved, fails_next, Counted};
+
+    /// A disk on which every file is empty.
+    pub fn new(alloc: Global) -> Self
+        ensures moment { (⟦<MemDisk as Disk>⟧.disk result).moment ≡ 0 }
+        ensures faults { (⟦<MemDisk as Disk>⟧.disk result).faults ≡ 0 }
+        ensures empty { (⟦<MemDisk as Disk>⟧.disk result).told ≡ Some (λ _. []) }
+        ensures nothing_pending { (file : ℕ) → Only [] (⟦<MemDisk as Disk>⟧.may_leave result file) }
+        ensures plan { plan_of result ≡ record { fail = []; stop = None } }
+        ensures starved { is_starved result ≡ false }
+    {
+        MemDisk::with_log(alloc, Log::new(alloc))
+    }
+
+    fn with_log(alloc: Global, log: Log) -> Self
+        ensures log { result.log ≡ log }
+        ensures faults { result.faults ≡ 0 }
+        ensures plan { plan_of result ≡ record { fail = []; stop = None } }
+        ensures starved { is_starved result ≡ false }
+    {
+        MemDisk {
+            alloc,
+            log,
+            plan: FailPlan::none(alloc),
+            faults: 0,
+            starved: false,
+        }
+    }
+
+    /// Sets the calls that are to fail, and the call after which every call fails, by their numbers as `calls` counts
+    /// them.
+    pub fn plan(&mut self, fail: NumberList, stop: Option<u64>)
+        ensures plan { plan_of self.new ≡ record { fail = fail; stop = stop } }
+        ensures disk { ⟦<MemDisk as Disk>⟧.disk self.new ≡ ⟦<MemDisk as Disk>⟧.disk self.old }
+        ensures may_leave { (file : ℕ) (c : List ℕ) → ⟦<MemDisk as Disk>⟧.may_leave self.new file c
+            ↔ ⟦<MemDisk as Disk>⟧.may_leave self.old file c }
+        ensures left_since { (t : ℕ) (image : Image) → ⟦<MemDisk as Disk>⟧.left_since self.new t image
+            ↔ ⟦<MemDisk as Disk>⟧.left_since self.old t image }
+        ensures starved { is_starved self.new ≡ is_starved self.old }
+    {
+        self.plan = FailPlan::new(fail, stop);
+    }
+
+    /// The number of its calls.
+    pub fn calls(&self) -> u64
+        ensures { result ≡ (⟦<MemDisk as Disk>⟧.disk self.now).moment }
+    {
+        self.log.calls
+    }
+
+    /// Whether a call has failed that was neither planned to nor after a stop: it found no memory.
+    pub fn starved(&self) -> bool
+        ensures { result ≡ is_starved self.now }
+    {
+        self.starved
+    }
+
+    /// What a read of the file gives, looked at without a call.
+    pub fn file(&self, alloc: Global, file: u64) -> Result<Vec<u8>, OutOfMemory>
+        ensures { IfOk result (λ bytes. bytes.items ≡ files_of self.now file) }
+    {
+        content_of(alloc, &self.log.entries, file)
+    }
+
+    // Counts a call.
+    fn begin(&mut self) -> Course
+        ensures course { IsCourse result (fails_next self.old) self.old.log.calls self.new.log.calls }
+        ensures entries { self.new.log.entries.items ≡ self.old.log.entries.items }
+        ensures same { self.new ≡ record self.old { log = self.new.log } }
+    {
+        if self.log.calls == u64::MAX {
+            return Course::Over;
+        }
+        self.log.count();
+        if self.plan.has(self.log.calls) {
+            Course::Fails
+        } else {
+            Course::Goes
+        }
+    }
+
+    fn fail(&mut self) -> Failed
+        ensures same { self.new ≡ record self.old { faults = self.new.faults } }
+        ensures failed { Rose self.old.faults self.new.faults }
+        ensures count { self.old.faults ≤ self.new.faults }
+    {
+        self.faults = self.faults.saturating_add(1);
+        Failed
+    }
+
+    fn starve(&mut self) -> Failed
+        ensures same { self.new ≡ record self.old { faults = self.new.faults; starved = true } }
+        ensures failed { Rose self.old.faults self.new.faults }
+        ensures count { self.old.faults ≤ self.new.faults }
+    {
+        self.starved = true;
+        self.fail()
+    }
+
+    // Makes a call that reads a file, and gives its content.
+    fn read(&mut self, file: u64) -> Result<Vec<u8>, Failed>
+        ensures bytes { IfOk result (λ bytes. bytes.items ≡ content file (reverse self.old.log.entries.items)) }
+        ensures entries { self.new.log.entries.items ≡ self.old.log.entries.items }
+        ensures time { IsStep self.old.log.entries.items self.old.log.calls self.new.log.entries.items self.new.log.calls }
+        ensures counted { Counted self.old self.new (is_err result) }
+        ensures failed { IsErr result → Rose self.old.faults self.new.faults }
+        ensures count { self.old.faults ≤ self.new.faults }
+    {
+        match self.begin() {
+            Course::Goes => match content_of(self.alloc, &self.log.entries, file) {
+                Ok(bytes) => Ok(bytes),
+                Err(_) => Err(self.starve()),
+            },
+            Course::Fails => Err(self.fail()),
+            Course::Over => Err(self.fail()),
+        }
+    }
+
+    // Notes what the call changed that was counted last.
+    fn note(&mut self, file: u64, change: Option<Change>) -> Result<(), Failed>
+        ensures ok { OnOk result ((done : Change) × (change ≡ Some done) × (self.new.log.entries.items
+            ≡ self.old.log.entries.items ++ record { number = self.old.log.calls; file = file; change = done } ∷ [])) }
+        ensures err { OnErr result (self.new.log.entries.items ≡ self.old.log.entries.items) }
+        ensures calls { self.new.log.calls ≡ self.old.log.calls }
+        ensures plan { self.new.plan ≡ self.old.plan }
+        ensures starved { self.new.starved ≡ (self.old.starved || is_err result) }
+        ensures failed { IsErr result → Rose self.old.faults self.new.faults }
+        ensures count { self.old.faults ≤ self.new.faults }
+    {
+        let Some(change) = change else {
+            return Err(self.starve());
+        };
+        if self.log.push(file, change).is_err() {
+            return Err(self.starve());
+        }
+        Ok(())
+    }
+
+    // Fails a call that was counted, of which this part may be done.
+    fn fail_in_part(&mut self, file: u64, part: Option<Change>) -> Failed
+        ensures entries { (self.new.log.entries.items ≡ self.old.log.entries.items)
+            ⊎ ((done : Change) × (part ≡ Some done) × (self.new.log.entries.items
+            ≡ self.old.log.entries.items ++ record { number = self.old.log.calls; file = file; change = done } ∷ [])) }
+        ensures calls { self.new.log.calls ≡ self.old.log.calls }
+        ensures plan { self.new.plan ≡ self.old.plan }
+        ensures starved { self.new.starved ≡ self.old.starved }
+        ensures failed { Rose self.old.faults self.new.faults }
+        ensures count { self.old.faults ≤ self.new.faults }
+    {
+        if let Some(part) = part {
+            let _ = self.log.push(file, part);
+        }
+        self.fail()
+    }
+
+    // Makes a call that changes a file: what it changes, if there is memory for that, or a part of it where the call is
+    // to fail.
+    fn change(
+        &mut self,
+        file: u64,
+        change: Option<Change>,
+        part: Option<Change>,
+    ) -> Result<(), Failed>
+        ensures ok { OnOk result ((done : Change) × (change ≡ Some done) × (self.new.log.entries.items
+            ≡ self.old.log.entries.items ++ record { number = self.new.log.calls; file = file; change = done } ∷ [])) }
+        ensures err { OnErr result ((self.new.log.entries.items ≡ self.old.log.entries.items)
+            ⊎ ((done : Change) × (part ≡ Some done) × (self.new.log.entries.items
+            ≡ self.old.log.entries.items ++ record { number = self.new.log.calls; file = file; change = done } ∷ []))) }
+        ensures time { IsStep self.old.log.entries.items self.old.log.calls self.new.log.entries.items self.new.log.calls }
+        ensures counted { Counted self.old self.new (is_err result) }
+        ensures failed { IsErr result → Rose self.old.faults self.new.faults }
+        ensures count { self.old.faults ≤ self.new.faults }
+    {
+        match self.begin() {
+            Course::Goes => self.note(file, change),
+            Course::Fails => Err(self.fail_in_part(file, part)),
+            Course::Over => Err(self.fail()),
+        }
+    }
+}
+
+impl Disk for MemDisk {
+    ghost use Rattle.edge_memory.specs.Disk.{disk_view, may_leave, left_since, is_pending_after, plan_of, is_starved, fails_next, Counted, honest};
+    ghost use Rattle.edge_memory.specs.Moments.{since_now, now_only, since_earlier};
+
+    ghost disk = { disk_view };
+
+    ghost may_leave = { may_leave };
+
+    ghost left_since = { left_since };
+
+    fn len(&mut self, file: u64) -> Result<u64, Failed>
+        ensures len { (files : Image) → (disk_view self.old).told ≡ Some files → IfOk result (λ n. n ≡ length (files file)) }
+        ensures told { (disk_view self.new).told ≡ (disk_view self.old).told }
+        ensures crash { Adds (may_leave self.old) (may_leave self.new) (λ _. ⊤) }
+        ensures time { Elapses (disk_view self.old).moment (disk_view self.new).moment (left_since self.old) (left_since self.new) (may_leave self.new) }
+        ensures failed { IsErr result → Rose (disk_view self.old).faults (disk_view self.new).faults }
+        ensures count { (disk_view self.old).faults ≤ (disk_view self.new).faults }
+        ensures counted { Counted self.old self.new (is_err result) }
+        ensures keeps { Adds (may_leave self.new) (may_leave self.old) (λ _. ⊤) }
+    {
+        let bytes = self.read(file)?;
+        Ok(bytes.len() as u64)
+    }
+
+    fn read_at(&mut self, file: u64, at: u64, buf: &mut [u8]) -> Result<usize, Failed>
+        ensures within { IfOk result (λ n. n ≤ length buf.new) }
+        ensures bytes { (files : Image) → (disk_view self.old).told ≡ Some files
+            → IfOk result (λ n. (n ≡ min (length buf.new) (length (files file) - at)) × (take n buf.new ≡ take n (drop at (files file)))) }
+        ensures told { (disk_view self.new).told ≡ (disk_view self.old).told }
+        ensures crash { Adds (may_leave self.old) (may_leave self.new) (λ _. ⊤) }
+        ensures time { Elapses (disk_view self.old).moment (disk_view self.new).moment (left_since self.old) (left_since self.new) (may_leave self.new) }
+        ensures failed { IsErr result → Rose (disk_view self.old).faults (disk_view self.new).faults }
+        ensures count { (disk_view self.old).faults ≤ (disk_view self.new).faults }
+        ensures counted { Counted self.old self.new (is_err result) }
+        ensures keeps { Adds (may_leave self.new) (may_leave self.old) (λ _. ⊤) }
+    {
+        let bytes = self.read(file)?;
+        Ok(copy_from(&bytes, at, buf))
+    }
+
+    fn write_at(&mut self, file: u64, at: u64, bytes: &[u8]) -> Result<(), Failed>
+        requires within { (files : Image) → (disk_view self.old).told ≡ Some files → at ≤ length (files file) }
+        requires small { at + length bytes.now ≤ 2 ^ 63 }
+        ensures written { (files after : Image) → (disk_view self.old).told ≡ Some files → (disk_view self.new).told ≡ Some after
+            → OnOk result (after file ≡ overwritten (files file) at bytes.now) }
+        ensures elsewhere { (files : Image) → (disk_view self.old).told ≡ Some files → ChangesOnly files (disk_view self.new).told file }
+        ensures crash { Follows (Torn at (length bytes.now)) (may_leave self.old file) (may_leave self.new file) }
+        ensures crash_elsewhere { Adds (may_leave self.old) (may_leave self.new) (λ other. other ≢ file) }
+        ensures time { Elapses (disk_view self.old).moment (disk_view self.new).moment (left_since self.old) (left_since self.new) (may_leave self.new) }
+        ensures failed { IsErr result → Rose (disk_view self.old).faults (disk_view self.new).faults }
+        ensures count { (disk_view self.old).faults ≤ (disk_view self.new).faults }
+        ensures refused { OnErr result ((disk_view self.new).told ≡ (disk_view self.old).told) }
+        ensures counted { Counted self.old self.new (is_err result) }
+        ensures keeps_elsewhere { Adds (may_leave self.new) (may_leave self.old) (λ other. other ≢ file) }
+
+        // Until a sync a crash may leave whatever a torn write leaves.
+        ensures tears { OnOk result ((d c : List ℕ) → may_leave self.old file d → Torn at (length bytes.now) d c
+            → may_leave self.new file c) }
+        // Of a failed one it may leave any part too, unless there was no memory to note that: then none was done.
+        ensures in_part { OnErr result (((c : List ℕ) → may_leave self.new file c ↔ may_leave self.old file c)
+            ⊎ ((d c : List ℕ) → may_leave self.old file d → Torn at (length bytes.now) d c → may_leave self.new file c)) }
+        ensures pending { OnOk result ((k : ℕ) → at ≤ k → k < at + length bytes.now
+            → IsTrue (is_pending_after self.new (disk_view self.new).moment file k)) }
+    {
+        let part = Change::FailedWrite {
+            at,
+            len: bytes.len() as u64,
+        };
+        let change = bytes
+            .to_vec(self.alloc)
+            .ok()
+            .map(|bytes| Change::Write { at, bytes });
+        self.change(file, change, Some(part))
+    }
+
+    fn cut(&mut self, file: u64, len: u64) -> Result<(), Failed>
+        requires { (files : Image) → (disk_view self.old).told ≡ Some files → len ≤ length (files file) }
+        ensures shortened { (files after : Image) → (disk_view self.old).told ≡ Some files → (disk_view self.new).told ≡ Some after
+            → OnOk result (after file ≡ take len (files file)) }
+        ensures elsewhere { (files : Image) → (disk_view self.old).told ≡ Some files → ChangesOnly files (disk_view self.new).told file }
+        ensures crash { Follows (Cut len) (may_leave self.old file) (may_leave self.new file) }
+        ensures crash_elsewhere { Adds (may_leave self.old) (may_leave self.new) (λ other. other ≢ file) }
+        ensures time { Elapses (disk_view self.old).moment (disk_view self.new).moment (left_since self.old) (left_since self.new) (may_leave self.new) }
+        ensures failed { IsErr result → Rose (disk_view self.old).faults (disk_view self.new).faults }
+        ensures count { (disk_view self.old).faults ≤ (disk_view self.new).faults }
+        ensures refused { OnErr result ((disk_view self.new).told ≡ (disk_view self.old).told) }
+        ensures counted { Counted self.old self.new (is_err result) }
+        ensures keeps_elsewhere { Adds (may_leave self.new) (may_leave self.old) (λ other. other ≢ file) }
+
+        // Until a sync a crash may undo it, or a part of it.
+        ensures undone { OnOk result ((d c : List ℕ) → may_leave self.old file d → Cut len d c
+            → may_leave self.new file c) }
+        // Of a failed one it may leave any part too, unless there was no memory to note that: then none was done.
+        ensures in_part { OnErr result (((c : List ℕ) → may_leave self.new file c ↔ may_leave self.old file c)
+            ⊎ ((d c : List ℕ) → may_leave self.old file d → Cut len d c → may_leave self.new file c)) }
+    {
+        self.change(
+            file,
+            Some(Change::Cut { len }),
+            Some(Change::FailedCut { len }),
+        )
+    }
+
+    fn sync(&mut self, file: u64) -> Result<(), Failed>
+        ensures durable { (files : Image) → (disk_view self.old).told ≡ Some files
+            → OnOk result (Only (files file) (may_leave self.new file)) }
+        ensures told { (disk_view self.new).told ≡ (disk_view self.old).told }
+        ensures crash { Adds (may_leave self.old) (may_leave self.new) (λ _. ⊤) }
+        ensures time { Elapses (disk_view self.old).moment (disk_view self.new).moment (left_since self.old) (left_since self.new) (may_leave self.new) }
+        ensures failed { IsErr result → Rose (disk_view self.old).faults (disk_view self.new).faults }
+        ensures count { (disk_view self.old).faults ≤ (disk_view self.new).faults }
+        ensures counted { Counted self.old self.new (is_err result) }
+        ensures keeps_elsewhere { Adds (may_leave self.new) (may_leave self.old) (λ other. other ≢ file) }
+        ensures keeps { OnErr result (Adds (may_leave self.new) (may_leave self.old) (λ _. ⊤)) }
+    {
+        self.change(file, Some(Change::Sync), None)
+    }
+
+    ghost honest = { honest };
+
+    ghost counts_now = { λ d. since_now d.log.calls d.log.entries.items d.log.numbered };
+
+    ghost only_now = { λ d. now_only d.log.calls d.log.entries.items d.log.numbered };
+
+    ghost earlier = { λ d. since_earlier d.log.entries.items d.log.calls };
+}

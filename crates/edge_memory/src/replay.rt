@@ -1,0 +1,61 @@
+ghost use Rattle.std.specs.Prelude.{◌≡◌, IfOk, OnOk, reverse};
+ghost use Rattle.edge_traits.specs.Disk.{overwritten};
+ghost use Rattle.edge_memory.specs.Entries.{changed, content_after, content};
+
+use crate::change::{Change, Entry};
+use base_types::OutOfMemory;
+use std::alloc::Global;
+
+// Puts the bytes at the offset `at`, or at the end where that is before it.
+fn overwrite(content: &mut Vec<u8>, at: u64, bytes: &[u8]) -> Result<(), OutOfMemory>
+    ensures { OnOk result (content.new.items ≡ overwritten content.old.items at bytes.now) }
+{
+    let from = (at as usize).min(content.len());
+    let over = bytes.len().min(content.len() - from);
+    content.extend_from_slice(&bytes[over..])?;
+    content[from..from + over].copy_from_slice(&bytes[..over]);
+    Ok(())
+}
+
+pub fn replace(content: &mut Vec<u8>, bytes: &[u8]) -> Result<(), OutOfMemory>
+    ensures { OnOk result (content.new.items ≡ bytes.now) }
+{
+    content.clear();
+    content.extend_from_slice(bytes)?;
+    Ok(())
+}
+
+fn change(content: &mut Vec<u8>, change: &Change) -> Result<(), OutOfMemory>
+    ensures { OnOk result (content.new.items ≡ changed change.now content.old.items) }
+{
+    match change {
+        Change::Write { at, bytes } => overwrite(content, *at, bytes),
+        Change::Cut { len } => {
+            content.truncate(*len as usize);
+            Ok(())
+        }
+        Change::Found { bytes } => replace(content, bytes),
+        Change::FailedWrite { .. } | Change::FailedCut { .. } | Change::Sync => Ok(()),
+    }
+}
+
+pub fn change_if_of(content: &mut Vec<u8>, entry: &Entry, file: u64) -> Result<(), OutOfMemory>
+    ensures { OnOk result (content.new.items ≡ content_after file entry.now content.old.items) }
+{
+    if entry.file == file {
+        change(content, &entry.change)
+    } else {
+        Ok(())
+    }
+}
+
+/// What a read of the file gives after these changes.
+pub fn content_of(alloc: Global, entries: &[Entry], file: u64) -> Result<Vec<u8>, OutOfMemory>
+    ensures { IfOk result (λ bytes. bytes.items ≡ content file (reverse entries.now)) }
+{
+    let mut bytes = Vec::new(alloc);
+    'entries: for entry in entries {
+        change_if_of(&mut bytes, entry, file)?;
+    }
+    Ok(bytes)
+}

@@ -1,0 +1,5 @@
+//! Tests of the outside in memory.
+#![tactic(auto)]
+
+#[cfg(test)]
+mod tests;
