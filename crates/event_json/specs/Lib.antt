@@ -1,7 +1,6 @@
 pub mod Field
 pub mod Fields
 pub mod Json
-pub mod Place
 pub mod Quote
 pub mod Reading
 pub mod Value

@@ -1,46 +1,53 @@
-ghost use Rattle.std.specs.Prelude.{◌≡◌};
-ghost use Rattle.event_json.specs.Quote.{digit_outside};
-ghost use Rattle.event_json.specs.Place.{place_behind, is_outside};
+ghost use Rattle.std.specs.Prelude.{◌≡◌, ◌<◌, ◌≤◌, ◌||◌, ◌==◌, length, position, IfSome};
+ghost use Rattle.event_json.specs.Value.{is_digit};
+ghost use Rattle.event_json.specs.Quote.{digit_outside, digit_behind_string, digit_behind_escape};
 
-// Where a byte of a JSON text stands.
-#[derive(Clone, Copy)]
-enum Place {
-    Outside,
-    InString,
-    BehindBackslash,
-}
-
-impl Place {
-    fn is_outside(self) -> bool
-        ensures { result ≡ is_outside self }
-    {
-        matches!(self, Place::Outside)
-    }
-
-    // Where the next byte stands.
-    fn behind(self, byte: u8) -> Place
-        ensures { result ≡ place_behind self byte }
-    {
-        match (self, byte) {
-            (Place::Outside, b'"') => Place::InString,
-            (Place::Outside, _) => Place::Outside,
-            (Place::InString, b'"') => Place::Outside,
-            (Place::InString, b'\\') => Place::BehindBackslash,
-            (Place::InString | Place::BehindBackslash, _) => Place::InString,
-        }
-    }
-}
+use memchr::memchr2;
 
 /// Whether a digit stands outside the strings of a JSON text.
 pub fn has_digit_outside(text: &[u8]) -> bool
     ensures { result ≡ digit_outside text.now }
 {
-    let mut place = Place::Outside;
-    'bytes: for byte in text {
-        if place.is_outside() && byte.is_ascii_digit() {
+    let mut rest = text;
+    'strings: while let Some(at) = stop_outside(rest) {
+        if rest[at] != b'"' {
             return true;
         }
-        place = place.behind(*byte);
+        rest = behind_string(&rest[at + 1..]);
     }
     false
+}
+
+// Where the first byte stands that is a digit or opens a string.
+fn stop_outside(text: &[u8]) -> Option<usize>
+    ensures first { result ≡ position (λ b. is_digit b || b == 34) text.now }
+    ensures within { IfSome result (λ at. at < length text.now) }
+{
+    text.iter().position(|b| b.is_ascii_digit() || *b == b'"')
+}
+
+// What is behind the string whose inside begins here: nothing where it isn't closed.
+fn behind_string(inside: &[u8]) -> &[u8]
+    ensures same { digit_outside result.now ≡ digit_behind_string inside.now }
+    ensures shorter { length result.now ≤ length inside.now }
+{
+    let mut rest = inside;
+    'escapes: while let Some(at) = memchr2(b'"', b'\\', rest) {
+        if rest[at] == b'"' {
+            return &rest[at + 1..];
+        }
+        rest = behind_escape(&rest[at + 1..]);
+    }
+    &[]
+}
+
+// What is behind the byte that a backslash covers.
+fn behind_escape(text: &[u8]) -> &[u8]
+    ensures same { digit_behind_string result.now ≡ digit_behind_escape text.now }
+    ensures shorter { length result.now ≤ length text.now }
+{
+    match text {
+        [] => text,
+        [_, rest @ ..] => rest,
+    }
 }

@@ -1,4 +1,4 @@
-ghost use Rattle.std.specs.Prelude.{◌≡◌, ◌≤◌, Some, None, length, IfOk};
+ghost use Rattle.std.specs.Prelude.{◌≡◌, ◌≤◌, [], Some, None, length, IfOk};
 ghost use Rattle.edge_traits.specs.Source.{SourceView};
 ghost use Rattle.pipeline_program.specs.Counts.{untold};
 
@@ -59,7 +59,10 @@ pub struct FileShelf<'a, R> {
 }
 
 impl<'a, R: Files> FileShelf<'a, R> {
-    pub fn new(alloc: Global, files: &'a R) -> Self {
+    /// No fault is counted yet. It takes no memory.
+    pub fn new(alloc: Global, files: &'a R) -> Self
+        ensures { ⟦<FileShelf<'a, R> as Shelf>⟧.shelf result ≡ untold [] }
+    {
         FileShelf {
             files,
             counts: Counts::new(alloc),

@@ -1,4 +1,4 @@
-ghost use Rattle.std.specs.Prelude.{None};
+ghost use Rattle.std.specs.Prelude.{◌≡◌, None};
 
 use edge_traits::{Failed, Sink};
 use std::io::Write;
@@ -11,7 +11,9 @@ pub struct WriterSink<W> {
 }
 
 impl<W: Write> WriterSink<W> {
-    pub fn new(writer: W) -> Self {
+    pub fn new(writer: W) -> Self
+        ensures { ⟦<WriterSink<W> as Sink>⟧.sink result ≡ record { told = None; faults = 0 } }
+    {
         WriterSink { writer, faults: 0 }
     }
 }

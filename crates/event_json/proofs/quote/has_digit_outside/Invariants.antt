@@ -1,7 +1,9 @@
-use Rattle.std.proofs.Common.{◌≡◌, drop}
+use Rattle.std.proofs.Common.{◌≡◌, ◌≤◌, length}
 use Rattle.event_json.specs.Quote.{digit_outside}
-use Rattle.event_json.proofs.Places.{digit_from}
 use Rattle.event_json.proofs.quote.has_digit_outside.Given as goal
 
-abbrev pub invariant-bytes : goal.invariant-bytes
-invariant-bytes l = digit_outside l.text ≡ digit_from l.place (drop l.byte-index l.text)
+abbrev pub invariant-strings : goal.invariant-strings
+invariant-strings l = (digit_outside l.text ≡ digit_outside l.rest) × (length l.rest ≤ length l.text)
+
+abbrev pub decreases-strings : goal.decreases-strings
+decreases-strings l = length l.rest
