@@ -41,3 +41,10 @@ TookFront-some later moved next =
 
 pub TookFront-rest : {a b c : SinkView} {whole rest : List ℕ} → Moved a b whole rest → TookFront b c rest → TookFront a c whole
 TookFront-rest moved next = TookFront-none (Moved-write moved next.took next.whole_is)
+
+-- a buffer that was empty at first is written whole, or as far as the sink takes it
+pub buffer_written : (a b c : SinkView) (before whole rest : List ℕ) → Moved a b (before ++ whole) rest → before ≡ [] → Took b c rest → Took a c whole
+buffer_written a b c before whole rest moved empty took = Moved-all (subst (λ l. Moved a b (l ++ whole) rest) empty moved) took
+
+pub buffer_stopped : (a b c : SinkView) (before whole rest : List ℕ) → Moved a b (before ++ whole) rest → before ≡ [] → TookFront b c rest → TookFront a c whole
+buffer_stopped a b c before whole rest moved empty front = TookFront-rest (subst (λ l. Moved a b (l ++ whole) rest) empty moved) front

@@ -35,6 +35,7 @@ impl From<Failed> for Halt {
 }
 
 /// Writes the conversion of a feed, and answers how it ends. Where it stops, a front of it is written.
+#[tactic(auto, using(crate::proofs::Outputs::buffer_written, crate::proofs::Outputs::buffer_stopped))]
 pub fn convert_feed<S: Sink>(alloc: Global, feed: &[u8], out: &mut S) -> Result<Status, Halt>
     ensures end { IfOk result (λ status. status ≡ end_from 1 (lines feed.now)) }
     ensures written { OnOk result (Took (S.sink out.old) (S.sink out.new) (conversion feed.now)) }

@@ -2,6 +2,7 @@ ghost use Rattle.std.specs.Prelude.{◌≡◌, ◌≢◌, ◌↔◌, ◌⊎◌, 
 ghost use Rattle.edge_traits.specs.Count.{Rose};
 ghost use Rattle.edge_traits.specs.Shelf.{count_on, content_of, lacks};
 ghost use Rattle.edge_traits.specs.Sink.{Took};
+ghost use Rattle.pipeline_top.specs.declared.status.FeedWhy.{FeedWhy};
 ghost use Rattle.pipeline_top.specs.declared.status.FeedWhy.TheVariants.{Absent, Failed};
 ghost use Rattle.pipeline_top.specs.Words.{feed_name};
 ghost use Rattle.pipeline_top.specs.Convert.{conversion, end_of, IsOutside, Wrote};
@@ -62,12 +63,12 @@ pub fn run_tool<H: Shelf, D: Disk, S: Sink, C: Clock>(
 // Converts the feed of this name.
 fn convert<H: Shelf, S: Sink>(alloc: Global, name: &Text, shelf: &mut H, out: &mut S) -> Status
     ensures words { result ≢ Status.Words }
-    ensures absent { (other : List ℕ) → result ≡ Status.Feed other Absent
-        → (name.now ≡ other) × (lacks (H.shelf shelf.old) other ≡ true) }
+    ensures named { (other : List ℕ) (why : FeedWhy) → result ≡ Status.Feed other why → other ≡ name.now }
+    ensures absent { (other : List ℕ) → result ≡ Status.Feed other Absent → lacks (H.shelf shelf.old) other ≡ true }
     ensures lacking { lacks (H.shelf shelf.old) name.now ≡ true
         → ((result ≡ Status.Feed name.now Absent) ⊎ (result ≡ Status.Memory)) × Took (S.sink out.old) (S.sink out.new) [] }
     ensures failed { (other : List ℕ) → result ≡ Status.Feed other Failed
-        → (name.now ≡ other) × Rose (count_on (H.shelf shelf.old) other) (count_on (H.shelf shelf.new) other) }
+        → Rose (count_on (H.shelf shelf.old) other) (count_on (H.shelf shelf.new) other) }
     ensures sink { result ≡ Status.Sink → Rose (S.sink out.old).faults (S.sink out.new).faults }
 
     ensures end { (content : List ℕ) → content_of (H.shelf shelf.old) name.now ≡ Some content

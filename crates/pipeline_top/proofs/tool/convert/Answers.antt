@@ -7,6 +7,10 @@ pub returns-in-Ok-clause-words : goal.returns-in-Ok-clause-words
 returns-in-Ok-clause-words g c = λ is.
     subst IsConversionEnd (sym c.written_status.ensures ∙ is) (conversion_end c.convert_feed.result (lines c.bytes.result.now) c.convert_feed.ensures.end)
 
+pub returns-in-Ok-clause-named : goal.returns-in-Ok-clause-named
+returns-in-Ok-clause-named g c = λ other why is.
+    absurd (subst IsConversionEnd (sym c.written_status.ensures ∙ is) (conversion_end c.convert_feed.result (lines c.bytes.result.now) c.convert_feed.ensures.end))
+
 pub returns-in-Ok-clause-absent : goal.returns-in-Ok-clause-absent
 returns-in-Ok-clause-absent g c = λ other is.
     absurd (subst IsConversionEnd (sym c.written_status.ensures ∙ is) (conversion_end c.convert_feed.result (lines c.bytes.result.now) c.convert_feed.ensures.end))
