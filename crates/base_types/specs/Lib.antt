@@ -1,3 +1,5 @@
+pub mod Digits
 pub mod Name
 pub mod Padded
+pub mod Scalar
 pub mod Text

@@ -1,16 +1,20 @@
 //! Bytes, names and numbers that every layer speaks of.
 #![tactic(auto)]
 
+mod digits;
 mod list;
 mod memory;
 mod message;
 mod name;
 mod number;
+mod scalar;
 mod text;
 
+pub use digits::read_digits;
 pub use list::{LineList, ListOf, NamedList, NoteList, NumberList, QueueList, SendList, TextList};
 pub use memory::OutOfMemory;
 pub use message::{FaultNote, Moment, Msg};
 pub use name::{BotName, NameFault, QueueName, queue_of};
 pub use number::{put_u16, put_u32, put_u64, read_u16, read_u32, read_u64};
+pub use scalar::{Bad, ScalarFault};
 pub use text::{Blob, Text, TextFault};

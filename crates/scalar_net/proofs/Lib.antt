@@ -1,0 +1,12 @@
+pub mod Addresses
+pub mod Booleans
+pub mod Bytes
+pub mod FqdnLaws
+pub mod NetworkTexts
+pub mod Networks
+pub mod Runs
+pub mod Slashes
+pub mod Systems
+pub mod Texts
+pub mod Urls
+pub mod WholeTexts

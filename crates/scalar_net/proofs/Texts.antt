@@ -1,0 +1,54 @@
+-- The canonical text of an address writes that address.
+use Rattle.std.proofs.Common.{◌≡◌, ℕ, ◌^◌, ◌<◌, Bool, true, false, List, sym, ap, refl, subst, inl, inr, ◌∙◌}
+use Rattle.std.proofs.lemmas.Nat.{from_be_bytes-to_be_bytes_4}
+use Rattle.std.specs.Int.{w128, to_be_bytes, from_be_bytes}
+use Rattle.std.specs.Net.Addr.{ipv4_bits, ipv6_bits, octets_of, segments_of}
+use Rattle.std.specs.Net.Text.{ipv4_text, hex_groups_text}
+use Rattle.std.specs.Net.Grammar.{IsDotted, IsColonHex}
+use Rattle.std.proofs.NetLemmas.Texts.{IsDotted-ipv4_text, IsColonHex-hex_groups_text}
+use Rattle.scalar_net.specs.declared.address.Ip.{Ip}
+use Rattle.scalar_net.specs.Family.{width}
+use Rattle.scalar_net.specs.Address.{IsIpText, octets, groups, text_of_bits, ip_text}
+use Rattle.scalar_net.proofs.Addresses.{IsIpText_unique}
+use Rattle.scalar_net.proofs.Bytes.{AllBytes-bytes_high_first, length-bytes_high_first, octets_of-segments_of, segments_of-lt, length-segments_of, from_be_bytes-to_be_bytes_16}
+
+octets_written : (bits : ℕ) → IsDotted (ipv4_text (octets bits)) (octets bits)
+unfolding octets
+octets_written bits = IsDotted-ipv4_text _ (length-bytes_high_first 4 bits) (AllBytes-bytes_high_first 4 bits)
+
+octets_number : (bits : ℕ) → bits < 2 ^ 32 → bits ≡ ipv4_bits (record { octets = octets bits })
+unfolding octets ipv4_bits
+octets_number bits fits = sym (from_be_bytes-to_be_bytes_4 bits fits)
+
+groups_written : (bits : ℕ) → IsColonHex (hex_groups_text (groups bits)) (groups bits)
+unfolding groups
+groups_written bits =
+    let bytes = to_be_bytes w128 bits in
+    let len = length-segments_of 8 bytes (length-bytes_high_first 16 bits) in
+    let small = segments_of-lt bytes (AllBytes-bytes_high_first 16 bits) in
+    IsColonHex-hex_groups_text (segments_of bytes) len small
+
+groups_number : (bits : ℕ) → bits < 2 ^ 128 → bits ≡ ipv6_bits (record { segments = groups bits })
+unfolding groups ipv6_bits
+groups_number bits fits =
+    let bytes = to_be_bytes w128 bits in
+    let back : octets_of (segments_of bytes) ≡ bytes = octets_of-segments_of 8 bytes (length-bytes_high_first 16 bits) (AllBytes-bytes_high_first 16 bits) in
+    sym (ap (from_be_bytes w128) back ∙ from_be_bytes-to_be_bytes_16 bits fits)
+
+text_written : (six : Bool) (ip : Ip) → ip.six ≡ six → IsIpText (text_of_bits six ip.bits) ip
+text_written false ip family =
+    let fits : ip.bits < 2 ^ 32 = subst (λ (b : Bool). ip.bits < 2 ^ width b) family ip.in_range in
+    inl (record { octets = octets ip.bits }, octets_written ip.bits, record { family = family; number = octets_number ip.bits fits })
+text_written true ip family =
+    let fits : ip.bits < 2 ^ 128 = subst (λ (b : Bool). ip.bits < 2 ^ width b) family ip.in_range in
+    inr (record { segments = groups ip.bits }, groups_written ip.bits, record { family = family; number = groups_number ip.bits fits })
+
+pub IsIpText-ip_text : (ip : Ip) → IsIpText (ip_text ip) ip
+IsIpText-ip_text ip = text_written ip.six ip refl
+
+pub ip_text_one_to_one : (a b : Ip) → ip_text a ≡ ip_text b → a ≡ b
+ip_text_one_to_one a b same = IsIpText_unique (ip_text b) a b (subst (λ (text : List ℕ). IsIpText text a) same (IsIpText-ip_text a)) (IsIpText-ip_text b)
+
+-- the text of what a canonical text writes is that text
+pub ip_text_again : (ip again : Ip) → IsIpText (ip_text ip) again → ip_text again ≡ ip_text ip
+ip_text_again ip again h = ap ip_text (IsIpText_unique (ip_text ip) again ip h (IsIpText-ip_text ip))

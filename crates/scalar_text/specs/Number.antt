@@ -1,0 +1,40 @@
+-- Numbers as texts.
+use Rattle.std.specs.Prelude.{◌≡◌, ℕ, ◌+◌, ◌-◌, ◌*◌, ◌^◌, ◌==◌, Bool, true, false, List, [], ◌∷◌, length, take, drop, position, Option, Some, None, ℤ, pos, neg_ℤ, if◌then◌else◌}
+use Rattle.std.specs.Str.Parse.{IsNumeral, digits_value}
+use Rattle.base_types.specs.Digits.{IsDigits}
+
+-- the text begins with a minus
+abbrev pub has_minus : List ℕ → Bool
+has_minus [] = false
+has_minus (b ∷ bs) = b == 45
+
+-- the text without a minus at its front
+abbrev pub behind_minus : List ℕ → List ℕ
+behind_minus [] = []
+behind_minus (b ∷ bs) = if b == 45 then bs else b ∷ bs
+
+abbrev pub signed : Bool → ℕ → ℤ
+signed true n = neg_ℤ (pos n)
+signed false n = pos n
+
+-- the text writes the whole number: perhaps a minus, and 1 to 18 digits
+abbrev pub IsWholeText : List ℕ → ℤ → Type 0
+IsWholeText text z = (n : ℕ) × IsDigits 18 (behind_minus text) n × (z ≡ signed (has_minus text) n)
+
+-- where the first point stands
+abbrev pub point_in : List ℕ → Option ℕ
+point_in text = position (λ b. b == 46) text
+
+-- the millionths that digits behind a point write; those behind the sixth are dropped
+abbrev pub millionths : List ℕ → ℕ
+millionths digits = let front = take 6 digits in digits_value 10 front * 10 ^ (6 - length front)
+
+-- the text with its first point there writes so many millionths: 1 to 12 digits, and perhaps a point and one digit or more
+abbrev pub AreMillionths : Option ℕ → List ℕ → ℕ → Type 0
+AreMillionths None text n = (w : ℕ) × IsDigits 12 text w × (n ≡ w * 1000000)
+AreMillionths (Some i) text n =
+    (w : ℕ) × IsDigits 12 (take i text) w × IsNumeral 10 (drop (i + 1) text) × (n ≡ w * 1000000 + millionths (drop (i + 1) text))
+
+-- the text writes the decimal with so many millionths, perhaps behind a minus
+abbrev pub IsDecimalText : List ℕ → ℤ → Type 0
+IsDecimalText text z = let digits = behind_minus text in (n : ℕ) × AreMillionths (point_in digits) digits n × (z ≡ signed (has_minus text) n)

@@ -1,0 +1,204 @@
+ghost use Rattle.std.specs.Prelude.{◌≡◌, map};
+ghost use Rattle.std.specs.Option.{option_copied};
+ghost use Rattle.std.specs.Str.{str_eq_ignore_ascii_case};
+ghost use Rattle.base_types.specs.Scalar.{IsReadAs, IsReadPlainly};
+ghost use Rattle.scalar_text.specs.Words.{spelled, tlp_of, registry_of, registry_name, classes, class_in, taxonomy_word_in, taxonomy_in, flag_of};
+
+use base_types::{Bad, ScalarFault, Text};
+use std::alloc::Global;
+
+/// The marks of the Traffic Light Protocol, 1.0 and 2.0.
+pub const TLP_WORDS: [&str; 6] = ["RED", "AMBER", "AMBER+STRICT", "GREEN", "CLEAR", "WHITE"];
+
+/// The spellings of the regional Internet registries.
+pub const REGISTRY_WORDS: [&str; 7] = [
+    "AFRINIC", "APNIC", "ARIN", "LACNIC", "RIPE", "RIPE-NCC", "RIPENCC",
+];
+
+/// The spellings of flags.
+pub const FLAG_WORDS: [&str; 6] = ["true", "yes", "1", "false", "no", "0"];
+
+/// The types of incidents, each with its taxonomy, after the Reference Security Incident Taxonomy.
+pub const CLASSES: [(&str, &str); 44] = [
+    ("harmful-speech", "abusive-content"),
+    ("spam", "abusive-content"),
+    ("violence", "abusive-content"),
+    ("ddos", "availability"),
+    ("dos", "availability"),
+    ("misconfiguration", "availability"),
+    ("outage", "availability"),
+    ("sabotage", "availability"),
+    ("copyright", "fraud"),
+    ("masquerade", "fraud"),
+    ("phishing", "fraud"),
+    ("unauthorized-use-of-resources", "fraud"),
+    ("data-leak", "information-content-security"),
+    ("data-loss", "information-content-security"),
+    (
+        "unauthorised-information-access",
+        "information-content-security",
+    ),
+    (
+        "unauthorised-information-modification",
+        "information-content-security",
+    ),
+    ("scanner", "information-gathering"),
+    ("sniffing", "information-gathering"),
+    ("social-engineering", "information-gathering"),
+    ("brute-force", "intrusion-attempts"),
+    ("exploit", "intrusion-attempts"),
+    ("ids-alert", "intrusion-attempts"),
+    ("application-compromise", "intrusions"),
+    ("burglary", "intrusions"),
+    ("privileged-account-compromise", "intrusions"),
+    ("system-compromise", "intrusions"),
+    ("unprivileged-account-compromise", "intrusions"),
+    ("c2-server", "malicious-code"),
+    ("infected-system", "malicious-code"),
+    ("malware-configuration", "malicious-code"),
+    ("malware-distribution", "malicious-code"),
+    ("blacklist", "other"),
+    ("dga-domain", "other"),
+    ("malware", "other"),
+    ("other", "other"),
+    ("proxy", "other"),
+    ("tor", "other"),
+    ("undetermined", "other"),
+    ("test", "test"),
+    ("ddos-amplifier", "vulnerable"),
+    ("information-disclosure", "vulnerable"),
+    ("potentially-unwanted-accessible", "vulnerable"),
+    ("vulnerable-system", "vulnerable"),
+    ("weak-crypto", "vulnerable"),
+];
+
+type Row = (&'static str, &'static str);
+
+fn is_spelling(word: &str, text: &[u8]) -> bool
+    ensures { result ≡ str_eq_ignore_ascii_case word.now text.now }
+{
+    word.as_bytes().eq_ignore_ascii_case(text)
+}
+
+// The word that the text spells, in any case.
+fn spelled(words: &[&'static str], text: &[u8]) -> Option<&'static str>
+    ensures { option_copied result ≡ spelled (map (λ word. word.now) words.now) text.now }
+{
+    'words: for word in words {
+        if is_spelling(word, text) {
+            return Some(word);
+        }
+    }
+    None
+}
+
+fn text_of(alloc: Global, word: Option<&'static str>) -> Result<Text, ScalarFault>
+    ensures { IsReadAs (option_copied word.entry) result }
+{
+    match word {
+        Some(word) => Ok(Text::from(String::from_str(alloc, word)?)),
+        None => Err(ScalarFault::Bad),
+    }
+}
+
+/// A mark of the Traffic Light Protocol, in any case: its word in upper case.
+pub fn read_tlp(alloc: Global, text: &[u8]) -> Result<Text, ScalarFault>
+    ensures { IsReadAs (tlp_of text.now) result }
+{
+    text_of(alloc, spelled(&TLP_WORDS, text))
+}
+
+// The name of a registry, by a spelling of it.
+fn registry_name(word: &'static str) -> &'static str
+    ensures { result.now ≡ registry_name word.now }
+{
+    if word == "RIPE-NCC" || word == "RIPENCC" {
+        "RIPE"
+    } else {
+        word
+    }
+}
+
+fn registry(text: &[u8]) -> Option<&'static str>
+    ensures { option_copied result ≡ registry_of text.now }
+{
+    match spelled(&REGISTRY_WORDS, text) {
+        Some(word) => Some(registry_name(word)),
+        None => None,
+    }
+}
+
+/// A regional Internet registry, in any case: its name in upper case. `RIPE-NCC` and `RIPENCC` are spellings of `RIPE`.
+pub fn read_registry(alloc: Global, text: &[u8]) -> Result<Text, ScalarFault>
+    ensures { IsReadAs (registry_of text.now) result }
+{
+    text_of(alloc, registry(text))
+}
+
+// The first type of these that the text spells.
+fn class_in(rows: &[Row], text: &[u8]) -> Option<&'static str>
+    ensures { option_copied result ≡ class_in (map (λ row. (row.0.now, row.1.now)) rows.now) text.now }
+{
+    'rows: for row in rows {
+        if is_spelling(row.0, text) {
+            return Some(row.0);
+        }
+    }
+    None
+}
+
+// The first taxonomy of these that the text spells.
+fn taxonomy_word_in(rows: &[Row], text: &[u8]) -> Option<&'static str>
+    ensures { option_copied result ≡ taxonomy_word_in (map (λ row. (row.0.now, row.1.now)) rows.now) text.now }
+{
+    'rows: for row in rows {
+        if is_spelling(row.1, text) {
+            return Some(row.1);
+        }
+    }
+    None
+}
+
+// The taxonomy in the row of that type.
+fn taxonomy_in(rows: &[Row], class: &[u8]) -> Option<&'static str>
+    ensures { option_copied result ≡ taxonomy_in (map (λ row. (row.0.now, row.1.now)) rows.now) class.now }
+{
+    'rows: for row in rows {
+        if row.0.as_bytes() == class {
+            return Some(row.1);
+        }
+    }
+    None
+}
+
+/// The type of an incident, in any case: its word in lower case.
+pub fn read_class(alloc: Global, text: &[u8]) -> Result<Text, ScalarFault>
+    ensures { IsReadAs (class_in classes text.now) result }
+{
+    text_of(alloc, class_in(&CLASSES, text))
+}
+
+/// The taxonomy of an incident, in any case: its word in lower case.
+pub fn read_taxonomy(alloc: Global, text: &[u8]) -> Result<Text, ScalarFault>
+    ensures { IsReadAs (taxonomy_word_in classes text.now) result }
+{
+    text_of(alloc, taxonomy_word_in(&CLASSES, text))
+}
+
+/// The taxonomy of a type of incidents, by the type's canonical word. It takes no memory.
+pub fn taxonomy_of(class: &Text) -> Option<&'static str>
+    ensures { option_copied result ≡ taxonomy_in classes class.now }
+{
+    taxonomy_in(&CLASSES, class.bytes())
+}
+
+/// A flag, in any case: `true`, `yes` and `1`, or `false`, `no` and `0`. It takes no memory.
+pub fn read_flag(text: &[u8]) -> Result<bool, Bad>
+    ensures { IsReadPlainly (flag_of text.now) result }
+{
+    match spelled(&FLAG_WORDS, text) {
+        Some("true" | "yes" | "1") => Ok(true),
+        Some(_) => Ok(false),
+        None => Err(Bad),
+    }
+}
