@@ -6,7 +6,7 @@ use Rattle.std.proofs.lemmas.Bool.{ltb-false, eqb-true}
 use Rattle.std.proofs.lemmas.List.Quantifiers.{position-Some}
 use Rattle.std.proofs.lemmas.List.Sums.{fails_before_first}
 use Rattle.memchr.specs.Find.{IsFirstByte, is_byte2}
-use Rattle.event_json.specs.Value.{is_digit}
+use Rattle.scalar_text.specs.Quote.{is_digit}
 use Rattle.event_json.specs.Quote.{digit_outside, digit_behind_string, digit_behind_escape}
 
 -- ---- outside

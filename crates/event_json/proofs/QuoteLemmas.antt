@@ -3,8 +3,8 @@ use Rattle.std.proofs.Common.{◌≡◌, ℕ, List, [], ◌∷◌, ◌++◌, ◌
 use Rattle.std.specs.List.{list_any}
 use Rattle.std.proofs.lemmas.Bool.{eqb-true, or_parts, or_from, and_left, false≢true}
 use Rattle.std.proofs.lemmas.List.{append-nil}
-use Rattle.event_json.specs.Value.{is_digit}
-use Rattle.event_json.specs.Quote.{is_number_byte, is_number, is_unsigned, is_fraction, behind_digits, is_decimal, quoted_run, quote_after, quote_string, quote_escape, quote, digit_outside, digit_behind_string, digit_behind_escape}
+use Rattle.scalar_text.specs.Quote.{is_digit, is_number_byte, is_number, is_unsigned, is_fraction, behind_digits, is_decimal, quoted_run, quote_after, quote_string, quote_escape, quote}
+use Rattle.event_json.specs.Quote.{digit_outside, digit_behind_string, digit_behind_escape}
 
 -- ---- no number without a digit
 

@@ -9,7 +9,8 @@ use Rattle.serde_json.specs.declared.error.Error.{Error}
 use Rattle.serde_json.specs.Find.{as_str, as_object, get_member}
 use Rattle.event_json.specs.Field.{type_of, behind}
 use Rattle.event_json.specs.Value.{clean, strip}
-use Rattle.event_json.specs.Quote.{quote, digit_outside}
+use Rattle.scalar_text.specs.Quote.{quote}
+use Rattle.event_json.specs.Quote.{digit_outside}
 use Rattle.event_json.specs.Json.{json_of}
 use Rattle.event_json.specs.declared.field.FieldType.{FieldType}
 use Rattle.event_json.specs.declared.field.FieldType.TheVariants as kind

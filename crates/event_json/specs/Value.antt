@@ -2,6 +2,7 @@
 use Rattle.std.specs.Prelude.{ℕ, List, [], ◌∷◌, Bool, false, ◌&&◌, ◌||◌, ◌==◌, not, nat_le, length, map, reverse, Option, Some, None, if◌then◌else◌}
 use Rattle.std.specs.List.{slice_split}
 use Rattle.std.specs.Char.{to_ascii_lowercase, to_ascii_uppercase}
+use Rattle.scalar_text.specs.Quote.{is_digit}
 use Rattle.event_json.specs.declared.field.FieldType.{FieldType}
 use Rattle.event_json.specs.declared.field.FieldType.TheVariants as kind
 
@@ -21,9 +22,6 @@ strip_back text = reverse (strip_front (reverse text))
 -- the text without the blanks at both ends
 abbrev pub strip : List ℕ → List ℕ
 strip text = strip_back (strip_front text)
-
-abbrev pub is_digit : ℕ → Bool
-is_digit b = nat_le 48 b && nat_le b 57
 
 -- a decimal number from 0 to 255 with no needless zero
 abbrev pub is_octet : List ℕ → Bool

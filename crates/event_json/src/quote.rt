@@ -1,5 +1,5 @@
 ghost use Rattle.std.specs.Prelude.{◌≡◌, ◌<◌, ◌≤◌, ◌||◌, ◌==◌, length, position, IfSome};
-ghost use Rattle.event_json.specs.Value.{is_digit};
+ghost use Rattle.scalar_text.specs.Quote.{is_digit};
 ghost use Rattle.event_json.specs.Quote.{digit_outside, digit_behind_string, digit_behind_escape};
 
 use memchr::memchr2;

@@ -1,15 +1,16 @@
 -- The readers of addresses have a value exactly where the grammar has one.
-use Rattle.std.proofs.Common.{◌≡◌, ℕ, true, false, List, [], ◌∷◌, length, Option, Some, None, is_some, Result, Ok, Err, is_ok, refl, sym, ap, ◌∙◌, subst, lit≤, append-nil, arith, ne_eqb}
+use Rattle.std.proofs.Common.{◌≡◌, ◌↔◌, ℕ, true, false, List, [], ◌∷◌, length, Option, Some, None, is_some, Result, Ok, Err, is_ok, refl, sym, ap, ◌∙◌, subst, lit≤, append-nil, arith, ne_eqb}
 use Rattle.std.proofs.lemmas.Option.{none-some}
 use Rattle.std.specs.declared.net.ipv4_addr.Ipv4Addr.{Ipv4Addr}
 use Rattle.std.specs.declared.net.ipv6_addr.Ipv6Addr.{Ipv6Addr}
-use Rattle.std.specs.Net.Addr.{ipv4_bits, ipv6_bits}
+use Rattle.std.specs.Net.Addr.{ipv4_octets, ipv4_bits, ipv6_bits}
 use Rattle.std.specs.Net.Grammar.{IsDotted, IsColonHex, IsIpv4Text, IsIpv6Text, Parses}
 use Rattle.std.specs.Net.Reader.{Read, read_ipv4, read_ipv6, whole_value}
 use Rattle.std.proofs.NetLemmas.Options.{cond_some}
 use Rattle.std.proofs.NetLemmas.Ipv4.{read_ipv4_complete, read_ipv4_sound}
 use Rattle.std.proofs.NetLemmas.Ipv6.{read_ipv6_complete, read_ipv6_sound, EndsGroups-nil}
 use Rattle.scalar_net.specs.Address.{ip_in}
+use Rattle.scalar_net.specs.Fqdn.{is_ipv4}
 
 -- a whole value is one behind which nothing is left
 whole_at : {A : Type 0} (v x : A) (rest : List ℕ) → whole_value (Some (v, rest)) ≡ Some x → ◌≡◌ {A = Read A} (Some (v, rest)) (Some (x, []))
@@ -70,3 +71,10 @@ ip_in-ipv6 text a none h = rw (ipv4_read_as text (whole_value (read_ipv4 text)) 
 pub ip_in-none : (text : List ℕ) → ((b : Ipv4Addr) → ¬ (IsIpv4Text text b)) → ((a : Ipv6Addr) → ¬ (IsIpv6Text text a)) → ip_in text ≡ None
 unfolding ip_in
 ip_in-none text four six = rw (ipv4_read_as text (whole_value (read_ipv4 text)) refl four, ipv6_read_as text (whole_value (read_ipv6 text)) refl six)
+
+ipv4_of : (text : List ℕ) (o : Option (List ℕ)) → whole_value (read_ipv4 text) ≡ o → is_some o ≡ true → (a : Ipv4Addr) × IsIpv4Text text a
+ipv4_of text None read some = absurd (cc)
+ipv4_of text (Some octets) read some = (record { octets = octets }, read_ipv4-sound text octets read)
+
+pub is_ipv4-exact : (text : List ℕ) → (is_ipv4 text ≡ true) ↔ ((a : Ipv4Addr) × IsIpv4Text text a)
+is_ipv4-exact text = (λ some. ipv4_of text (whole_value (read_ipv4 text)) refl some, λ (a, writes). ap is_some (read_ipv4-complete text (ipv4_octets a) writes))

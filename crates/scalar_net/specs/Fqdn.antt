@@ -23,7 +23,7 @@ abbrev pub is_label : List ℕ → Bool
 is_label label =
     is_in_range 1 63 (length label) && list_all is_label_byte label && not (has_end_hyphen label)
 
--- an IPv4 address, as `read_ip` reads it
+-- the text writes an IPv4 address: four decimal numbers below 256 with dots between them and no needless zero
 abbrev pub is_ipv4 : List ℕ → Bool
 is_ipv4 text = is_some (whole_value (read_ipv4 text))
 

@@ -1,5 +1,6 @@
 -- Networks: an address and the length of its prefix (RFC 4632, 3.1).
-use Rattle.std.specs.Prelude.{◌≡◌, ℕ, ◌-◌, ◌≤◌, ◌==◌, nat_le, Bool, List, [], ◌∷◌, ◌++◌, codes, decimal, Option, Some, None, option_map, option_and_then, if◌then◌else◌}
+use Rattle.std.specs.Prelude.{◌≡◌, ℕ, ◌-◌, ◌≤◌, ◌==◌, ◌&&◌, nat_le, Bool, List, [], ◌∷◌, ◌++◌, codes, decimal, Option, Some, None, option_map, option_and_then, if◌then◌else◌}
+use Rattle.std.specs.Bool.{beq}
 use Rattle.std.specs.Option.{option_or}
 use Rattle.scalar_net.specs.declared.address.Ip.{Ip}
 use Rattle.scalar_net.specs.declared.network.Network.{Network}
@@ -52,3 +53,9 @@ abbrev pub IsInside : Network → Ip → Type 0
 IsInside net ip =
     (ip.six ≡ net.ip.six)
     × (front_bits (width net.ip.six - net.len) ip.bits ≡ front_bits (width net.ip.six - net.len) net.ip.bits)
+
+-- that test
+abbrev pub is_inside : Network → Ip → Bool
+is_inside net ip =
+    beq ip.six net.ip.six
+    && (front_bits (width net.ip.six - net.len) ip.bits == front_bits (width net.ip.six - net.len) net.ip.bits)

@@ -1,6 +1,6 @@
 ghost use Rattle.std.specs.Prelude.{◌≡◌, ◌≤◌, ◌-◌, ◌↔◌, IsTrue};
 ghost use Rattle.scalar_net.specs.Family.{width, front_bits, without_host_bits};
-ghost use Rattle.scalar_net.specs.Network.{IsInside};
+ghost use Rattle.scalar_net.specs.Network.{IsInside, is_inside};
 
 use crate::{Ip, Network};
 
@@ -30,7 +30,8 @@ pub(crate) fn without_host_bits(bits: u128, host: u8) -> u128
 
 /// Whether the network holds the address: both are of one family, and the first bits of the address are the network's.
 pub fn holds(net: &Network, ip: &Ip) -> bool
-    ensures { IsTrue result ↔ IsInside net.now ip.now }
+    ensures inside { IsTrue result ↔ IsInside net.now ip.now }
+    ensures test { result ≡ is_inside net.now ip.now }
 {
     let host = width(net.ip.six) - net.len;
     ip.six == net.ip.six && front_bits(ip.bits, host) == front_bits(net.ip.bits, host)

@@ -1,14 +1,14 @@
 //! Laws of the texts. Each is a clause of a function that does nothing.
-ghost use Rattle.std.specs.Prelude.{◌≡◌, ℕ, true, List, Some};
+ghost use Rattle.std.specs.Prelude.{◌≡◌, ◌↔◌, ℕ, true, List, Some};
 ghost use Rattle.scalar_net.specs.declared.address.Ip.{Ip};
 ghost use Rattle.scalar_net.specs.Address.{IsIpText, ip_text, groups};
 ghost use Rattle.scalar_net.specs.Canonical.{IsCanonicalText};
 ghost use Rattle.scalar_net.specs.declared.network.Network.{Network};
 ghost use Rattle.std.specs.declared.net.ipv4_addr.Ipv4Addr.{Ipv4Addr};
 ghost use Rattle.std.specs.Net.Grammar.{IsIpv4Text};
-ghost use Rattle.scalar_net.specs.Fqdn.{fqdn};
+ghost use Rattle.scalar_net.specs.Fqdn.{fqdn, is_ipv4};
 ghost use Rattle.scalar_net.specs.Url.{url_text};
-ghost use Rattle.scalar_net.specs.Network.{IsNetworkText, network_text};
+ghost use Rattle.scalar_net.specs.Network.{IsInside, IsNetworkOf, IsNetworkText, network_text};
 
 use crate::{Ip, Network};
 
@@ -57,9 +57,19 @@ pub fn clean_network_stays(net: &Network)
     ensures { (again : Network) → IsNetworkText (network_text net.now) again → network_text again ≡ network_text net.now }
 {}
 
+/// A network holds an address exactly where it is the network of its length that the address is in.
+pub fn network_of_what_it_holds(net: &Network, ip: &Ip)
+    ensures { IsInside net.now ip.now ↔ IsNetworkOf ip.now net.now.len net.now }
+{}
+
 /// To clean a domain name twice is to clean it once.
 pub fn clean_fqdn_stays(text: &[u8])
     ensures { (name : List ℕ) → fqdn text.now ≡ Some name → fqdn name ≡ Some name }
+{}
+
+/// The test of a domain name refuses the texts of IPv4 addresses, and no others.
+pub fn ipv4_test_is_exact(text: &[u8])
+    ensures { (is_ipv4 text.now ≡ true) ↔ ((a : Ipv4Addr) × IsIpv4Text text.now a) }
 {}
 
 /// No canonical domain name is an IPv4 address.

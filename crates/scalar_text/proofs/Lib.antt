@@ -1,1 +1,6 @@
 pub mod Numerals
+pub mod PrintedDecimals
+pub mod PrintedTimes
+pub mod Quoted
+pub mod Requoted
+pub mod Times

@@ -1,7 +1,14 @@
 -- Digits behind a point.
-use Rattle.std.proofs.Common.{◌≡◌, ℕ, zero, suc, ◌-◌, ◌*◌, ◌^◌, ◌<◌, ◌≤◌, List, [], ◌∷◌, length, take, arith}
+use Rattle.std.proofs.Common.{◌++◌, ap, ◌≡◌, ℕ, zero, suc, ◌+◌, ◌-◌, ◌*◌, ◌^◌, ◌<◌, ◌≤◌, List, [], ◌∷◌, length, take, arith}
+use Rattle.std.proofs.lemmas.Bool.{ne_eqb}
+use Rattle.std.specs.Char.{digit_value}
 use Rattle.std.specs.Str.Parse.{AllDigits, IsNumeral}
-use Rattle.std.proofs.lemmas.List.{length-take}
+use Rattle.scalar_text.specs.Number.{first_digit, behind_first, digits_until_zero}
+use Rattle.std.proofs.lemmas.List.{append_assoc, length-take}
+
+-- a digit has the value that it is written for
+pub digit_is : (k : ℕ) → k < 10 → digit_value (48 + k) ≡ k
+digit_is k h = grind arith
 
 -- so many digits and zeros behind them write less than a million
 pub part_below : (value len : ℕ) → len ≤ 6 → value < 10 ^ len → value * 10 ^ (6 - len) < 1000000
@@ -29,3 +36,13 @@ front_numeral ds all = (front_some ds all.0, front_digits 6 ds all.1)
 
 pub front_short : (ds front : List ℕ) → front ≡ take 6 ds → length front ≤ 6
 front_short ds front is = rw (is, length-take 6 ds) (omega arith)
+
+-- the next digit of millionths
+next_digit : (left n : ℕ) → 0 < left → (n ≡ 0 → ⊥) → digits_until_zero left n ≡ first_digit n ∷ digits_until_zero (left - 1) (behind_first n)
+next_digit zero n some other = absurd (omega arith)
+next_digit (suc left) n some other = let less : left ≡ suc left - 1 = omega arith in rw (ne_eqb n 0 other) (ap (λ k. first_digit n ∷ digits_until_zero k (behind_first n)) less)
+
+-- that digit is pushed, and the others follow
+pub pushed_digit : (old new pushed whole : List ℕ) (d left n next : ℕ) → new ≡ old ++ pushed → pushed ≡ d ∷ [] → d ≡ first_digit n → next ≡ behind_first n → 0 < left → (n ≡ 0 → ⊥) → old ++ digits_until_zero left n ≡ whole → new ++ digits_until_zero (left - 1) next ≡ whole
+pushed_digit old new pushed whole d left n next is_new is_pushed is_d is_next some other is =
+    rw (is_new, is_pushed, is_d, is_next, append_assoc old (first_digit n ∷ []) (digits_until_zero (left - 1) (behind_first n)), ← next_digit left n some other) is

@@ -1,3 +1,5 @@
 pub mod Number
+pub mod Quote
 pub mod Raw
+pub mod Time
 pub mod Words

@@ -1,5 +1,6 @@
 -- Numbers as texts.
-use Rattle.std.specs.Prelude.{◌≡◌, ℕ, ◌+◌, ◌-◌, ◌*◌, ◌^◌, ◌==◌, Bool, true, false, List, [], ◌∷◌, length, take, drop, position, Option, Some, None, ℤ, pos, neg_ℤ, if◌then◌else◌}
+use Rattle.std.specs.Prelude.{unsigned_abs, ◌≡◌, ℕ, zero, suc, ◌+◌, ◌-◌, ◌*◌, ◌/◌, ◌%◌, ◌^◌, ◌++◌, ◌==◌, decimal, Bool, true, false, List, [], ◌∷◌, length, take, drop, position, Option, Some, None, ℤ, pos, neg_ℤ, if◌then◌else◌}
+use Rattle.std.specs.Int.{is_negative}
 use Rattle.std.specs.Str.Parse.{IsNumeral, digits_value}
 use Rattle.base_types.specs.Digits.{IsDigits}
 
@@ -38,3 +39,26 @@ AreMillionths (Some i) text n =
 -- the text writes the decimal with so many millionths, perhaps behind a minus
 abbrev pub IsDecimalText : List ℕ → ℤ → Type 0
 IsDecimalText text z = let digits = behind_minus text in (n : ℕ) × AreMillionths (point_in digits) digits n × (z ≡ signed (has_minus text) n)
+
+-- the first of the six digits of a number below a million
+abbrev pub first_digit : ℕ → ℕ
+first_digit n = 48 + n / 100000
+
+-- what is left of it behind that digit, as six digits again
+abbrev pub behind_first : ℕ → ℕ
+behind_first n = n % 100000 * 10
+
+-- its digits, at most so many, until nothing but zeros is left
+abbrev pub digits_until_zero : ℕ → ℕ → List ℕ
+digits_until_zero zero n = []
+digits_until_zero (suc most) n = if n == 0 then [] else first_digit n ∷ digits_until_zero most (behind_first n)
+
+-- millionths as digits behind a point: one at least, and no needless zero
+abbrev pub part_text : ℕ → List ℕ
+part_text n = first_digit n ∷ digits_until_zero 5 (behind_first n)
+
+-- the canonical text of a decimal of so many millionths; zero has no sign
+abbrev pub decimal_text : ℤ → List ℕ
+decimal_text z =
+    let text = decimal (unsigned_abs z / 1000000) ++ 46 ∷ part_text (unsigned_abs z % 1000000) in
+    if is_negative z then 45 ∷ text else text

@@ -7,3 +7,5 @@ mod addresses;
 mod domains;
 #[cfg(test)]
 mod texts;
+#[cfg(test)]
+mod times;

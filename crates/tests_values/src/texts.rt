@@ -1,7 +1,7 @@
 use base_types::{Bad, ScalarFault, Text};
 use scalar_text::{
-    read_class, read_decimal, read_flag, read_raw, read_registry, read_taxonomy, read_tlp,
-    read_whole, taxonomy_of, write_raw,
+    print_decimal, quote_decimals, read_class, read_decimal, read_flag, read_raw, read_registry,
+    read_taxonomy, read_tlp, read_whole, taxonomy_of, write_raw,
 };
 use std::alloc::Global;
 use std::test::Fail;
@@ -110,6 +110,70 @@ fn decimals(rt: HostRuntime) {
     for text in NO_DECIMALS {
         assert!(rt; read_decimal(text.as_bytes()) == Err(Bad));
     }
+}
+
+const PRINTED_DECIMALS: [(i64, &str); 12] = [
+    (0, "0.0"),
+    (1, "0.000001"),
+    (-1, "-0.000001"),
+    (10, "0.00001"),
+    (1_000_000, "1.0"),
+    (1_500_000, "1.5"),
+    (-1_500_000, "-1.5"),
+    (52_374_030, "52.37403"),
+    (100_000_001, "100.000001"),
+    (999_999_999_999_999_999, "999999999999.999999"),
+    (-999_999_999_999_999_999, "-999999999999.999999"),
+    (-9_223_372_036_854_775_808, "-9223372036854.775808"),
+];
+
+#[test]
+fn decimals_are_printed(rt: HostRuntime) -> Result<(), Fail> {
+    let alloc = rt.alloc();
+    for (number, text) in &PRINTED_DECIMALS {
+        assert_eq!(rt; print_decimal(alloc, *number)?.as_str(), *text);
+    }
+    Ok(())
+}
+
+// JSON texts, and what they are with their decimals under quotes.
+const QUOTED: [(&str, &str); 16] = [
+    (
+        r#"{"a":-0,"b":1.50,"c":"1.5","d":12}"#,
+        r#"{"a":{"$dec":"-0"},"b":{"$dec":"1.50"},"c":"1.5","d":12}"#,
+    ),
+    ("", ""),
+    ("1.5", r#"{"$dec":"1.5"}"#),
+    ("-1e2", r#"{"$dec":"-1e2"}"#),
+    ("1E+2", r#"{"$dec":"1E+2"}"#),
+    ("0.0", r#"{"$dec":"0.0"}"#),
+    ("123456789012345678", "123456789012345678"),
+    ("1234567890123456789", r#"{"$dec":"1234567890123456789"}"#),
+    ("-123456789012345678", "-123456789012345678"),
+    ("[1.5,2,-0]", r#"[{"$dec":"1.5"},2,{"$dec":"-0"}]"#),
+    // No JSON numbers stay as they are.
+    ("01.5 1. .5 1.5.2 +1.5 1-2.5", "01.5 1. .5 1.5.2 +1.5 1-2.5"),
+    ("1.5e", "1.5e"),
+    (r#""1.5" 1.5"#, r#""1.5" {"$dec":"1.5"}"#),
+    // A backslash covers the next byte.
+    (r#""\\"1.5 1.5"#, r#""\\"{"$dec":"1.5"} {"$dec":"1.5"}"#),
+    (r#""\"1.5"2.5"#, r#""\"1.5"{"$dec":"2.5"}"#),
+    // A string that isn't closed runs to the end.
+    (r#"1.5"1.5"#, r#"{"$dec":"1.5"}"1.5"#),
+];
+
+#[test]
+fn decimals_are_quoted(rt: HostRuntime) -> Result<(), Fail> {
+    let alloc = rt.alloc();
+    for (text, quoted) in &QUOTED {
+        let once = quote_decimals(alloc, text.as_bytes())?;
+        assert_eq!(rt; once.bytes(), quoted.as_bytes());
+        assert_eq!(rt;
+            quote_decimals(alloc, once.bytes())?.bytes(),
+            quoted.as_bytes()
+        );
+    }
+    Ok(())
 }
 
 #[test]

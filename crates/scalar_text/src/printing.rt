@@ -1,0 +1,62 @@
+ghost use Rattle.std.specs.Prelude.{◌≡◌, ◌<◌, ◌≤◌, ◌^◌, ◌++◌, unsigned_abs, IfOk, OnOk, string_bytes};
+ghost use Rattle.scalar_text.specs.Number.{IsDecimalText, first_digit, behind_first, digits_until_zero, part_text, decimal_text};
+
+use base_types::{OutOfMemory, Text};
+use std::alloc::{AllocError, Global};
+
+fn first_digit(n: u64) -> char
+    requires { n < 1_000_000 }
+    ensures code { result ≡ first_digit n }
+    ensures ascii { result < 128 }
+{
+    char::from(b'0' + (n / 100_000) as u8)
+}
+
+fn behind_first(n: u64) -> u64
+    ensures below { result < 1_000_000 }
+    ensures value { result ≡ behind_first n }
+{
+    n % 100_000 * 10
+}
+
+// Puts the digits of millionths behind the text, at most so many, until nothing but zeros is left.
+fn push_digits(text: &mut String, mut left: u64, mut n: u64) -> Result<(), AllocError>
+    requires { n < 1_000_000 }
+    ensures { OnOk result (string_bytes text.new ≡ string_bytes text.old ++ digits_until_zero left n) }
+{
+    'digits: while left > 0 && n != 0 {
+        text.push(first_digit(n))?;
+        n = behind_first(n);
+        left -= 1;
+    }
+    Ok(())
+}
+
+fn push_part(text: &mut String, n: u64) -> Result<(), AllocError>
+    requires { n < 1_000_000 }
+    ensures { OnOk result (string_bytes text.new ≡ string_bytes text.old ++ part_text n) }
+{
+    text.push(first_digit(n))?;
+    push_digits(text, 5, behind_first(n))
+}
+
+/// The canonical text of a decimal in millionths: 1 to 6 digits behind the point, and no needless zero.
+pub fn print_decimal(alloc: Global, n: i64) -> Result<Text, OutOfMemory>
+    ensures { IfOk result (λ text. text ≡ decimal_text n) }
+{
+    let size = n.unsigned_abs();
+    let whole = size / 1_000_000;
+    let mut text = if n < 0 {
+        format!(in alloc; "-{whole}.")?
+    } else {
+        format!(in alloc; "{whole}.")?
+    };
+    push_part(&mut text, size % 1_000_000)?;
+    Ok(Text::from(text))
+}
+
+/// What `print_decimal` writes is read as the same number, where that has at most 12 digits before the point.
+pub fn printed_decimal_reads_back(n: i64)
+    requires { unsigned_abs n < 10 ^ 18 }
+    ensures { IsDecimalText (decimal_text n) n }
+{}
