@@ -67,10 +67,12 @@ fn whole_numbers(rt: HostRuntime) {
 }
 
 // Decimals in millionths.
-const DECIMALS: [(&str, i64); 15] = [
+const DECIMALS: [(&str, i64); 17] = [
     ("0", 0),
     ("-0", 0),
     ("-0.0000001", 0),
+    ("-0.0000009", 0),
+    ("52.5200001", 52_520_000),
     ("1.5", 1_500_000),
     ("-1.5", -1_500_000),
     ("1.50", 1_500_000),
@@ -112,7 +114,7 @@ fn decimals(rt: HostRuntime) {
     }
 }
 
-const PRINTED_DECIMALS: [(i64, &str); 12] = [
+const PRINTED_DECIMALS: [(i64, &str); 14] = [
     (0, "0.0"),
     (1, "0.000001"),
     (-1, "-0.000001"),
@@ -120,7 +122,9 @@ const PRINTED_DECIMALS: [(i64, &str); 12] = [
     (1_000_000, "1.0"),
     (1_500_000, "1.5"),
     (-1_500_000, "-1.5"),
+    (52_520_000, "52.52"),
     (52_374_030, "52.37403"),
+    (100_000_000, "100.0"),
     (100_000_001, "100.000001"),
     (999_999_999_999_999_999, "999999999999.999999"),
     (-999_999_999_999_999_999, "-999999999999.999999"),
@@ -280,6 +284,14 @@ const TYPES: [(&str, &str); 11] = [
         "ddos-amplifier information-disclosure potentially-unwanted-accessible vulnerable-system weak-crypto",
     ),
 ];
+
+fn capitalised(alloc: Global, word: &str) -> Result<Vec<u8>, Fail> {
+    let mut bytes = word.as_bytes().to_vec(alloc)?;
+    if let Some(first) = bytes.first_mut() {
+        *first = first.to_ascii_uppercase();
+    }
+    Ok(bytes)
+}
 
 fn is_class(alloc: Global, class: &str, taxonomy: &str) -> Result<(), Fail> {
     is_word(read_class(alloc, class.as_bytes()), class)?;
