@@ -3,4 +3,5 @@ pub mod PrintedDecimals
 pub mod PrintedTimes
 pub mod Quoted
 pub mod Requoted
+pub mod Spellings
 pub mod Times

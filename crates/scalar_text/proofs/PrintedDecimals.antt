@@ -1,5 +1,5 @@
 -- Decimals as they are printed, and read again.
-use Rattle.std.proofs.Common.{◌++◌, ◌≡◌, ℕ, zero, suc, ◌+◌, ◌-◌, ◌*◌, ◌/◌, ◌%◌, ◌^◌, ◌==◌, ◌<◌, ◌≤◌, Bool, true, false, if◌then◌else◌, ℤ, pos, negsuc, unsigned_abs, List, [], ◌∷◌, length, Some, decimal, refl, sym, ap, ◌∙◌, subst, arith}
+use Rattle.std.proofs.Common.{◌++◌, ◌≡◌, ℕ, zero, suc, ◌+◌, ◌-◌, ◌*◌, ◌/◌, ◌%◌, ◌^◌, ◌==◌, ◌<◌, ◌≤◌, Bool, true, false, if◌then◌else◌, ℤ, pos, negsuc, unsigned_abs, List, [], ◌∷◌, length, Option, Some, None, decimal, refl, sym, ap, ◌∙◌, subst, arith}
 use Rattle.std.proofs.Math.Seq.{take-append_seam, drop-append-add}
 use Rattle.std.proofs.lemmas.Bool.{le-ltb, ne_eqb}
 use Rattle.std.proofs.lemmas.Fmt.{decimal_is_IsNumeral, length-decimal-le}
@@ -138,3 +138,11 @@ decimal_reads_back z below =
     (point_behind (decimal w) (part_text p) whole.0.0.1)
     (are_millionths (decimal w) (part_text p) w (unsigned_abs z) whole (part_numeral p (omega arith)) (omega (arith, value)))
     (signed_is z)
+
+same_millionths : (o : Option ℕ) (text : List ℕ) (m n : ℕ) → AreMillionths o text m → AreMillionths o text n → m ≡ n
+same_millionths None text m n (w, h, e) (v, k, f) = let same : w ≡ v = sym h.0.1 ∙ k.0.1 in cc
+same_millionths (Some i) text m n (w, h, _, e) (v, k, _, f) = let same : w ≡ v = sym h.0.1 ∙ k.0.1 in cc
+
+-- a text writes one decimal at most
+pub same_decimal : (text : List ℕ) (a b : ℤ) → IsDecimalText text a → IsDecimalText text b → a ≡ b
+same_decimal text a b (m, h, e) (n, k, f) = let same = same_millionths _ _ m n h k in e ∙ ap (signed (has_minus text)) same ∙ sym f

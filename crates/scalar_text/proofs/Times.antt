@@ -9,7 +9,7 @@ use Rattle.jiff_core.specs.Calendar.{IsDate, IsBetween, days_from_civil, day_cou
 use Rattle.jiff_core.proofs.SignedLemmas.{signed_arith}
 use Rattle.jiff_core.proofs.CalendarLemmas.{days_from_civil-day_count}
 use Rattle.jiff_core.proofs.MarchLemmas.{day_count-early}
-use Rattle.scalar_text.specs.Time.{IsExactly, IsTwoDigits, part, IsDayOf, IsFullDate, IsClock, IsShift, IsOffset, IsNoDigitAhead, IsFractionTail, IsTail}
+use Rattle.scalar_text.specs.Time.{IsExactly, IsTwoDigits, part, IsDayOf, IsFullDate, IsClock, IsShift, IsOffset, IsNoDigitAhead, IsFractionTail, IsTail, IsTimeText}
 
 pub first_day_count : day_count (pos 1) 1 1 ≡ 3652791
 first_day_count = day_count-early (pos 1) 10000 1 1 refl (omega arith) (omega arith) (omega arith)
@@ -177,3 +177,12 @@ no_point_tail text z e bad (inr (r, f, h)) = bad (subst (λ t. IsFractionTail t 
 pub fraction_cases : (text : List ℕ) (r : Option ℤ) → take 1 text ≡ 46 ∷ [] → MatchOption r ((z : ℤ) → ¬ (IsFractionTail (drop 1 text) z)) (IsFractionTail (drop 1 text)) → MatchOption r ((z : ℤ) → ¬ (IsTail text z)) (IsTail text)
 fraction_cases text None point h = λ z k. no_point_tail text z (point_then text point) (h z) k
 fraction_cases text (Some z) point h = inr (drop 1 text, point_then text point, h)
+
+-- a text writes one time at most
+pub same_time : (text : List ℕ) (a b : ℕ) → IsTimeText text a → IsTimeText text b → a ≡ b
+same_time text a b h k =
+    let day = same_date _ h.day k.day h.date k.date in
+    let clock = same_clock _ h.clock k.clock h.time k.time in
+    let offset = same_tail _ h.offset k.offset h.tail k.tail in
+    let same : pos a ≡ pos b = same_parts day clock offset h.value ∙ sym k.value in
+    cc

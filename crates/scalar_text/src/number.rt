@@ -1,4 +1,4 @@
-ghost use Rattle.std.specs.Prelude.{◌≡◌, ◌≤◌, ◌<◌, ◌+◌, ◌^◌, ◌*◌, ℕ, IfSome, MatchOption, IsTrue, ◌↔◌, length, take, drop};
+ghost use Rattle.std.specs.Prelude.{ℤ, ◌≡◌, ◌≤◌, ◌<◌, ◌+◌, ◌^◌, ◌*◌, ℕ, IfSome, MatchOption, IsTrue, ◌↔◌, length, take, drop};
 ghost use Rattle.std.specs.Net.Grammar.{Parses};
 ghost use Rattle.std.specs.Str.Parse.{IsNumeral};
 ghost use Rattle.base_types.specs.Digits.{IsDigits};
@@ -129,3 +129,8 @@ pub fn read_decimal(text: &[u8]) -> Result<i64, Bad>
         None => Err(Bad),
     }
 }
+
+/// A text writes one decimal at most.
+pub fn decimal_of_a_text_is_one(text: &[u8])
+    ensures { (a b : ℤ) → IsDecimalText text.now a → IsDecimalText text.now b → a ≡ b }
+{}

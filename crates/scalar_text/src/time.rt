@@ -309,3 +309,8 @@ pub fn printed_time_reads_back(seconds: u64, text: &[u8])
     requires printed { IsPrintedTime seconds text.now }
     ensures { IsTimeText text.now seconds }
 {}
+
+/// A text writes one time at most.
+pub fn time_of_a_text_is_one(text: &[u8])
+    ensures { (a b : ℕ) → IsTimeText text.now a → IsTimeText text.now b → a ≡ b }
+{}

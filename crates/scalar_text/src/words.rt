@@ -1,4 +1,4 @@
-ghost use Rattle.std.specs.Prelude.{◌≡◌, map};
+ghost use Rattle.std.specs.Prelude.{◌≡◌, ℕ, List, Some, map};
 ghost use Rattle.std.specs.Option.{option_copied};
 ghost use Rattle.std.specs.Str.{str_eq_ignore_ascii_case};
 ghost use Rattle.base_types.specs.Scalar.{IsReadAs, IsReadPlainly};
@@ -202,3 +202,11 @@ pub fn read_flag(text: &[u8]) -> Result<bool, Bad>
         None => Err(Bad),
     }
 }
+
+/// To clean a word twice is to clean it once.
+pub fn clean_words_stay(text: &[u8])
+    ensures tlp { (word : List ℕ) → tlp_of text.now ≡ Some word → tlp_of word ≡ Some word }
+    ensures registry { (word : List ℕ) → registry_of text.now ≡ Some word → registry_of word ≡ Some word }
+    ensures class { (word : List ℕ) → class_in classes text.now ≡ Some word → class_in classes word ≡ Some word }
+    ensures taxonomy { (word : List ℕ) → taxonomy_word_in classes text.now ≡ Some word → taxonomy_word_in classes word ≡ Some word }
+{}
