@@ -11,9 +11,12 @@ mod scalar;
 mod text;
 
 pub use digits::read_digits;
-pub use list::{LineList, ListOf, NamedList, NoteList, NumberList, QueueList, SendList, TextList};
+pub use list::{
+    BlobList, DumpList, LineList, ListOf, NamedList, NoteList, NumberList, QueueList, SendList,
+    TextList,
+};
 pub use memory::OutOfMemory;
-pub use message::{FaultNote, Moment, Msg};
+pub use message::{Dump, FaultNote, Moment, Msg};
 pub use name::{BotName, NameFault, QueueName, queue_of};
 pub use number::{put_u16, put_u32, put_u64, read_u16, read_u32, read_u64};
 pub use scalar::{Bad, ScalarFault};

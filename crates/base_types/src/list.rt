@@ -1,6 +1,6 @@
 ghost use Rattle.std.specs.Prelude.{◌≡◌, ◌<◌, List, [], ◌∷◌, ◌++◌, length, OnOk, IfErr, MatchOption, slice_get, Some};
 
-use crate::{Blob, FaultNote, OutOfMemory, QueueName, Text};
+use crate::{Blob, Dump, FaultNote, OutOfMemory, QueueName, Text};
 use std::alloc::Global;
 use std::marker::Model;
 
@@ -14,6 +14,14 @@ impl<T> Model for ListOf<T> {
     ghost Value = { List T };
 
     ghost view = { λ l. l.items.items };
+}
+
+impl<T> From<Vec<T>> for ListOf<T> {
+    ghost from_gives = { λ items list. list ≡ items.items };
+
+    fn from(items: Vec<T>) -> Self {
+        ListOf { items }
+    }
 }
 
 impl<T> ListOf<T> {
@@ -57,6 +65,13 @@ impl<T> ListOf<T> {
         &self.items[i]
     }
 
+    /// The items as a vector, without memory.
+    pub fn into_vec(self) -> Vec<T>
+        ensures { result.items ≡ self }
+    {
+        self.items
+    }
+
     pub fn as_slice(&self) -> &[T]
         ensures { result.now ≡ self.now }
     {
@@ -68,7 +83,11 @@ pub type NumberList = ListOf<u64>;
 
 pub type TextList = ListOf<Text>;
 
+pub type BlobList = ListOf<Blob>;
+
 pub type LineList = ListOf<Blob>;
+
+pub type DumpList = ListOf<Dump>;
 
 pub type QueueList = ListOf<QueueName>;
 

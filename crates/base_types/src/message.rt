@@ -1,4 +1,4 @@
-use crate::{Blob, Text};
+use crate::{Blob, BotName, Text};
 
 /// A point in time, in seconds since 1970-01-01T00:00:00 UTC.
 #[derive(Clone, Copy, Debug, PartialEq, Eq, PartialOrd, Ord)]
@@ -16,4 +16,15 @@ pub struct Msg {
 pub struct FaultNote {
     pub code: u16,
     pub text: Text,
+}
+
+/// A message that a bot couldn't process, with the fault and the moment at which it was put aside. Dumps have numbers
+/// from 1.
+#[derive(Debug, Drop, PartialEq, Eq)]
+pub struct Dump {
+    pub no: u64,
+    pub bot: BotName,
+    pub message: Msg,
+    pub note: FaultNote,
+    pub moment: Moment,
 }

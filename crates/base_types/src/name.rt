@@ -162,6 +162,8 @@ impl Model for QueueName {
 
     ghost view = { λ q. q.name };
 
+    ghost invariant = { λ q. IsQueueName q.name };
+
     ghost inverse = { λ name. record { name = name } };
 }
 
@@ -193,7 +195,8 @@ impl QueueName {
     }
 
     pub fn bytes(&self) -> &[u8]
-        ensures { result.now ≡ self.now }
+        ensures bytes { result.now ≡ self.now }
+        ensures name { IsQueueName self.now }
     {
         self.name.bytes()
     }

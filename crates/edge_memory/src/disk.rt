@@ -269,6 +269,7 @@ impl Disk for MemDisk {
         ensures written { (files after : Image) → (disk_view self.old).told ≡ Some files → (disk_view self.new).told ≡ Some after
             → OnOk result (after file ≡ overwritten (files file) at bytes.now) }
         ensures elsewhere { (files : Image) → (disk_view self.old).told ≡ Some files → ChangesOnly files (disk_view self.new).told file }
+        ensures untold { (disk_view self.old).told ≡ None → (disk_view self.new).told ≡ None }
         ensures crash { Follows (Torn at (length bytes.now)) (may_leave self.old file) (may_leave self.new file) }
         ensures crash_elsewhere { Adds (may_leave self.old) (may_leave self.new) (λ other. other ≢ file) }
         ensures time { Elapses (disk_view self.old).moment (disk_view self.new).moment (left_since self.old) (left_since self.new) (may_leave self.new) }
@@ -303,6 +304,7 @@ impl Disk for MemDisk {
         ensures shortened { (files after : Image) → (disk_view self.old).told ≡ Some files → (disk_view self.new).told ≡ Some after
             → OnOk result (after file ≡ take len (files file)) }
         ensures elsewhere { (files : Image) → (disk_view self.old).told ≡ Some files → ChangesOnly files (disk_view self.new).told file }
+        ensures untold { (disk_view self.old).told ≡ None → (disk_view self.new).told ≡ None }
         ensures crash { Follows (Cut len) (may_leave self.old file) (may_leave self.new file) }
         ensures crash_elsewhere { Adds (may_leave self.old) (may_leave self.new) (λ other. other ≢ file) }
         ensures time { Elapses (disk_view self.old).moment (disk_view self.new).moment (left_since self.old) (left_since self.new) (may_leave self.new) }

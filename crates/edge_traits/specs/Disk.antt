@@ -55,3 +55,14 @@ pub record Elapses (before now : ℕ) (past since : ℕ → Image → Type 0) (m
   pub later : before ≤ now
   pub nothing_else : (t : ℕ) (image : Image) → t ≤ before → since t image → past t image ⊎ IsImage may_leave image
   pub keeps : (t : ℕ) (image : Image) → t ≤ before → past t image → since t image
+
+-- a crash at any moment from one on leaves files that pass; one since an earlier moment leaves such files, or what it
+-- might have left before
+pub record Leaves (before now : ℕ) (past since : ℕ → Image → Type 0) (passes : Image → Type 0) : Type 0 where
+  pub later : before ≤ now
+  pub each : (image : Image) → since before image → passes image
+  pub earlier : (t : ℕ) (image : Image) → t ≤ before → since t image → past t image ⊎ passes image
+
+-- in each other file a crash leaves what it might have left there before
+abbrev pub LeavesOthers : ℕ → (ℕ → List ℕ → Type 0) → Image → Type 0
+LeavesOthers file may_leave image = (other : ℕ) → other ≢ file → may_leave other (image other)

@@ -1,4 +1,4 @@
-ghost use Rattle.std.specs.Prelude.{◌≡◌, ◌≢◌, ◌≤◌, ◌+◌, ◌-◌, ◌^◌, List, ℕ, min, length, take, drop, Some, IfOk, OnOk, IsErr, ⊤};
+ghost use Rattle.std.specs.Prelude.{◌≡◌, ◌≢◌, ◌≤◌, ◌+◌, ◌-◌, ◌^◌, List, ℕ, min, length, take, drop, Some, None, IfOk, OnOk, IsErr, ⊤};
 ghost use Rattle.edge_traits.specs.Count.{Rose};
 ghost use Rattle.edge_traits.specs.Disk.{DiskView, Image, overwritten, ChangesOnly, Torn, Cut, Follows, Adds, Only, IsImage, Elapses};
 
@@ -44,6 +44,7 @@ pub trait Disk {
         ensures written { (files after : Image) → (disk self.old).told ≡ Some files → (disk self.new).told ≡ Some after
             → OnOk result (after file ≡ overwritten (files file) at bytes.now) }
         ensures elsewhere { (files : Image) → (disk self.old).told ≡ Some files → ChangesOnly files (disk self.new).told file }
+        ensures untold { (disk self.old).told ≡ None → (disk self.new).told ≡ None }
         ensures crash { Follows (Torn at (length bytes.now)) (may_leave self.old file) (may_leave self.new file) }
         ensures crash_elsewhere { Adds (may_leave self.old) (may_leave self.new) (λ other. other ≢ file) }
         ensures time { Elapses (disk self.old).moment (disk self.new).moment (left_since self.old) (left_since self.new) (may_leave self.new) }
@@ -56,6 +57,7 @@ pub trait Disk {
         ensures shortened { (files after : Image) → (disk self.old).told ≡ Some files → (disk self.new).told ≡ Some after
             → OnOk result (after file ≡ take len (files file)) }
         ensures elsewhere { (files : Image) → (disk self.old).told ≡ Some files → ChangesOnly files (disk self.new).told file }
+        ensures untold { (disk self.old).told ≡ None → (disk self.new).told ≡ None }
         ensures crash { Follows (Cut len) (may_leave self.old file) (may_leave self.new file) }
         ensures crash_elsewhere { Adds (may_leave self.old) (may_leave self.new) (λ other. other ≢ file) }
         ensures time { Elapses (disk self.old).moment (disk self.new).moment (left_since self.old) (left_since self.new) (may_leave self.new) }

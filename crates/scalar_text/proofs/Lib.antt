@@ -1,4 +1,5 @@
 pub mod Numerals
+pub mod Ports
 pub mod PrintedDecimals
 pub mod PrintedTimes
 pub mod Quoted

@@ -1,8 +1,8 @@
 -- Numbers as texts.
-use Rattle.std.specs.Prelude.{unsigned_abs, ◌≡◌, ℕ, zero, suc, ◌+◌, ◌-◌, ◌*◌, ◌/◌, ◌%◌, ◌^◌, ◌++◌, ◌==◌, decimal, Bool, true, false, List, [], ◌∷◌, length, take, drop, position, Option, Some, None, ℤ, pos, neg_ℤ, if◌then◌else◌}
+use Rattle.std.specs.Prelude.{unsigned_abs, ◌≡◌, ℕ, zero, suc, ◌+◌, ◌-◌, ◌*◌, ◌/◌, ◌%◌, ◌^◌, ◌++◌, ◌==◌, ◌<◌, nat_lt, option_and_then, decimal, Bool, true, false, List, [], ◌∷◌, length, take, drop, position, Option, Some, None, ℤ, pos, neg_ℤ, if◌then◌else◌}
 use Rattle.std.specs.Int.{is_negative}
 use Rattle.std.specs.Str.Parse.{IsNumeral, digits_value}
-use Rattle.base_types.specs.Digits.{IsDigits}
+use Rattle.base_types.specs.Digits.{IsDigits, digits_in}
 
 -- the text begins with a minus
 abbrev pub has_minus : List ℕ → Bool
@@ -21,6 +21,14 @@ signed false n = pos n
 -- the text writes the whole number: perhaps a minus, and 1 to 18 digits
 abbrev pub IsWholeText : List ℕ → ℤ → Type 0
 IsWholeText text z = (n : ℕ) × IsDigits 18 (behind_minus text) n × (z ≡ signed (has_minus text) n)
+
+-- the text writes a port: 1 to 5 digits, of a number of 16 bits (RFC 768, RFC 9293)
+abbrev pub IsPortText : List ℕ → ℕ → Type 0
+IsPortText text n = IsDigits 5 text n × (n < 65536)
+
+-- that port, if there is one
+unfoldable pub port_in : List ℕ → Option ℕ
+port_in text = option_and_then (λ n. if nat_lt n 65536 then Some n else None) (digits_in 5 text)
 
 -- where the first point stands
 abbrev pub point_in : List ℕ → Option ℕ

@@ -8,7 +8,7 @@ mod raw;
 mod time;
 mod words;
 
-pub use number::{decimal_of_a_text_is_one, read_decimal, read_whole};
+pub use number::{decimal_of_a_text_is_one, read_decimal, read_port, read_whole};
 pub use printing::{print_decimal, printed_decimal_reads_back};
 pub use quote::{quote_decimals, quoting_again_changes_nothing};
 pub use raw::{read_raw, write_raw};

@@ -1,8 +1,9 @@
 ghost use Rattle.std.specs.Prelude.{ℤ, ◌≡◌, ◌≤◌, ◌<◌, ◌+◌, ◌^◌, ◌*◌, ℕ, IfSome, MatchOption, IsTrue, ◌↔◌, length, take, drop};
+ghost use Rattle.std.specs.Result.{result_ok};
 ghost use Rattle.std.specs.Net.Grammar.{Parses};
 ghost use Rattle.std.specs.Str.Parse.{IsNumeral};
 ghost use Rattle.base_types.specs.Digits.{IsDigits};
-ghost use Rattle.scalar_text.specs.Number.{IsWholeText, IsDecimalText, AreMillionths, behind_minus, has_minus, signed, point_in, millionths};
+ghost use Rattle.scalar_text.specs.Number.{IsWholeText, IsPortText, port_in, IsDecimalText, AreMillionths, behind_minus, has_minus, signed, point_in, millionths};
 
 use base_types::{Bad, read_digits};
 
@@ -39,6 +40,21 @@ pub fn read_whole(text: &[u8]) -> Result<i64, Bad>
         Some(n) => Ok(signed(has_minus(text), n)),
         None => Err(Bad),
     }
+}
+
+/// A port of TCP or UDP, from 0 to 65535 (RFC 768, RFC 9293): 1 to 5 digits. Zeros may lead. It takes no memory, and a
+/// text that writes no port is `Bad`.
+pub fn read_port(text: &[u8]) -> Result<u16, Bad>
+    ensures writes { Parses IsPortText text.now result }
+    ensures value { result_ok result ≡ port_in text.now }
+{
+    let Some(number) = read_digits(text, 5) else {
+        return Err(Bad);
+    };
+    if number > u16::MAX as u64 {
+        return Err(Bad);
+    }
+    Ok(number as u16)
 }
 
 // The millionths that the digits in front of a point write.

@@ -1,7 +1,7 @@
 use base_types::{Bad, ScalarFault, Text};
 use scalar_text::{
-    print_decimal, quote_decimals, read_class, read_decimal, read_flag, read_raw, read_registry,
-    read_taxonomy, read_tlp, read_whole, taxonomy_of, write_raw,
+    print_decimal, quote_decimals, read_class, read_decimal, read_flag, read_port, read_raw,
+    read_registry, read_taxonomy, read_tlp, read_whole, taxonomy_of, write_raw,
 };
 use std::alloc::Global;
 use std::test::Fail;
@@ -63,6 +63,20 @@ fn whole_numbers(rt: HostRuntime) {
     }
     for text in NO_WHOLES {
         assert!(rt; read_whole(text.as_bytes()) == Err(Bad));
+    }
+}
+
+const PORTS: [(&str, u16); 4] = [("0", 0), ("80", 80), ("65535", 65535), ("00080", 80)];
+
+const NO_PORTS: [&str; 8] = ["65536", "99999", "000080", "", "+1", "-0", "8 0", "a"];
+
+#[test]
+fn ports(rt: HostRuntime) {
+    for (text, port) in PORTS {
+        assert!(rt; read_port(text.as_bytes()) == Ok(port));
+    }
+    for text in NO_PORTS {
+        assert!(rt; read_port(text.as_bytes()) == Err(Bad));
     }
 }
 

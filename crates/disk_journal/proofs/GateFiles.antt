@@ -1,0 +1,108 @@
+-- A gate file can be read in one way.
+use Rattle.std.proofs.Common.{◌≡◌, ◌≢◌, ◌<◌, ◌^◌, inl, inr, ℕ, List, [], ◌∷◌, ◌++◌, length, take, refl, sym, ◌∙◌, ap, arith, append_assoc, length-append}
+use Rattle.std.specs.Int.{to_be_bytes, from_be_bytes, w64}
+use Rattle.std.proofs.lemmas.Nat.{from_be_bytes-to_be_bytes_8}
+use Rattle.std.proofs.lemmas.List.{append_cancel_left, take_at}
+use Rattle.disk_journal.specs.GateFile.{header, open_record, open_records, gate_file, HaveLengths, HasBodies, BeginsWithRecord, IsDamagedAt}
+
+pub length_word : (n : ℕ) → length (to_be_bytes w64 n) ≡ 8
+length_word n = refl
+
+pub length_header : (generation : ℕ) → length (header generation) ≡ 16
+length_header generation = refl
+
+pub word_is_one : (m n : ℕ) → m < 2 ^ 64 → n < 2 ^ 64 → to_be_bytes w64 m ≡ to_be_bytes w64 n → m ≡ n
+word_is_one m n short_m short_n same = sym (from_be_bytes-to_be_bytes_8 m short_m) ∙ ap (from_be_bytes w64) same ∙ from_be_bytes-to_be_bytes_8 n short_n
+
+-- equal lists come apart at equal lengths
+pub parted : (a b x y : List ℕ) → length a ≡ length b → a ++ x ≡ b ++ y → (a ≡ b) × (x ≡ y)
+parted [] [] x y size same = (refl, same)
+parted [] (b ∷ bs) x y size same = absurd (omega (arith, size))
+parted (a ∷ front) [] x y size same = absurd (omega (arith, size))
+parted (a ∷ front) (b ∷ bs) x y size same =
+    let head : a ≡ b = cc in
+    let rest : front ++ x ≡ bs ++ y = cc in
+    let more = parted front bs x y (omega (arith, size)) rest in
+    ((λ i. head i ∷ more.0 i), more.1)
+
+record_split : (body x : List ℕ) → open_record body ++ x ≡ 1 ∷ (to_be_bytes w64 (length body) ++ (body ++ x))
+record_split body x = ap (λ l. 1 ∷ l) (append_assoc (to_be_bytes w64 (length body)) body x)
+
+pub record_is_one : (a b x y : List ℕ) → length a < 2 ^ 64 → length b < 2 ^ 64 → open_record a ++ x ≡ open_record b ++ y → (a ≡ b) × (x ≡ y)
+record_is_one a b x y short_a short_b same =
+    let words : to_be_bytes w64 (length a) ++ (a ++ x) ≡ to_be_bytes w64 (length b) ++ (b ++ y) = (let e = sym (record_split a x) ∙ same ∙ record_split b y in cc) in
+    let parts = parted (to_be_bytes w64 (length a)) (to_be_bytes w64 (length b)) (a ++ x) (b ++ y) refl words in
+    parted a b x y (word_is_one (length a) (length b) short_a short_b parts.0) parts.1
+
+-- some gate stands behind whole records
+pub record GateBehind (bodies : List (List ℕ)) (gate : ℕ) (behind : List ℕ) : Type 0 where
+  pub first : ℕ
+  pub rest : List ℕ
+  pub is : open_records bodies ++ gate ∷ behind ≡ first ∷ rest
+
+gate_behind : (bodies : List (List ℕ)) (gate : ℕ) (behind : List ℕ) → GateBehind bodies gate behind
+gate_behind [] gate behind = record { first = gate; rest = behind; is = refl }
+gate_behind (body ∷ bodies) gate behind = record { first = 1; rest = _; is = refl }
+
+begins : (body : List ℕ) (bodies : List (List ℕ)) (gate : ℕ) (behind bytes : List ℕ) → length body < 2 ^ 64 → bytes ≡ open_records (body ∷ bodies) ++ gate ∷ behind → BeginsWithRecord bytes
+begins body bodies gate behind bytes short is =
+    let next = gate_behind bodies gate behind in
+    record { body = body; gate = next.first; behind = next.rest; lengths = short; content = is ∙ append_assoc (open_record body) (open_records bodies) (gate ∷ behind) ∙ ap (λ l. open_record body ++ l) next.is }
+
+-- records up to where no whole record begins are read in one way
+pub records_are_one : (front bs : List (List ℕ)) (g h : ℕ) (x y : List ℕ) → HaveLengths front → HaveLengths bs → (BeginsWithRecord (g ∷ x) → ⊥) → (BeginsWithRecord (h ∷ y) → ⊥)
+    → open_records front ++ g ∷ x ≡ open_records bs ++ h ∷ y → (front ≡ bs) × (g ∷ x ≡ h ∷ y)
+records_are_one [] [] g h x y short_a short_b end_a end_b same = (refl, same)
+records_are_one [] (b ∷ bs) g h x y short_a short_b end_a end_b same = absurd (end_a (begins b bs h y (g ∷ x) short_b.0 same))
+records_are_one (a ∷ front) [] g h x y short_a short_b end_a end_b same = absurd (end_b (begins a front g x (h ∷ y) short_a.0 (sym same)))
+records_are_one (a ∷ front) (b ∷ bs) g h x y short_a short_b end_a end_b same =
+    let apart = sym (append_assoc (open_record a) (open_records front) (g ∷ x)) ∙ same ∙ append_assoc (open_record b) (open_records bs) (h ∷ y) in
+    let here = record_is_one a b _ _ short_a.0 short_b.0 apart in
+    let rest = records_are_one front bs g h x y short_a.1 short_b.1 end_a end_b here.1 in
+    ((λ i. here.0 i ∷ rest.0 i), rest.1)
+
+pub closed_ends : (gate : ℕ) (behind : List ℕ) → gate ≢ 1 → BeginsWithRecord (gate ∷ behind) → ⊥
+closed_ends gate behind closed begun = let same : gate ≡ 1 = (let e = begun.content in cc) in closed same
+
+pub file_split : (generation : ℕ) (bodies : List (List ℕ)) (gate : ℕ) (behind : List ℕ) → gate_file generation bodies gate ++ behind ≡ header generation ++ (open_records bodies ++ gate ∷ behind)
+file_split generation bodies gate behind =
+    append_assoc (header generation ++ open_records bodies) (gate ∷ []) behind ∙ append_assoc (header generation) (open_records bodies) (gate ∷ behind)
+
+pub bodies_are_one : (generation : ℕ) (a b : List (List ℕ)) (file : List ℕ) → HasBodies generation a file → HasBodies generation b file → a ≡ b
+bodies_are_one generation a b file has_a has_b =
+    let same = sym (file_split generation a has_a.gate has_a.behind) ∙ sym has_a.content ∙ has_b.content ∙ file_split generation b has_b.gate has_b.behind in
+    (records_are_one a b has_a.gate has_b.gate has_a.behind has_b.behind has_a.lengths has_b.lengths (closed_ends _ _ has_a.closed) (closed_ends _ _ has_b.closed) (append_cancel_left (header generation) _ _ same)).0
+
+cut_split : (generation : ℕ) (bodies : List (List ℕ)) (rest : List ℕ) → header generation ++ open_records bodies ++ rest ≡ header generation ++ (open_records bodies ++ rest)
+cut_split generation bodies rest = append_assoc (header generation) (open_records bodies) rest
+
+front_of_cut : (generation : ℕ) (bodies : List (List ℕ)) (rest file : List ℕ) → file ≡ header generation ++ open_records bodies ++ rest → take 16 file ≡ header generation
+front_of_cut generation bodies rest file is = ap (take 16) (is ∙ cut_split generation bodies rest) ∙ take_at (header generation) (open_records bodies ++ rest) 16 refl
+
+long_of_cut : (generation : ℕ) (bodies : List (List ℕ)) (gate : ℕ) (behind : List ℕ) → header generation ++ open_records bodies ++ gate ∷ behind ≡ header generation → ⊥
+long_of_cut generation bodies gate behind is =
+    omega (arith, ap length is, length-append (header generation ++ open_records bodies) (gate ∷ behind), length-append (header generation) (open_records bodies), length_header generation)
+
+pub damaged_has_no_bodies : (generation at : ℕ) (bodies : List (List ℕ)) (file : List ℕ) → IsDamagedAt generation file at → HasBodies generation bodies file → ⊥
+damaged_has_no_bodies generation at bodies file (inl other) has =
+    other.1 (front_of_cut generation bodies (has.gate ∷ has.behind) file (has.content ∙ append_assoc (header generation ++ open_records bodies) (has.gate ∷ []) has.behind))
+damaged_has_no_bodies generation at bodies file (inr (inl ends)) has =
+    long_of_cut generation bodies has.gate has.behind (sym (append_assoc (header generation ++ open_records bodies) (has.gate ∷ []) has.behind) ∙ sym has.content ∙ ends.1)
+damaged_has_no_bodies generation at bodies file (inr (inr cut)) has =
+    let same = sym (cut_split generation cut.bodies (1 ∷ cut.behind)) ∙ sym cut.content ∙ has.content ∙ file_split generation bodies has.gate has.behind in
+    let rest = (records_are_one cut.bodies bodies 1 has.gate cut.behind has.behind cut.lengths has.lengths cut.cut (closed_ends _ _ has.closed) (append_cancel_left (header generation) _ _ same)).1 in
+    has.closed (cc)
+
+pub damage_is_at_one_place : (generation at other : ℕ) (file : List ℕ) → IsDamagedAt generation file at → IsDamagedAt generation file other → at ≡ other
+damage_is_at_one_place generation at other file (inl a) (inl b) = a.0 ∙ sym b.0
+damage_is_at_one_place generation at other file (inl a) (inr (inl b)) = absurd (a.1 (ap (take 16) b.1))
+damage_is_at_one_place generation at other file (inl a) (inr (inr b)) = absurd (a.1 (front_of_cut generation b.bodies (1 ∷ b.behind) file b.content))
+damage_is_at_one_place generation at other file (inr (inl a)) (inl b) = absurd (b.1 (ap (take 16) a.1))
+damage_is_at_one_place generation at other file (inr (inl a)) (inr (inl b)) = a.0 ∙ sym b.0
+damage_is_at_one_place generation at other file (inr (inl a)) (inr (inr b)) = absurd (long_of_cut generation b.bodies 1 b.behind (sym b.content ∙ a.1))
+damage_is_at_one_place generation at other file (inr (inr a)) (inl b) = absurd (b.1 (front_of_cut generation a.bodies (1 ∷ a.behind) file a.content))
+damage_is_at_one_place generation at other file (inr (inr a)) (inr (inl b)) = absurd (long_of_cut generation a.bodies 1 a.behind (sym a.content ∙ b.1))
+damage_is_at_one_place generation at other file (inr (inr a)) (inr (inr b)) =
+    let same = sym (cut_split generation a.bodies (1 ∷ a.behind)) ∙ sym a.content ∙ b.content ∙ cut_split generation b.bodies (1 ∷ b.behind) in
+    let bodies = (records_are_one a.bodies b.bodies 1 1 a.behind b.behind a.lengths b.lengths a.cut b.cut (append_cancel_left (header generation) _ _ same)).0 in
+    a.place ∙ ap (λ bs. length (header generation ++ open_records bs)) bodies ∙ sym b.place

@@ -1,0 +1,6 @@
+pub mod Appends
+pub mod GateFiles
+pub mod Reopening
+pub mod Resting
+pub mod Steps
+pub mod Walking

@@ -1,0 +1,93 @@
+-- Reading a gate file from its header to the first gate that isn't open.
+use Rattle.std.proofs.Common.{◌≡◌, ◌<◌, ◌≤◌, ◌+◌, ◌^◌, inl, inr, ℕ, List, [], ◌∷◌, ◌++◌, length, take, drop, false, Result, Ok, Err, OnOk, is_err, refl, sym, ◌∙◌, ap, subst, arith, append_assoc, length-append}
+use Rattle.std.specs.Prelude.{Some}
+use Rattle.std.specs.Int.{to_be_bytes, w64}
+use Rattle.std.proofs.lemmas.List.{take-append-drop, length-take-le, drop-drop}
+use Rattle.edge_traits.specs.Disk.{DiskView, Image}
+use Rattle.edge_traits.proofs.Moments.{both}
+use Rattle.disk_journal.specs.GateFile.{header, open_record, open_records, IsDamagedAt}
+use Rattle.disk_journal.specs.Journal.{IsFaultOf}
+use Rattle.disk_journal.specs.declared.journal.JournalFault.{JournalFault}
+use Rattle.disk_journal.specs.declared.journal.JournalFault.TheVariants as fault
+use Rattle.disk_journal.proofs.Appends.{have_lengths_push, open_records_push}
+use Rattle.disk_journal.proofs.Resting.{length_open_record}
+use Rattle.disk_journal.specs.Reads.{OnlyReads, IsReadTo, IsCutShort, IsOpen}
+
+-- one run of reads after another
+pub reads_on : (old mid new : DiskView) (may_old may_mid may_new : ℕ → List ℕ → Type 0) (past during since : ℕ → Image → Type 0)
+    → OnlyReads old mid may_old may_mid past during → OnlyReads mid new may_mid may_new during since → OnlyReads old new may_old may_new past since
+reads_on old mid new may_old may_mid may_new past during since first then = record {
+  told = then.told ∙ first.told;
+  crash = λ file passes c left. first.crash file passes c (then.crash file passes c left);
+  time = both old.moment mid.moment new.moment past during since may_old may_mid first.time then.time (λ image left file. first.crash file tt (image file) (left file));
+  count = omega (arith, first.count, then.count);
+}
+
+-- no read at all
+pub reads_none : (old : DiskView) (may_leave : ℕ → List ℕ → Type 0) (past : ℕ → Image → Type 0) → OnlyReads old old may_leave may_leave past past
+reads_none old may_leave past = record {
+  told = refl;
+  crash = λ file passes c left. left;
+  time = record { later = omega arith; nothing_else = λ t image le left. inl left; keeps = λ t image le left. left };
+  count = omega arith;
+}
+
+-- how far the loop is
+pub record HaveRead (old now : DiskView) (may_old may_now : ℕ → List ℕ → Type 0) (past since : ℕ → Image → Type 0) (file end : ℕ) (bodies : List (List ℕ)) (at : ℕ) : Type 0 where
+  pub reads : OnlyReads old now may_old may_now past since
+  pub behind_header : 16 ≤ at
+  pub within : at < end
+  pub to : (files : Image) (generation : ℕ) → old.told ≡ Some files → end ≡ length (files file) → take 16 (files file) ≡ header generation
+      → IsReadTo generation bodies at (drop at (files file)) (files file)
+
+pub pushed : {T E P : Type 0} (r : Result T E) → OnOk r P → is_err r ≡ false → P
+pushed (Ok x) holds ok = holds
+pushed (Err e) holds ok = absurd (cc)
+
+-- a record that isn't whole is where the file is damaged
+cut_at : (generation : ℕ) (bodies : List (List ℕ)) (at : ℕ) (file : List ℕ) → IsReadTo generation bodies at (drop at file) file → IsCutShort (drop at file) → IsDamagedAt generation file at
+cut_at generation bodies at file to short = inr (inr (record {
+  bodies = bodies;
+  behind = short.behind;
+  lengths = to.lengths;
+  content = to.content ∙ ap (λ l. header generation ++ open_records bodies ++ l) short.opened;
+  place = to.place;
+  cut = short.cut;
+}))
+
+pub damage_found : (e : JournalFault) (generation : ℕ) (bodies : List (List ℕ)) (at : ℕ) (file : List ℕ) → IsReadTo generation bodies at (drop at file) file
+    → ((place : ℕ) → e ≡ fault.Damaged place → (place ≡ at) × IsCutShort (drop at file)) → IsFaultOf generation file e
+damage_found (fault.Damaged place) generation bodies at file to found =
+    subst (IsDamagedAt generation file) (sym (found place refl).0) (cut_at generation bodies at file to (found place refl).1)
+damage_found fault.Disk generation bodies at file to found = tt
+damage_found fault.OutOfMemory generation bodies at file to found = tt
+
+-- a whole record more
+pub record_read : (generation : ℕ) (bodies : List (List ℕ)) (at size : ℕ) (body file : List ℕ) → IsReadTo generation bodies at (drop at file) file → size < 2 ^ 64
+    → IsOpen (drop at file) size → body ≡ take size (drop (at + 9) file) → IsReadTo generation (bodies ++ body ∷ []) (at + (9 + size)) (drop (at + (9 + size)) file) file
+record_read generation bodies at size body file to short opened is =
+    let front = header generation ++ open_records bodies in
+    let behind = opened.behind in
+    let word = to_be_bytes w64 size in
+    let rest : drop (at + 9) file ≡ behind = sym (drop-drop 9 at file) ∙ ap (drop 9) opened.content in
+    let is_body : body ≡ take size behind = is ∙ ap (take size) rest in
+    let length_body : length body ≡ size = ap length is_body ∙ length-take-le size behind (omega (arith, opened.fits)) in
+    let after : drop (at + (9 + size)) file ≡ drop size behind = ap (λ k. drop k file) (sum at size) ∙ sym (drop-drop size (at + 9) file) ∙ ap (drop size) rest in
+    let whole : open_record body ++ drop size behind ≡ drop at file =
+    ap (λ n. 1 ∷ to_be_bytes w64 n ++ body ++ drop size behind) length_body
+    ∙ append_assoc (1 ∷ word) body (drop size behind)
+    ∙ ap (λ b. 1 ∷ word ++ (b ++ drop size behind)) is_body
+    ∙ ap (λ l. 1 ∷ word ++ l) (take-append-drop size behind)
+    ∙ sym opened.content in
+    let longer : header generation ++ open_records (bodies ++ body ∷ []) ≡ front ++ open_record body =
+    ap (λ l. header generation ++ l) (open_records_push bodies body) ∙ sym (append_assoc (header generation) (open_records bodies) (open_record body)) in
+    record {
+      lengths = have_lengths_push bodies body to.lengths (omega (arith, short, length_body));
+      content =
+          to.content ∙ ap (λ l. front ++ l) (sym whole) ∙ sym (append_assoc front (open_record body) (drop size behind))
+          ∙ ap (λ l. l ++ drop size behind) (sym longer) ∙ ap (λ l. header generation ++ open_records (bodies ++ body ∷ []) ++ l) (sym after);
+      place = omega (arith, to.place, ap length longer, length-append front (open_record body), length_body, length_open_record body);
+    }
+  where
+    sum : (at size : ℕ) → at + (9 + size) ≡ at + 9 + size
+    sum at size = omega arith

@@ -1,0 +1,37 @@
+-- What reading a gate file finds, and what it leaves as it is.
+use Rattle.std.specs.Prelude.{◌≡◌, ◌≢◌, ◌<◌, ◌≤◌, ℕ, List, ◌∷◌, ◌++◌, length, ⊤}
+use Rattle.std.specs.Int.{to_be_bytes, w64}
+use Rattle.edge_traits.specs.Disk.{DiskView, Image, Adds, Elapses}
+use Rattle.disk_journal.specs.GateFile.{header, open_records, HaveLengths, BeginsWithRecord}
+
+-- the disk only read: nothing changed, and a crash leaves what it might have left before
+pub record OnlyReads (old new : DiskView) (may_before may_now : ℕ → List ℕ → Type 0) (past since : ℕ → Image → Type 0) : Type 0 where
+  pub told : new.told ≡ old.told
+  pub crash : Adds may_before may_now (λ _. ⊤)
+  pub time : Elapses old.moment new.moment past since may_before
+  pub count : old.faults ≤ new.faults
+
+-- the file has a header and whole records of these bodies up to the offset, and goes on with the rest
+pub record IsReadTo (generation : ℕ) (bodies : List (List ℕ)) (at : ℕ) (rest file : List ℕ) : Type 0 where
+  pub lengths : HaveLengths bodies
+  pub content : file ≡ (header generation ++ open_records bodies) ++ rest
+  pub place : at ≡ length (header generation ++ open_records bodies)
+
+-- these bytes begin with an open gate, and not with a whole record and a gate
+pub record IsCutShort (rest : List ℕ) : Type 0 where
+  pub behind : List ℕ
+  pub opened : rest ≡ 1 ∷ behind
+  pub cut : BeginsWithRecord (1 ∷ behind) → ⊥
+
+-- these bytes begin with a gate that isn't open
+pub record IsClosed (rest : List ℕ) : Type 0 where
+  pub gate : ℕ
+  pub behind : List ℕ
+  pub closed : gate ≢ 1
+  pub content : rest ≡ gate ∷ behind
+
+-- these bytes begin with an open gate and a length, and so many bytes and a gate stand behind them
+pub record IsOpen (rest : List ℕ) (size : ℕ) : Type 0 where
+  pub behind : List ℕ
+  pub content : rest ≡ 1 ∷ to_be_bytes w64 size ++ behind
+  pub fits : size < length behind

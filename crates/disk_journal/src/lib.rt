@@ -1,0 +1,11 @@
+//! Files of records that survive a crash at any moment: a record counts once the gate byte before it is open.
+#![tactic(auto)]
+
+mod durable;
+mod header;
+mod journal;
+mod laws;
+mod reading;
+
+pub use journal::{AppendFault, Journal, JournalFault};
+pub use laws::{bodies_are_one, damage_is_at_one_place, damaged_has_no_bodies};

@@ -1,0 +1,140 @@
+ghost use Rattle.std.specs.Prelude.{◌≡◌, ◌≢◌, ◌<◌, ◌≤◌, ◌+◌, ◌^◌, ◌++◌, ℕ, List, length, take, drop, Some, IfOk, IfErr, OnOk, IsErrOf, MatchOption, IfSome};
+ghost use Rattle.std.specs.Int.{to_be_bytes, w64};
+ghost use Rattle.edge_traits.specs.Count.{Rose};
+ghost use Rattle.edge_traits.specs.Disk.{Image};
+ghost use Rattle.disk_journal.specs.GateFile.{header, IsDamagedAt};
+ghost use Rattle.disk_journal.specs.Journal.{IsFaultOf};
+ghost use Rattle.disk_journal.specs.Reads.{OnlyReads, IsReadTo, IsCutShort, IsClosed, IsOpen};
+
+use crate::JournalFault;
+use crate::header::{FRAME, HEADER, OPEN, header};
+use base_types::{Blob, BlobList, read_u64};
+use edge_traits::Disk;
+use std::alloc::Global;
+
+/// The bodies of the file's records, and the offset of the first gate that isn't open.
+pub(crate) fn read_bodies<D: Disk>(
+    alloc: Global,
+    disk: &mut D,
+    file: u64,
+    generation: u64,
+) -> Result<(BlobList, u64), JournalFault>
+    ensures place { IfOk result (λ found. (16 ≤ found.1) × (found.1 + 1 < 2 ^ 64)) }
+    ensures bodies { (files : Image) → (D.disk disk.old).told ≡ Some files
+        → IfOk result (λ found. IsReadTo generation found.0 found.1 (drop found.1 (files file)) (files file) × IsClosed (drop found.1 (files file))) }
+    ensures fault { (files : Image) → (D.disk disk.old).told ≡ Some files → IfErr result (IsFaultOf generation (files file)) }
+    ensures reads { OnlyReads (D.disk disk.old) (D.disk disk.new) (D.may_leave disk.old) (D.may_leave disk.new) (D.left_since disk.old) (D.left_since disk.new) }
+    ensures failed { IsErrOf result JournalFault.Disk → Rose (D.disk disk.old).faults (D.disk disk.new).faults }
+{
+    let end = disk.len(file)?;
+    check_header(disk, file, generation)?;
+    if end <= HEADER as u64 {
+        return Err(JournalFault::Damaged { at: HEADER as u64 });
+    }
+    read_records(alloc, disk, file, end)
+}
+
+// The records behind the header, up to the end of the file.
+fn read_records<D: Disk>(
+    alloc: Global,
+    disk: &mut D,
+    file: u64,
+    end: u64,
+) -> Result<(BlobList, u64), JournalFault>
+    requires { 16 < end }
+    ensures place { IfOk result (λ found. (16 ≤ found.1) × (found.1 + 1 < 2 ^ 64)) }
+    ensures bodies { (files : Image) (generation : ℕ) → (D.disk disk.old).told ≡ Some files → end ≡ length (files file) → take 16 (files file) ≡ header generation
+        → IfOk result (λ found. IsReadTo generation found.0 found.1 (drop found.1 (files file)) (files file) × IsClosed (drop found.1 (files file))) }
+    ensures damaged { (files : Image) (generation : ℕ) → (D.disk disk.old).told ≡ Some files → end ≡ length (files file) → take 16 (files file) ≡ header generation
+        → IfErr result (IsFaultOf generation (files file)) }
+    ensures reads { OnlyReads (D.disk disk.old) (D.disk disk.new) (D.may_leave disk.old) (D.may_leave disk.new) (D.left_since disk.old) (D.left_since disk.new) }
+    ensures failed { IsErrOf result JournalFault.Disk → Rose (D.disk disk.old).faults (D.disk disk.new).faults }
+{
+    let mut bodies = BlobList::new(alloc);
+    let mut at = HEADER as u64;
+    'records: loop {
+        let Some(size) = read_gate(disk, file, end, at)? else {
+            return Ok((bodies, at));
+        };
+        let body = read_body(alloc, disk, file, at, size)?;
+        if bodies.push(body).is_err() {
+            return Err(JournalFault::OutOfMemory);
+        }
+        at += FRAME as u64 + size;
+    }
+}
+
+fn check_header<D: Disk>(disk: &mut D, file: u64, generation: u64) -> Result<(), JournalFault>
+    ensures header { (files : Image) → (D.disk disk.old).told ≡ Some files → OnOk result (take 16 (files file) ≡ header generation) }
+    ensures fault { (files : Image) → (D.disk disk.old).told ≡ Some files → IfErr result (IsFaultOf generation (files file)) }
+    ensures reads { OnlyReads (D.disk disk.old) (D.disk disk.new) (D.may_leave disk.old) (D.may_leave disk.new) (D.left_since disk.old) (D.left_since disk.new) }
+    ensures failed { IsErrOf result JournalFault.Disk → Rose (D.disk disk.old).faults (D.disk disk.new).faults }
+{
+    let mut bytes = [0; HEADER];
+    let count = disk.read_at(file, 0, &mut bytes)?;
+    if count < HEADER || bytes != header(generation) {
+        return Err(JournalFault::Damaged { at: 0 });
+    }
+    Ok(())
+}
+
+// The length of the body behind the gate at this offset, if that is open.
+fn read_gate<D: Disk>(
+    disk: &mut D,
+    file: u64,
+    end: u64,
+    at: u64,
+) -> Result<Option<u64>, JournalFault>
+    requires { at < end }
+    ensures fits { IfOk result (λ size. IfSome size (λ n. at + 9 + n < end)) }
+    ensures gate { (files : Image) → (D.disk disk.old).told ≡ Some files → end ≡ length (files file)
+        → IfOk result (λ size. MatchOption size (IsClosed (drop at (files file))) (IsOpen (drop at (files file)))) }
+    ensures damaged { (files : Image) (place : ℕ) → (D.disk disk.old).told ≡ Some files → end ≡ length (files file)
+        → IsErrOf result (JournalFault.Damaged place) → (place ≡ at) × IsCutShort (drop at (files file)) }
+    ensures reads { OnlyReads (D.disk disk.old) (D.disk disk.new) (D.may_leave disk.old) (D.may_leave disk.new) (D.left_since disk.old) (D.left_since disk.new) }
+    ensures failed { IsErrOf result JournalFault.Disk → Rose (D.disk disk.old).faults (D.disk disk.new).faults }
+{
+    let mut frame = [0; FRAME];
+    let count = disk.read_at(file, at, &mut frame)?;
+    if frame[0] != OPEN {
+        return Ok(None);
+    }
+    match size_within(&frame[..count], end - at) {
+        Some(size) => Ok(Some(size)),
+        None => Err(JournalFault::Damaged { at }),
+    }
+}
+
+// The length of the body behind a gate and this length, if the body and another gate end within so many bytes.
+fn size_within(frame: &[u8], bytes: u64) -> Option<u64>
+    ensures { MatchOption result ((size : ℕ) → size < 2 ^ 64 → take 8 (drop 1 frame.now) ≡ to_be_bytes w64 size → size + 9 < bytes → ⊥)
+        (λ size. (take 8 (drop 1 frame.now) ≡ to_be_bytes w64 size) × (9 ≤ length frame.now) × (size + 9 < bytes)) }
+{
+    let size = read_u64(frame, 1)?;
+    let left = bytes.checked_sub(FRAME as u64)?;
+    if size < left { Some(size) } else { None }
+}
+
+// The body of this length behind the gate at this offset.
+fn read_body<D: Disk>(
+    alloc: Global,
+    disk: &mut D,
+    file: u64,
+    at: u64,
+    size: u64,
+) -> Result<Blob, JournalFault>
+    requires { at + 9 + size < 2 ^ 64 }
+    ensures body { (files : Image) → (D.disk disk.old).told ≡ Some files → at + 9 + size ≤ length (files file)
+        → IfOk result (λ body. body ≡ take size (drop (at + 9) (files file))) }
+    ensures whole { (files : Image) (place : ℕ) → (D.disk disk.old).told ≡ Some files → at + 9 + size ≤ length (files file)
+        → IsErrOf result (JournalFault.Damaged place) → ⊥ }
+    ensures reads { OnlyReads (D.disk disk.old) (D.disk disk.new) (D.may_leave disk.old) (D.may_leave disk.new) (D.left_since disk.old) (D.left_since disk.new) }
+    ensures failed { IsErrOf result JournalFault.Disk → Rose (D.disk disk.old).faults (D.disk disk.new).faults }
+{
+    let mut bytes = vec![in alloc; 0; size as usize]?;
+    let count = disk.read_at(file, at + FRAME as u64, &mut bytes)?;
+    if count < bytes.len() {
+        return Err(JournalFault::Damaged { at });
+    }
+    Ok(Blob::from(bytes))
+}

@@ -1,0 +1,64 @@
+-- Items of a vector that stand for entries of a list: the first entry that passes, by the place of its item.
+use Rattle.std.proofs.Common.{◌≡◌, ◌<◌, ℕ, Bool, List, [], ◌∷◌, ◌++◌, length, get_or, set, map, Some, None, sym, ◌∙◌, ap, arith, find, position, Result, Ok, Err, OnOk, OnErr}
+use Rattle.std.proofs.lemmas.List.{get_or-map, length-map, map-set}
+use Rattle.std.proofs.Math.Seq.{map-set_same}
+use Rattle.step_code.specs.Lists.{changed, changed_or_added}
+use Rattle.step_code.proofs.Found.{IsFirst, IsNowhere, first_at, nowhere, find_first, find_nowhere, changed_first, changed_nowhere, added_first, added_nowhere}
+
+module _ {A B : Type 0} (view : A → B) (p : B → Bool) where
+  mapped_first : (xs : List A) (i : ℕ) (x : A) → IsFirst (λ a. p (view a)) xs i → IsFirst p (map view xs) i
+  mapped_first xs i x first = record {
+    inside = omega (arith, first.inside, length-map xs view);
+    passes = λ d. ap p (get_or-map view xs i x d first.inside) ∙ first.passes x;
+    before = λ d k below. ap p (get_or-map view xs k x d (omega (arith, below, first.inside))) ∙ first.before x k below;
+  }
+
+  mapped_nowhere : (xs : List A) → IsNowhere (λ a. p (view a)) xs → IsNowhere p (map view xs)
+  mapped_nowhere [] none = record { fails = λ d k inside. absurd (omega (arith, inside)) }
+  mapped_nowhere (x ∷ xs) none = record {
+    fails = λ d k inside.
+        let here : k < length (x ∷ xs) = omega (arith, inside, length-map (x ∷ xs) view) in
+        ap p (get_or-map view (x ∷ xs) k x d here) ∙ none.fails x k here;
+  }
+
+  -- the entry of the item at the place
+  entry_at : (xs : List A) (i : ℕ) (x : A) → position (λ a. p (view a)) xs ≡ Some i → x ≡ get_or xs i x → get_or (map view xs) i (view x) ≡ view x
+  entry_at xs i x is here = get_or-map view xs i x (view x) (first_at (λ a. p (view a)) xs i is).inside ∙ ap view (sym here)
+
+  pub found_at : (xs : List A) (i : ℕ) (x : A) → position (λ a. p (view a)) xs ≡ Some i → x ≡ get_or xs i x → find p (map view xs) ≡ Some (view x)
+  found_at xs i x is here = find_first p (map view xs) i (view x) (mapped_first xs i x (first_at (λ a. p (view a)) xs i is)) ∙ ap Some (entry_at xs i x is here)
+
+  pub found_nowhere : (xs : List A) → position (λ a. p (view a)) xs ≡ None → find p (map view xs) ≡ None
+  found_nowhere xs none = find_nowhere p (map view xs) (mapped_nowhere xs (nowhere (λ a. p (view a)) xs none))
+
+  -- where the item at the place is replaced, its entry is changed
+  pub changed_at : (change : B → B) (xs : List A) (i : ℕ) (x new : A) → position (λ a. p (view a)) xs ≡ Some i → x ≡ get_or xs i x → view new ≡ change (view x)
+      → map view (set xs i new) ≡ changed p change (map view xs)
+  changed_at change xs i x new is here changes =
+      map-set view xs i new ∙ ap (set (map view xs) i) (changes ∙ ap change (sym (entry_at xs i x is here)))
+      ∙ sym (changed_first p change (map view xs) i (view x) (mapped_first xs i x (first_at (λ a. p (view a)) xs i is)))
+
+  pub unchanged : (change : B → B) (xs : List A) → position (λ a. p (view a)) xs ≡ None → map view xs ≡ changed p change (map view xs)
+  unchanged change xs none = sym (changed_nowhere p change (map view xs) (mapped_nowhere xs (nowhere (λ a. p (view a)) xs none)))
+
+  pub changed_there : (change : B → B) (other : B) (xs : List A) (i : ℕ) (x new : A) → position (λ a. p (view a)) xs ≡ Some i → x ≡ get_or xs i x → view new ≡ change (view x)
+      → map view (set xs i new) ≡ changed_or_added p change other (map view xs)
+  changed_there change other xs i x new is here changes =
+      map-set view xs i new ∙ ap (set (map view xs) i) (changes ∙ ap change (sym (entry_at xs i x is here)))
+      ∙ sym (added_first p change other (map view xs) i (view x) (mapped_first xs i x (first_at (λ a. p (view a)) xs i is)))
+
+  pub added_behind : (change : B → B) (new : B) (xs : List A) → position (λ a. p (view a)) xs ≡ None → map view xs ++ new ∷ [] ≡ changed_or_added p change new (map view xs)
+  added_behind change new xs none = sym (added_nowhere p change new (map view xs) (mapped_nowhere xs (nowhere (λ a. p (view a)) xs none)))
+
+-- what the item at a place stands for stays
+pub seen_same : {A B : Type 0} (view : A → B) (xs : List A) (i : ℕ) (x new : A) → x ≡ get_or xs i x → view new ≡ view x → map view (set xs i new) ≡ map view xs
+seen_same view xs i x new here same = map-set_same view xs i new x (same ∙ ap view here)
+
+-- what follows from a fact on success follows on success, and the same of failures
+pub ok_follows : {A B P Q : Type 0} (result : Result A B) → (P → Q) → OnOk result P → OnOk result Q
+ok_follows (Ok x) follows holds = follows holds
+ok_follows (Err e) follows holds = tt
+
+pub err_follows : {A B P Q : Type 0} (result : Result A B) → (P → Q) → OnErr result P → OnErr result Q
+err_follows (Ok x) follows holds = tt
+err_follows (Err e) follows holds = follows holds

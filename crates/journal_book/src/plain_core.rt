@@ -1,0 +1,291 @@
+ghost use Rattle.std.specs.Prelude.{◌≡◌, ◌↔◌, ◌≤◌, ◌^◌, ◌+◌, true, List, length, ℕ, Option, None, IfOk, IfErr, OnOk, OnErr, IsErrOf};
+ghost use Rattle.step_code.specs.declared.step.StepKind.TheVariants as kind;
+ghost use Rattle.step_code.specs.After.{acted, after, reports};
+ghost use Rattle.step_code.specs.Content.{IsInTime, MayReplay};
+ghost use Rattle.step_code.specs.Fits.{Fits, first_failing, parts};
+ghost use Rattle.step_code.specs.Rules.{IsPlanOf, is_collector};
+ghost use Rattle.step_code.specs.Sound.{IsSound};
+ghost use Rattle.journal_book.specs.Core.{IsRefusal, StaysSmall};
+ghost use Rattle.journal_book.specs.State.{state_of};
+
+use crate::acts;
+use crate::base_lists::{from_base, to_base};
+use crate::content::{is_in_time, rule_of, shows};
+use crate::copies::to_each;
+use crate::done::done;
+use crate::facts::bot_named;
+use crate::refusal::refusal;
+use crate::soundness::is_sound;
+use crate::state::State;
+use base_types::{Blob, BotName, Moment, OutOfMemory};
+use std::alloc::Global;
+use std::marker::Model;
+use step_code::{Base, PlanFault, Rules, Step, StepKind, StepRefusal};
+
+/// Why a state is not taken in.
+#[derive(Clone, Copy, Debug, PartialEq, Eq)]
+pub enum CoreFault {
+    Refused,
+    OutOfMemory,
+}
+
+impl From<OutOfMemory> for CoreFault {
+    ghost use Rattle.journal_book.specs.declared.plain_core.CoreFault.TheVariants as fault;
+
+    ghost from_gives = { λ _ e. e ≡ fault.OutOfMemory };
+
+    fn from(_: OutOfMemory) -> Self {
+        CoreFault::OutOfMemory
+    }
+}
+
+/// The state of a pipeline, ready for steps.
+#[derive(Debug, Drop)]
+pub struct Core<R: Rules> {
+    alloc: Global,
+    rules: R,
+    plan: R::Plan,
+    state: State,
+}
+
+impl<R: Rules> Model for Core<R> {
+    ghost use Rattle.step_code.specs.Rules.{IsPlanOf};
+    ghost use Rattle.std.specs.Prelude.{◌≡◌};
+    ghost use Rattle.journal_book.specs.Core.{CoreView};
+    ghost use Rattle.journal_book.specs.State.{state_of};
+
+    ghost Value = { CoreView R };
+
+    ghost view = { λ c. record { rules = c.rules; state = state_of c.state } };
+
+    ghost invariant = { λ c. (R.bundle_of c.plan ≡ c.state.bundle) × IsPlanOf (R.meaning c.rules) c.state.bundle (R.bots_of c.plan) };
+}
+
+// The plan of the state's bundle, where a store may hold the state.
+fn sound_plan<R: Rules>(alloc: Global, rules: &R, base: &Base) -> Result<R::Plan, CoreFault>
+where
+    R::Plan: Drop,
+    ensures bundle { IfOk result (λ plan. R.bundle_of plan ≡ base.now.bundle) }
+    ensures plan { IfOk result (λ plan. IsPlanOf (R.meaning rules.now) base.now.bundle (R.bots_of plan)) }
+    ensures sound { OnOk result (IsSound (R.meaning rules.now) base.now) }
+    ensures refused { IsErrOf result CoreFault.Refused → IsSound (R.meaning rules.now) base.now → ⊥ }
+{
+    match rules.plan(alloc, &base.bundle) {
+        Ok(plan) => {
+            if is_sound(alloc, rules.facts(&plan).as_slice(), base)? {
+                Ok(plan)
+            } else {
+                Err(CoreFault::Refused)
+            }
+        }
+        Err(PlanFault::Refused) => Err(CoreFault::Refused),
+        Err(PlanFault::OutOfMemory) => Err(CoreFault::OutOfMemory),
+    }
+}
+
+// A collector reports a piece of its feed.
+fn collect<R: Rules>(
+    rules: &R,
+    plan: &R::Plan,
+    state: &mut State,
+    alloc: Global,
+    bot: &BotName,
+    upto: u64,
+    piece: &Blob,
+    now: Moment,
+) -> Result<(), OutOfMemory>
+    requires bundle { R.bundle_of plan.now ≡ state.old.bundle }
+    requires plan { IsPlanOf (R.meaning rules.now) state.old.bundle (R.bots_of plan.now) }
+    requires collector { is_collector (R.bots_of plan.now) bot.now ≡ true }
+    requires time { now.0 ≤ 253_402_300_799 }
+    requires small { state.old.next_message + length (reports (R.meaning rules.now) (state_of state.old) bot.now piece.now now) ≤ 2 ^ 62 + 1 }
+    ensures ok { (from : ℕ) → OnOk result (state_of state.new ≡ acted (R.meaning rules.now) now (state_of state.old) (kind.Collect bot.now from upto piece.now)) }
+    ensures err { OnErr result (state_of state.new ≡ state_of state.old) }
+{
+    match bot_named(rules.facts(plan).as_slice(), bot) {
+        Some(facts) => {
+            let body = rules.report(alloc, plan, bot, piece, now)?;
+            let sends = to_each(alloc, facts.defaults.as_slice(), body)?;
+            acts::collect(state, alloc, bot, upto, sends)
+        }
+        None => Err(OutOfMemory),
+    }
+}
+
+// Does what the step says.
+fn act<R: Rules>(
+    rules: &R,
+    plan: &R::Plan,
+    state: &mut State,
+    alloc: Global,
+    step: &Step,
+) -> Result<(), OutOfMemory>
+    requires bundle { R.bundle_of plan.now ≡ state.old.bundle }
+    requires plan { IsPlanOf (R.meaning rules.now) state.old.bundle (R.bots_of plan.now) }
+    requires fits { Fits (R.meaning rules.now) (state_of state.old) step.now }
+    requires time { step.now.moment.0 ≤ 253_402_300_799 }
+    requires small { StaysSmall (R.meaning rules.now) (state_of state.old) step.now }
+    ensures ok { OnOk result (state_of state.new ≡ acted (R.meaning rules.now) step.now.moment (state_of state.old) step.now.what) }
+    ensures err { OnErr result (state_of state.new ≡ state_of state.old) }
+{
+    let now = step.moment;
+    match &step.what {
+        StepKind::Start => {
+            acts::start(state);
+            Ok(())
+        }
+        StepKind::Collect {
+            bot,
+            from: _,
+            upto,
+            piece,
+        } => collect(rules, plan, state, alloc, bot, *upto, piece, now),
+        StepKind::FeedEnd { bot, position: _ } => {
+            acts::end_feed(state, bot);
+            Ok(())
+        }
+        StepKind::Take {
+            bot,
+            instance,
+            message: _,
+        } => acts::take(state, bot, *instance, now),
+        StepKind::Done {
+            bot,
+            instance,
+            message: _,
+            bundle: _,
+            sends,
+            dumps,
+            key,
+            line,
+        } => {
+            let rule = rule_of(rules.facts(plan).as_slice(), bot);
+            done(
+                state,
+                alloc,
+                rule,
+                bot,
+                *instance,
+                now,
+                sends.as_slice(),
+                dumps.as_slice(),
+                key,
+                *line,
+            )
+        }
+    }
+}
+
+// Does what the step says, and counts it.
+fn act_and_count<R: Rules>(
+    rules: &R,
+    plan: &R::Plan,
+    state: &mut State,
+    alloc: Global,
+    step: &Step,
+) -> Result<(), OutOfMemory>
+    requires bundle { R.bundle_of plan.now ≡ state.old.bundle }
+    requires plan { IsPlanOf (R.meaning rules.now) state.old.bundle (R.bots_of plan.now) }
+    requires fits { Fits (R.meaning rules.now) (state_of state.old) step.now }
+    requires time { step.now.moment.0 ≤ 253_402_300_799 }
+    requires small { StaysSmall (R.meaning rules.now) (state_of state.old) step.now }
+    ensures ok { OnOk result (state_of state.new ≡ after (R.meaning rules.now) (state_of state.old) step.now) }
+    ensures err { OnErr result (state_of state.new ≡ state_of state.old) }
+    ensures bundle { state.new.bundle ≡ state.old.bundle }
+{
+    act(rules, plan, state, alloc, step)?;
+    state.steps += 1;
+    state.latest = step.moment;
+    Ok(())
+}
+
+impl<R: Rules> Core<R> {
+    /// Takes a state in.
+    ///
+    /// # Errors
+    ///
+    /// `Refused` where no store may hold the state under these rules. `OutOfMemory`.
+    pub fn new(alloc: Global, rules: R, base: Base) -> Result<Core<R>, CoreFault>
+    where
+        R: Drop,
+        R::Plan: Drop,
+        ensures core { IfOk result (λ core. core ≡ record { rules = rules; state = base }) }
+        ensures sound { OnOk result (IsSound (R.meaning rules) base) }
+        ensures refused { IsErrOf result CoreFault.Refused → IsSound (R.meaning rules) base → ⊥ }
+    {
+        let plan = sound_plan(alloc, &rules, &base)?;
+        Ok(Core {
+            alloc,
+            rules,
+            plan,
+            state: from_base(alloc, base)?,
+        })
+    }
+
+    /// The rules that it goes by.
+    pub fn rules(&self) -> &R
+        ensures { result.now ≡ self.now.rules }
+    {
+        &self.rules
+    }
+
+    /// The plan of the bundle in force.
+    pub fn plan(&self) -> &R::Plan
+        ensures bundle { R.bundle_of result.now ≡ self.now.state.bundle }
+        ensures plan { IsPlanOf (R.meaning self.now.rules) self.now.state.bundle (R.bots_of result.now) }
+    {
+        &self.plan
+    }
+
+    /// Takes a step, if it fits. It is done whole or not at all.
+    ///
+    /// # Errors
+    ///
+    /// What refuses it: the lowest part of the table of steps that fails. Then want of memory.
+    pub fn apply(&mut self, step: &Step) -> Result<(), StepRefusal>
+        requires replay { Fits (R.meaning self.old.rules) self.old.state step.now → MayReplay (R.meaning self.old.rules) self.old.state step.now }
+        requires small { Fits (R.meaning self.old.rules) self.old.state step.now → StaysSmall (R.meaning self.old.rules) self.old.state step.now }
+        ensures fits { OnOk result (Fits (R.meaning self.old.rules) self.old.state step.now) }
+        ensures after { OnOk result (self.new ≡ record self.old { state = after (R.meaning self.old.rules) self.old.state step.now }) }
+        ensures refused { IfErr result (IsRefusal (first_failing (parts (R.meaning self.old.rules) self.old.state step.now.what))) }
+        ensures err { OnErr result (self.new ≡ self.old) }
+    {
+        let bots = self.rules.facts(&self.plan).as_slice();
+        match refusal(&self.state, bots, &step.what) {
+            Err(OutOfMemory) => Err(StepRefusal::OutOfMemory),
+            Ok(Some(refusal)) => Err(refusal),
+            Ok(None) => match act_and_count(
+                &self.rules,
+                &self.plan,
+                &mut self.state,
+                self.alloc,
+                step,
+            ) {
+                Ok(()) => Ok(()),
+                Err(OutOfMemory) => Err(StepRefusal::OutOfMemory),
+            },
+        }
+    }
+
+    /// Whether a stored step may be replayed: it fits, its moment is in order, and what shows of its content is right.
+    /// It doesn't ask the rules what they give.
+    pub fn fits(&self, step: &Step) -> Result<bool, OutOfMemory>
+        ensures { IfOk result (λ fits. (fits ≡ true) ↔ MayReplay (R.meaning self.now.rules) self.now.state step.now) }
+    {
+        let bots = self.rules.facts(&self.plan).as_slice();
+        match refusal(&self.state, bots, &step.what)? {
+            Some(_) => Ok(false),
+            None => Ok(
+                is_in_time(self.state.latest, step.moment)
+                    && shows(&self.state, bots, step.moment, &step.what),
+            ),
+        }
+    }
+
+    /// A copy of the state.
+    pub fn base(&self) -> Result<Base, OutOfMemory>
+        ensures { IfOk result (λ base. base ≡ self.now.state) }
+    {
+        to_base(self.alloc, &self.state)
+    }
+}

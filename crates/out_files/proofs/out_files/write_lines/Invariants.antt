@@ -1,0 +1,14 @@
+use Rattle.std.proofs.Common.{◌≡◌, ◌≤◌, ◌+◌, length, take, Some}
+use Rattle.edge_traits.specs.Disk.{Image}
+use Rattle.out_files.specs.Output.{lines_text, completed}
+use Rattle.out_files.specs.Run.{RunsAbove, IsSoFar}
+use Rattle.out_files.proofs.out_files.write_lines.Given as goal
+
+abbrev pub invariant-lines : goal.invariant-lines
+invariant-lines g l = record {
+  above : l.sealed ≤ l.at;
+  size : l.at + length l.buffer.items ≡ l.sealed + length (lines_text (take l.line-index l.line-items));
+  text : (files after : Image) → (g.D.Disk.disk l.fn.disk).told ≡ Some files → (g.D.Disk.disk l.disk).told ≡ Some after
+      → IsSoFar (after l.file) l.at l.buffer.items (completed (files l.file) l.sealed (take l.line-index l.line-items));
+  run : RunsAbove l.file l.sealed (g.D.Disk.disk l.fn.disk) (g.D.Disk.disk l.disk) (g.D.Disk.may_leave l.fn.disk) (g.D.Disk.may_leave l.disk) (g.D.Disk.left_since l.fn.disk) (g.D.Disk.left_since l.disk);
+}

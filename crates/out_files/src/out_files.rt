@@ -1,0 +1,146 @@
+ghost use Rattle.std.specs.Prelude.{◌≡◌, ◌≢◌, ◌<◌, ◌≤◌, ◌+◌, ◌^◌, ◌++◌, [], ◌∷◌, ℕ, List, length, take, Some, IfOk, IfErr, OnOk, IsErr, IsErrOf};
+ghost use Rattle.edge_traits.specs.Count.{Rose};
+ghost use Rattle.edge_traits.specs.Disk.{Image, ChangesOnly, Adds, Only, Leaves};
+ghost use Rattle.out_files.specs.Output.{lines_text, completed, KeepsFront, IsFaultOf};
+ghost use Rattle.out_files.specs.Run.{RunsAbove, IsSoFar};
+
+use base_types::LineList;
+use edge_traits::{Disk, Failed};
+use std::alloc::{AllocError, Global};
+
+// The lines are gathered, and written out once there are so many bytes of them.
+const PIECE: usize = 65_536;
+
+/// Why an output file could not be completed.
+#[derive(Clone, Copy, Debug, PartialEq, Eq)]
+pub enum OutFault {
+    Disk,
+    /// The file has this many bytes, fewer than are sealed.
+    Short { have: u64 },
+    OutOfMemory,
+}
+
+impl From<Failed> for OutFault {
+    ghost use Rattle.out_files.specs.declared.out_files.OutFault.TheVariants as fault;
+
+    ghost from_gives = { λ _ e. e ≡ fault.Disk };
+
+    fn from(_: Failed) -> Self {
+        OutFault::Disk
+    }
+}
+
+impl From<AllocError> for OutFault {
+    ghost use Rattle.out_files.specs.declared.out_files.OutFault.TheVariants as fault;
+
+    ghost from_gives = { λ _ e. e ≡ fault.OutOfMemory };
+
+    fn from(_: AllocError) -> Self {
+        OutFault::OutOfMemory
+    }
+}
+
+/// Completes an output file: its first `sealed` bytes, and then the lines, each with a newline, and nothing else. It
+/// syncs the file and answers its length in bytes. Nothing is written below the sealed length, so that a crash keeps
+/// what is sealed.
+///
+/// # Errors
+///
+/// `Short` where the file has fewer bytes than are sealed; it stays as it is. `Disk`, `OutOfMemory`.
+pub fn bring_up<D: Disk>(
+    alloc: Global,
+    disk: &mut D,
+    file: u64,
+    sealed: u64,
+    lines: &LineList,
+) -> Result<u64, OutFault>
+    requires { sealed + length (lines_text lines.now) ≤ 2 ^ 63 }
+    ensures length { IfOk result (λ n. n ≡ sealed + length (lines_text lines.now)) }
+    ensures completed { (files after : Image) → (D.disk disk.old).told ≡ Some files → (D.disk disk.new).told ≡ Some after
+        → OnOk result (after file ≡ completed (files file) sealed lines.now) }
+    ensures durable { (after : Image) → (D.disk disk.new).told ≡ Some after → OnOk result (Only (after file) (D.may_leave disk.new file)) }
+    ensures fault { (files : Image) → (D.disk disk.old).told ≡ Some files → IfErr result (IsFaultOf (files file) sealed) }
+    ensures long { (files : Image) → (D.disk disk.old).told ≡ Some files → OnOk result (sealed ≤ length (files file)) }
+    ensures short { (have : ℕ) → IsErrOf result (OutFault.Short have) → (D.disk disk.new).told ≡ (D.disk disk.old).told }
+    ensures elsewhere { (files : Image) → (D.disk disk.old).told ≡ Some files → ChangesOnly files (D.disk disk.new).told file }
+    ensures crash_elsewhere { Adds (D.may_leave disk.old) (D.may_leave disk.new) (λ other. other ≢ file) }
+
+    // Sealed bytes that every image has at the start are kept by a crash at any moment.
+    ensures any_moment { (front : List ℕ) → length front ≡ sealed → ((c : List ℕ) → D.may_leave disk.old file c → take sealed c ≡ front)
+        → Leaves (D.disk disk.old).moment (D.disk disk.new).moment (D.left_since disk.old) (D.left_since disk.new)
+        (KeepsFront front file (D.may_leave disk.old)) }
+    ensures failed { IsErrOf result OutFault.Disk → Rose (D.disk disk.old).faults (D.disk disk.new).faults }
+    ensures count { (D.disk disk.old).faults ≤ (D.disk disk.new).faults }
+{
+    let have = disk.len(file)?;
+    if have < sealed {
+        return Err(OutFault::Short { have });
+    }
+    let end = write_lines(alloc, disk, file, sealed, lines)?;
+    disk.cut(file, end)?;
+    disk.sync(file)?;
+    Ok(end)
+}
+
+// Writes the lines from the sealed length on, and answers the offset behind them. Older bytes may be left there.
+fn write_lines<D: Disk>(
+    alloc: Global,
+    disk: &mut D,
+    file: u64,
+    sealed: u64,
+    lines: &LineList,
+) -> Result<u64, OutFault>
+    requires small { sealed + length (lines_text lines.now) ≤ 2 ^ 63 }
+    requires within { (files : Image) → (D.disk disk.old).told ≡ Some files → sealed ≤ length (files file) }
+    ensures end { IfOk result (λ n. n ≡ sealed + length (lines_text lines.now)) }
+    ensures written { (files after : Image) → (D.disk disk.old).told ≡ Some files → (D.disk disk.new).told ≡ Some after
+        → IfOk result (λ n. IsSoFar (after file) n [] (completed (files file) sealed lines.now)) }
+    ensures run { RunsAbove file sealed (D.disk disk.old) (D.disk disk.new) (D.may_leave disk.old) (D.may_leave disk.new) (D.left_since disk.old) (D.left_since disk.new) }
+    ensures not_short { (have : ℕ) → IsErrOf result (OutFault.Short have) → ⊥ }
+    ensures failed { IsErrOf result OutFault.Disk → Rose (D.disk disk.old).faults (D.disk disk.new).faults }
+{
+    let mut buffer = Vec::new(alloc);
+    let mut at = sealed;
+    'lines: for line in lines.as_slice() {
+        push_line(&mut buffer, line.bytes())?;
+        at = write_out(disk, file, at, &mut buffer, PIECE)?;
+    }
+    Ok(write_out(disk, file, at, &mut buffer, 1)?)
+}
+
+fn push_line(buffer: &mut Vec<u8>, line: &[u8]) -> Result<(), AllocError>
+    ensures { OnOk result (buffer.new.items ≡ buffer.old.items ++ line.now ++ 10 ∷ []) }
+{
+    buffer.extend_from_slice(line)?;
+    buffer.push(b'\n')?;
+    Ok(())
+}
+
+// Writes the gathered bytes at the offset `at` and empties the buffer, where it has at least so many. Answers the
+// offset reached.
+fn write_out<D: Disk>(
+    disk: &mut D,
+    file: u64,
+    at: u64,
+    buffer: &mut Vec<u8>,
+    least: usize,
+) -> Result<u64, Failed>
+    requires some { 0 < least }
+    requires small { at + length buffer.old.items ≤ 2 ^ 63 }
+    requires within { (files : Image) → (D.disk disk.old).told ≡ Some files → at ≤ length (files file) }
+    ensures less { OnOk result (length buffer.new.items < least) }
+    ensures end { IfOk result (λ n. (at ≤ n) × (n + length buffer.new.items ≡ at + length buffer.old.items)) }
+    ensures written { (files after : Image) (text : List ℕ) → (D.disk disk.old).told ≡ Some files → (D.disk disk.new).told ≡ Some after
+        → IsSoFar (files file) at buffer.old.items text → IfOk result (λ n. IsSoFar (after file) n buffer.new.items text) }
+    ensures run { (sealed : ℕ) → sealed ≤ at
+        → RunsAbove file sealed (D.disk disk.old) (D.disk disk.new) (D.may_leave disk.old) (D.may_leave disk.new) (D.left_since disk.old) (D.left_since disk.new) }
+    ensures failed { IsErr result → Rose (D.disk disk.old).faults (D.disk disk.new).faults }
+{
+    if buffer.len() < least {
+        return Ok(at);
+    }
+    disk.write_at(file, at, buffer)?;
+    let end = at + buffer.len() as u64;
+    buffer.clear();
+    Ok(end)
+}

@@ -1,0 +1,108 @@
+-- How often a message's number stands in queues, hands and dumps.
+use Rattle.std.proofs.Common.{◌≡◌, ℕ, zero, suc, ◌+◌, Bool, true, false, cond, eqb, List, [], ◌∷◌, ◌++◌, length, map, drop, count_by, Option, Some, refl, ◌∙◌, ap, arith, find, option_map, unwrap_or}
+use Rattle.std.proofs.lemmas.List.{map-append}
+use Rattle.std.proofs.lemmas.List.Sums.{sum_by-append}
+use Rattle.base_types.specs.declared.message.Msg.{Msg}
+use Rattle.base_types.specs.declared.message.FaultNote.{FaultNote}
+use Rattle.base_types.specs.declared.message.Moment.{Moment}
+use Rattle.step_code.specs.declared.base.Queue.{Queue}
+use Rattle.step_code.specs.declared.base.Hand.{Hand}
+use Rattle.step_code.specs.Lists.{changed, without}
+use Rattle.step_code.specs.State.{queued, is_queue, is_hand}
+use Rattle.step_code.specs.After.{put, put_all, numbered}
+use Rattle.step_code.specs.Places.{waiting_numbers}
+
+-- how often n stands in a list
+abbrev pub times : ℕ → List ℕ → ℕ
+times n numbers = count_by (λ other. eqb other n) numbers
+
+pub times-append : (n : ℕ) (a b : List ℕ) → times n (a ++ b) ≡ times n a + times n b
+times-append n a b = sum_by-append (λ other. cond (eqb other n) 1 0) a b
+
+pub times-cons : (n x : ℕ) (b : List ℕ) → times n (x ∷ b) ≡ times n (x ∷ []) + times n b
+times-cons n x b = times-append n (x ∷ []) b
+
+-- so many numbers from this one on
+abbrev pub numbers_from : ℕ → ℕ → List ℕ
+numbers_from next zero = []
+numbers_from next (suc k) = next ∷ numbers_from (suc next) k
+
+pub numbers_from-append : (next j k : ℕ) → numbers_from next (j + k) ≡ numbers_from next j ++ numbers_from (next + j) k
+numbers_from-append next zero k =
+    let none : 0 + k ≡ k = omega arith in
+    let here : next ≡ next + 0 = omega arith in
+    ap (numbers_from next) none ∙ ap (λ n. numbers_from n k) here
+numbers_from-append next (suc j) k =
+    let one : suc j + k ≡ suc (j + k) = omega arith in
+    let there : suc next + j ≡ next + suc j = omega arith in
+    ap (numbers_from next) one ∙ ap (λ (l : List ℕ). next ∷ l) (numbers_from-append (suc next) j k) ∙ ap (λ n. next ∷ numbers_from (suc next) j ++ numbers_from n k) there
+
+abbrev waits : ℕ → List Queue → ℕ
+waits n queues = times n (waiting_numbers queues)
+
+waits-cons : (n : ℕ) (q : Queue) (queues : List Queue) → waits n (q ∷ queues) ≡ times n (map (λ message. message.no) q.messages) + waits n queues
+waits-cons n q queues = times-append n (map (λ message. message.no) q.messages) (waiting_numbers queues)
+
+abbrev longer : Msg → Queue → Queue
+longer m q = record q { messages = q.messages ++ m ∷ [] }
+
+longer_counts : (n : ℕ) (m : Msg) (q : Queue) → times n (map (λ message. message.no) (longer m q).messages) ≡ times n (map (λ message. message.no) q.messages) + times n (m.no ∷ [])
+longer_counts n m q = ap (times n) (map-append (λ message. message.no) q.messages (m ∷ [])) ∙ times-append n (map (λ message. message.no) q.messages) (m.no ∷ [])
+
+put_here : (here : Bool) (n : ℕ) (m : Msg) (q : Queue) (queues after : List Queue) → waits n after ≡ waits n queues + times n (m.no ∷ [])
+    → waits n (cond here (longer m q ∷ queues) (q ∷ after)) ≡ waits n (q ∷ queues) + times n (m.no ∷ [])
+put_here true n m q queues after later = omega (arith, waits-cons n (longer m q) queues, waits-cons n q queues, longer_counts n m q)
+put_here false n m q queues after later = omega (arith, waits-cons n q after, waits-cons n q queues, later)
+
+-- a message that is put on a queue stands once more
+pub waits-put : (n : ℕ) (name : List ℕ) (m : Msg) (queues : List Queue) → waits n (put name m queues) ≡ waits n queues + times n (m.no ∷ [])
+waits-put n name m [] = omega (arith, times-append n (m.no ∷ []) [])
+waits-put n name m (q ∷ queues) = put_here (is_queue name q) n m q queues (put name m queues) (waits-put n name m queues)
+
+-- messages that are put on queues get the next numbers
+pub waits-put_all : (n next : ℕ) (sends : List (List ℕ × List ℕ)) (queues : List Queue) → waits n (put_all next sends queues) ≡ waits n queues + times n (numbers_from next (length sends))
+waits-put_all n next [] queues = omega arith
+waits-put_all n next (s ∷ sends) queues =
+    let m : Msg = record { no = next; body = s.1 } in
+    omega (arith, waits-put_all n (suc next) sends (put s.0 m queues), waits-put n s.0 m queues, times-cons n next (numbers_from (suc next) (length sends)))
+
+-- so do those that are put aside
+pub numbers-numbered : (next dump : ℕ) (bot : List ℕ) (now : Moment) (items : List (List ℕ × FaultNote)) → map (λ d. d.message.no) (numbered next dump bot now items) ≡ numbers_from next (length items)
+numbers-numbered next dump bot now [] = refl
+numbers-numbered next dump bot now (item ∷ items) = ap (λ l. next ∷ l) (numbers-numbered (suc next) (suc dump) bot now items)
+
+abbrev shorter : Queue → Queue
+shorter q = record q { messages = drop 1 q.messages }
+
+shorter_counts : (n : ℕ) (m : Msg) (others messages : List Msg) → messages ≡ m ∷ others → times n (map (λ message. message.no) messages) ≡ times n (map (λ message. message.no) (drop 1 messages)) + times n (m.no ∷ [])
+shorter_counts n m others messages is = rw is (omega (arith, times-cons n m.no (map (λ message. message.no) others)))
+
+taken_here : (here : Bool) (n : ℕ) (name : List ℕ) (m : Msg) (others : List Msg) (q : Queue) (queues after : List Queue)
+    → (queued name queues ≡ m ∷ others → waits n queues ≡ waits n after + times n (m.no ∷ []))
+    → unwrap_or (option_map (λ q. q.messages) (cond here (Some q) (find (is_queue name) queues))) [] ≡ m ∷ others
+    → waits n (q ∷ queues) ≡ waits n (cond here (shorter q ∷ queues) (q ∷ after)) + times n (m.no ∷ [])
+taken_here true n name m others q queues after later is = omega (arith, waits-cons n q queues, waits-cons n (shorter q) queues, shorter_counts n m others q.messages is)
+taken_here false n name m others q queues after later is = omega (arith, waits-cons n q queues, waits-cons n q after, later is)
+
+-- a message that is taken stands once less in the queues
+pub waits-taken : (n : ℕ) (name : List ℕ) (m : Msg) (others : List Msg) (queues : List Queue) → queued name queues ≡ m ∷ others
+    → waits n queues ≡ waits n (changed (is_queue name) shorter queues) + times n (m.no ∷ [])
+waits-taken n name m others [] is = absurd (cc)
+waits-taken n name m others (q ∷ queues) is = taken_here (is_queue name q) n name m others q queues (changed (is_queue name) shorter queues) (waits-taken n name m others queues) is
+
+abbrev hand_numbers : List Hand → List ℕ
+hand_numbers hands = map (λ h. h.message.no) hands
+
+leaves_here : (here : Bool) (n : ℕ) (bot : List ℕ) (instance : ℕ) (h x : Hand) (hands after : List Hand)
+    → (find (is_hand bot instance) hands ≡ Some h → times n (hand_numbers hands) ≡ times n (hand_numbers after) + times n (h.message.no ∷ []))
+    → cond here (Some x) (find (is_hand bot instance) hands) ≡ Some h
+    → times n (hand_numbers (x ∷ hands)) ≡ times n (hand_numbers (cond here hands (x ∷ after))) + times n (h.message.no ∷ [])
+leaves_here true n bot instance h x hands after later is =
+    omega (arith, times-cons n x.message.no (hand_numbers hands), ap (λ (o : Option Hand). times n (unwrap_or (option_map (λ h. h.message.no) o) 0 ∷ [])) is)
+leaves_here false n bot instance h x hands after later is = omega (arith, times-cons n x.message.no (hand_numbers hands), times-cons n x.message.no (hand_numbers after), later is)
+
+-- what an instance holds stands once less when it leaves
+pub holds-without : (n : ℕ) (bot : List ℕ) (instance : ℕ) (h : Hand) (hands : List Hand) → find (is_hand bot instance) hands ≡ Some h
+    → times n (hand_numbers hands) ≡ times n (hand_numbers (without (is_hand bot instance) hands)) + times n (h.message.no ∷ [])
+holds-without n bot instance h [] is = absurd (cc)
+holds-without n bot instance h (x ∷ hands) is = leaves_here (is_hand bot instance x) n bot instance h x hands (without (is_hand bot instance) hands) (holds-without n bot instance h hands) is

@@ -1,0 +1,532 @@
+ghost use Rattle.std.specs.Prelude.{IfOk, OnOk};
+ghost use Rattle.tests_store.specs.Usable.{IsUsable};
+
+use crate::disks::{
+    CHOICES, FILE, KEPT, LONGEST, SHORTEST, check_durable, crashed, disk_with, filled, only,
+    stop_after,
+};
+use base_types::BlobList;
+use disk_journal::{AppendFault, Journal, JournalFault};
+use edge_memory::{Choice, MemDisk};
+use std::alloc::Global;
+use std::process::Abort;
+use std::test::Fail;
+
+// A journal of generation 0 with the body `z`.
+const CREATED: &[u8] = b"IMQJ\0\0\0\x01\0\0\0\0\0\0\0\0\x01\0\0\0\0\0\0\0\x01z\0";
+
+// The same with the body `ab` behind it, before its gate is opened and after that.
+const STAGED: &[u8] =
+    b"IMQJ\0\0\0\x01\0\0\0\0\0\0\0\0\x01\0\0\0\0\0\0\0\x01z\0\0\0\0\0\0\0\0\x02ab\0";
+
+const APPENDED: &[u8] =
+    b"IMQJ\0\0\0\x01\0\0\0\0\0\0\0\0\x01\0\0\0\0\0\0\0\x01z\x01\0\0\0\0\0\0\0\x02ab\0";
+
+// The offset of the gate behind the first record.
+const GATE: usize = 26;
+
+// Creates a journal with the body `z`.
+fn create(alloc: Global, disk: &mut MemDisk) -> Result<Journal, JournalFault>
+    ensures { IfOk result (λ journal. IsUsable journal disk.new) }
+{
+    let journal = Journal::create(alloc, disk, FILE, 0, b"z")?;
+    Ok(journal)
+}
+
+// Appends a body, with the memory for it.
+fn append(
+    alloc: Global,
+    disk: &mut MemDisk,
+    journal: &mut Journal,
+    body: &[u8],
+) -> Result<Result<(), AppendFault>, Fail>
+    requires { IsUsable journal.old disk.old }
+    ensures { OnOk result (IsUsable journal.new disk.new) }
+{
+    if disk.file(alloc, FILE)?.len() > 1_000_000 || body.len() > 1_000_000 {
+        return Err(Fail::from("a journal of more than a million bytes"));
+    }
+    journal.reserve(body.len() as u64)?;
+    Ok(journal.append(disk, body))
+}
+
+// Creates a journal with the body `z`, and appends `ab`.
+fn create_and_append(alloc: Global, disk: &mut MemDisk) -> Result<Result<(), AppendFault>, Fail> {
+    let mut journal = create(alloc, disk)?;
+    append(alloc, disk, &mut journal, b"ab")
+}
+
+// The bodies, each with a comma behind it.
+fn list_text(alloc: Global, bodies: &BlobList) -> Result<Vec<u8>, Fail> {
+    let mut text = Vec::new(alloc);
+    for body in bodies.as_slice() {
+        text.extend_from_slice(body.bytes())?;
+        text.push(b',')?;
+    }
+    Ok(text)
+}
+
+// Opens the journal and gives its bodies.
+fn reopened(alloc: Global, disk: &mut MemDisk) -> Result<Vec<u8>, Fail> {
+    let (_, bodies) = Journal::reopen(alloc, disk, FILE, 0)?;
+    list_text(alloc, &bodies)
+}
+
+// Where the journal is damaged, if it is.
+fn damage(alloc: Global, disk: &mut MemDisk) -> Result<Option<u64>, Fail> {
+    match Journal::reopen(alloc, disk, FILE, 0) {
+        Ok(_) => Ok(None),
+        Err(JournalFault::Damaged { at }) => Ok(Some(at)),
+        Err(_) => Err(Fail::from("neither opened nor damaged")),
+    }
+}
+
+#[test]
+fn a_new_journal_has_a_header_and_a_record(rt: HostRuntime) -> Result<(), Fail> {
+    let alloc = rt.alloc();
+    let mut disk = MemDisk::new(alloc);
+    let _journal = create(alloc, &mut disk)?;
+    assert_eq!(rt; CREATED.len(), 27);
+    assert_eq!(rt; disk.calls(), 3);
+    check_durable(&rt, alloc, &disk, CREATED)
+}
+
+#[test]
+fn a_journal_is_made_anew(rt: HostRuntime) -> Result<(), Fail> {
+    let alloc = rt.alloc();
+    let mut disk = disk_with(alloc, APPENDED)?;
+    let _journal = Journal::create(alloc, &mut disk, FILE, 0x0102_0304_0506_0708, b"")?;
+    let want = b"IMQJ\0\0\0\x01\x01\x02\x03\x04\x05\x06\x07\x08\x01\0\0\0\0\0\0\0\0\0";
+    assert_eq!(rt; disk.file(alloc, FILE)?.as_slice(), want.as_slice());
+    assert!(rt; !disk.starved());
+    Ok(())
+}
+
+// A crash after so many calls of `create_and_append`, and the file that it leaves.
+struct Crash {
+    after: u64,
+    choice: Choice,
+    file: &'static [u8],
+}
+
+const CRASHES: [Crash; 7] = [
+    Crash {
+        after: 4,
+        choice: KEPT,
+        file: STAGED,
+    },
+    Crash {
+        after: 4,
+        choice: SHORTEST,
+        file: CREATED,
+    },
+    Crash {
+        after: 4,
+        choice: LONGEST,
+        file: b"IMQJ\0\0\0\x01\0\0\0\0\0\0\0\0\x01\0\0\0\0\0\0\0\x01z\0\x01\x01\x01\x01\x01\x01\x01\x01\x01\x01\x01",
+    },
+    Crash {
+        after: 5,
+        choice: LONGEST,
+        file: STAGED,
+    },
+    Crash {
+        after: 6,
+        choice: KEPT,
+        file: APPENDED,
+    },
+    Crash {
+        after: 6,
+        choice: SHORTEST,
+        file: STAGED,
+    },
+    Crash {
+        after: 6,
+        choice: LONGEST,
+        file: APPENDED,
+    },
+];
+
+#[test]
+fn an_append_makes_four_calls(rt: HostRuntime) -> Result<(), Fail> {
+    let alloc = rt.alloc();
+    let mut disk = MemDisk::new(alloc);
+    assert_eq!(rt; create_and_append(alloc, &mut disk)?, Ok(()));
+    assert_eq!(rt; APPENDED.len(), 38);
+    assert_eq!(rt; disk.calls(), 7);
+    check_durable(&rt, alloc, &disk, APPENDED)?;
+    for crash in &CRASHES {
+        let crashed = crashed(alloc, &disk, crash.after, &crash.choice)?;
+        assert_eq!(rt; crashed.file(alloc, FILE)?.as_slice(), crash.file);
+    }
+    assert!(rt; !disk.starved());
+    Ok(())
+}
+
+// What the write of a gate may leave in its place, and the bodies and the file that `reopen` makes of it.
+struct Gate {
+    byte: u8,
+    bodies: &'static str,
+    file: &'static [u8],
+}
+
+const GATES: [Gate; 4] = [
+    Gate {
+        byte: 0,
+        bodies: "z,",
+        file: CREATED,
+    },
+    Gate {
+        byte: 1,
+        bodies: "z,ab,",
+        file: APPENDED,
+    },
+    Gate {
+        byte: 7,
+        bodies: "z,",
+        file: b"IMQJ\0\0\0\x01\0\0\0\0\0\0\0\0\x01\0\0\0\0\0\0\0\x01z\x07",
+    },
+    Gate {
+        byte: 255,
+        bodies: "z,",
+        file: b"IMQJ\0\0\0\x01\0\0\0\0\0\0\0\0\x01\0\0\0\0\0\0\0\x01z\xff",
+    },
+];
+
+// A disk on which the write of the gate, the third call of an append, was the last.
+fn disk_with_gate(alloc: Global, byte: u8) -> Result<MemDisk, Fail> {
+    let mut disk = MemDisk::new(alloc);
+    stop_after(alloc, &mut disk, 6);
+    match create_and_append(alloc, &mut disk)? {
+        Ok(()) => Err(Fail::from("an append on a disk that stopped")),
+        Err(_) => crashed(alloc, &disk, 6, &filled(byte)),
+    }
+}
+
+#[test]
+fn a_gate_counts_where_it_is_open(rt: HostRuntime) -> Result<(), Fail> {
+    let alloc = rt.alloc();
+    for gate in &GATES {
+        let mut disk = disk_with_gate(alloc, gate.byte)?;
+        assert_eq!(rt; disk.file(alloc, FILE)?.len(), APPENDED.len());
+        assert_eq!(rt; disk.file(alloc, FILE)?.get(GATE), Some(&gate.byte));
+        assert_eq!(rt;
+            reopened(alloc, &mut disk)?.as_slice(),
+            gate.bodies.as_bytes()
+        );
+        check_durable(&rt, alloc, &disk, gate.file)?;
+        assert!(rt; !disk.starved());
+    }
+    Ok(())
+}
+
+// Crashes after each call that the disk made, and opens the journal.
+fn check_crashes(rt: &impl Abort, alloc: Global, disk: &MemDisk, bodies: &str) -> Result<(), Fail> {
+    for after in 0..=disk.calls() {
+        for choice in &CHOICES {
+            let mut crashed = crashed(alloc, disk, after, choice)?;
+            assert_eq!(rt;
+                reopened(alloc, &mut crashed)?.as_slice(),
+                bodies.as_bytes(),
+                "a crash after {after} calls"
+            );
+        }
+    }
+    Ok(())
+}
+
+#[test]
+fn a_crash_while_it_opens_changes_no_body(rt: HostRuntime) -> Result<(), Fail> {
+    let alloc = rt.alloc();
+    for gate in &GATES {
+        let mut disk = disk_with_gate(alloc, gate.byte)?;
+        reopened(alloc, &mut disk)?;
+        check_crashes(&rt, alloc, &disk, gate.bodies)?;
+    }
+    Ok(())
+}
+
+// A file, and the bodies in it or where it is damaged.
+struct Case {
+    file: &'static [u8],
+    bodies: &'static str,
+    damaged: Option<u64>,
+}
+
+const CASES: [Case; 17] = [
+    // No header.
+    Case {
+        file: b"",
+        bodies: "",
+        damaged: Some(0),
+    },
+    Case {
+        file: b"IMQJ\0\0\0\x01\0\0\0\0\0\0\0",
+        bodies: "",
+        damaged: Some(0),
+    },
+    Case {
+        file: b"JMQJ\0\0\0\x01\0\0\0\0\0\0\0\0\x01\0\0\0\0\0\0\0\x01z\0",
+        bodies: "",
+        damaged: Some(0),
+    },
+    // Another format, and another generation.
+    Case {
+        file: b"IMQJ\0\0\0\x02\0\0\0\0\0\0\0\0\x01\0\0\0\0\0\0\0\x01z\0",
+        bodies: "",
+        damaged: Some(0),
+    },
+    Case {
+        file: b"IMQJ\0\0\0\x01\0\0\0\0\0\0\0\x01\x01\0\0\0\0\0\0\0\x01z\0",
+        bodies: "",
+        damaged: Some(0),
+    },
+    // No gate.
+    Case {
+        file: b"IMQJ\0\0\0\x01\0\0\0\0\0\0\0\0",
+        bodies: "",
+        damaged: Some(16),
+    },
+    // A closed gate, and what doesn't count behind it.
+    Case {
+        file: b"IMQJ\0\0\0\x01\0\0\0\0\0\0\0\0\0",
+        bodies: "",
+        damaged: None,
+    },
+    Case {
+        file: b"IMQJ\0\0\0\x01\0\0\0\0\0\0\0\0\x02\0\0\0\0\0\0\0\x01z\x01",
+        bodies: "",
+        damaged: None,
+    },
+    // An open gate, and a length, a body or a gate that is cut off.
+    Case {
+        file: b"IMQJ\0\0\0\x01\0\0\0\0\0\0\0\0\x01",
+        bodies: "",
+        damaged: Some(16),
+    },
+    Case {
+        file: b"IMQJ\0\0\0\x01\0\0\0\0\0\0\0\0\x01\0\0\0\0\0\0\0",
+        bodies: "",
+        damaged: Some(16),
+    },
+    Case {
+        file: b"IMQJ\0\0\0\x01\0\0\0\0\0\0\0\0\x01\0\0\0\0\0\0\0\x02z",
+        bodies: "",
+        damaged: Some(16),
+    },
+    Case {
+        file: b"IMQJ\0\0\0\x01\0\0\0\0\0\0\0\0\x01\0\0\0\0\0\0\0\x01z",
+        bodies: "",
+        damaged: Some(16),
+    },
+    Case {
+        file: b"IMQJ\0\0\0\x01\0\0\0\0\0\0\0\0\x01\xff\xff\xff\xff\xff\xff\xff\xffz\0",
+        bodies: "",
+        damaged: Some(16),
+    },
+    // A second record that is cut off.
+    Case {
+        file: b"IMQJ\0\0\0\x01\0\0\0\0\0\0\0\0\x01\0\0\0\0\0\0\0\x01z\x01\0\0\0\0\0\0\0\x02ab",
+        bodies: "",
+        damaged: Some(26),
+    },
+    // Whole records.
+    Case {
+        file: CREATED,
+        bodies: "z,",
+        damaged: None,
+    },
+    Case {
+        file: APPENDED,
+        bodies: "z,ab,",
+        damaged: None,
+    },
+    Case {
+        file: b"IMQJ\0\0\0\x01\0\0\0\0\0\0\0\0\x01\0\0\0\0\0\0\0\0\x01\0\0\0\0\0\0\0\0\xff",
+        bodies: ",,",
+        damaged: None,
+    },
+];
+
+fn check_case(rt: &impl Abort, alloc: Global, case: &Case) -> Result<(), Fail> {
+    let mut disk = disk_with(alloc, case.file)?;
+    assert_eq!(rt; damage(alloc, &mut disk)?, case.damaged);
+    if case.damaged.is_some() {
+        assert_eq!(rt;
+            disk.file(alloc, FILE)?.as_slice(),
+            case.file,
+            "nothing is cut"
+        );
+    } else {
+        assert_eq!(rt;
+            reopened(alloc, &mut disk)?.as_slice(),
+            case.bodies.as_bytes()
+        );
+        check_crashes(rt, alloc, &disk, case.bodies)?;
+    }
+    assert!(rt; !disk.starved());
+    Ok(())
+}
+
+#[test]
+fn damage_is_told_where_it_is(rt: HostRuntime) -> Result<(), Fail> {
+    for case in &CASES {
+        check_case(&rt, rt.alloc(), case)?;
+    }
+    Ok(())
+}
+
+#[test]
+fn each_byte_of_the_header_counts(rt: HostRuntime) -> Result<(), Fail> {
+    let alloc = rt.alloc();
+    for i in 0..16usize {
+        let mut bytes = CREATED.to_vec(alloc)?;
+        if i < bytes.len() {
+            bytes[i] ^= 1;
+        }
+        let mut disk = disk_with(alloc, &bytes)?;
+        assert_eq!(rt; damage(alloc, &mut disk)?, Some(0), "with another byte {i}");
+    }
+    Ok(())
+}
+
+// Creates a journal on a disk on which this call is to fail, one of an append's, and appends `ab` twice.
+fn fail_in_append(rt: &impl Abort, alloc: Global, number: u64) -> Result<MemDisk, Fail> {
+    let mut disk = MemDisk::new(alloc);
+    let fail = only(alloc, number)?;
+    disk.plan(fail, None);
+    let mut journal = create(alloc, &mut disk)?;
+    assert_eq!(rt;
+        append(alloc, &mut disk, &mut journal, b"ab")?,
+        Err(AppendFault::Disk)
+    );
+    assert_eq!(rt; disk.calls(), number);
+    assert_eq!(rt;
+        append(alloc, &mut disk, &mut journal, b"ab")?,
+        Err(AppendFault::Broken)
+    );
+    assert_eq!(rt; disk.calls(), number, "a broken journal makes no call");
+    Ok(disk)
+}
+
+fn is_old_or_new(bodies: &[u8]) -> bool {
+    bodies == b"z,".as_slice() || bodies == b"z,ab,".as_slice()
+}
+
+#[test]
+fn a_failed_append_breaks_the_journal(rt: HostRuntime) -> Result<(), Fail> {
+    let alloc = rt.alloc();
+    for number in 4..8u64 {
+        let mut disk = fail_in_append(&rt, alloc, number)?;
+        for choice in &CHOICES {
+            let mut crashed = crashed(alloc, &disk, number, choice)?;
+            assert!(rt; is_old_or_new(&reopened(alloc, &mut crashed)?));
+        }
+        assert!(rt; is_old_or_new(&reopened(alloc, &mut disk)?));
+    }
+    Ok(())
+}
+
+#[test]
+fn a_failed_create_or_reopen_answers_disk(rt: HostRuntime) -> Result<(), Fail> {
+    let alloc = rt.alloc();
+    for number in 1..4u64 {
+        let mut disk = MemDisk::new(alloc);
+        let fail = only(alloc, number)?;
+        disk.plan(fail, None);
+        let created = create(alloc, &mut disk);
+        assert!(rt; matches!(created, Err(JournalFault::Disk)));
+        assert_eq!(rt; disk.calls(), number);
+    }
+    let mut disk = disk_with(alloc, APPENDED)?;
+    reopened(alloc, &mut disk)?;
+    for number in 1..=disk.calls() {
+        let mut failing = disk_with(alloc, APPENDED)?;
+        let fail = only(alloc, number)?;
+        failing.plan(fail, None);
+        let opened = Journal::reopen(alloc, &mut failing, FILE, 0);
+        assert!(rt; matches!(opened, Err(JournalFault::Disk)));
+        assert_eq!(rt; failing.calls(), number);
+        assert_eq!(rt;
+            reopened(alloc, &mut failing)?.as_slice(),
+            b"z,ab,".as_slice()
+        );
+    }
+    Ok(())
+}
+
+const BODIES: [&str; 3] = ["a", "", "ccc"];
+
+// The bodies that stand after so many acknowledged records.
+const LISTS: [&str; 5] = ["", "z,", "z,a,", "z,a,,", "z,a,,ccc,"];
+
+// Creates a journal, appends three bodies and opens it again, until the disk fails. Answers how many records were
+// acknowledged.
+fn run(alloc: Global, disk: &mut MemDisk) -> Result<usize, Fail> {
+    let Ok(mut journal) = create(alloc, disk) else {
+        return Ok(0);
+    };
+    let mut acknowledged = 1;
+    'bodies: for body in &BODIES {
+        if append(alloc, disk, &mut journal, body.as_bytes())?.is_err() {
+            return Ok(acknowledged);
+        }
+        acknowledged += 1;
+    }
+    let _ = Journal::reopen(alloc, disk, FILE, 0);
+    Ok(acknowledged)
+}
+
+// Opens the journal after a crash: the acknowledged records stand in it, and at most one more.
+fn check_opened(
+    rt: &impl Abort,
+    alloc: Global,
+    disk: &mut MemDisk,
+    acknowledged: usize,
+) -> Result<(), Fail> {
+    if acknowledged == 0 {
+        // Any answer may come.
+        let _ = Journal::reopen(alloc, disk, FILE, 0);
+        return Ok(());
+    }
+    let bodies = reopened(alloc, disk)?;
+    let lists = LISTS.get(acknowledged..).unwrap_or(&[]);
+    let stands = lists
+        .iter()
+        .take(2)
+        .any(|list| list.as_bytes() == bodies.as_slice());
+    assert!(rt; stands);
+    Ok(())
+}
+
+// Crashes a disk that stopped after so many calls, there and after the call that failed.
+fn check_run(
+    rt: &impl Abort,
+    alloc: Global,
+    disk: &MemDisk,
+    stop: u64,
+    acknowledged: usize,
+) -> Result<(), Fail> {
+    for after in stop..=disk.calls() {
+        for choice in &CHOICES {
+            let mut crashed = crashed(alloc, disk, after, choice)?;
+            check_opened(rt, alloc, &mut crashed, acknowledged)?;
+        }
+    }
+    Ok(())
+}
+
+#[test]
+fn crashes_keep_what_was_acknowledged(rt: HostRuntime) -> Result<(), Fail> {
+    let alloc = rt.alloc();
+    let mut whole = MemDisk::new(alloc);
+    assert_eq!(rt; run(alloc, &mut whole)?, 4);
+    assert!(rt; !whole.starved());
+    for stop in 0..=whole.calls() {
+        let mut disk = MemDisk::new(alloc);
+        stop_after(alloc, &mut disk, stop);
+        let acknowledged = run(alloc, &mut disk)?;
+        check_run(&rt, alloc, &disk, stop, acknowledged)?;
+    }
+    Ok(())
+}

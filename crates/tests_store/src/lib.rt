@@ -1,0 +1,9 @@
+//! Tests of the store: journals and output files over the disk in memory.
+#![tactic(auto)]
+
+#[cfg(test)]
+mod disks;
+#[cfg(test)]
+mod journals;
+#[cfg(test)]
+mod outputs;

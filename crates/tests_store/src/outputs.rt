@@ -1,0 +1,283 @@
+ghost use Rattle.std.specs.Prelude.{◌≡◌, IfOk};
+ghost use Rattle.out_files.specs.Output.{lines_text};
+
+use crate::disks::{CHOICES, FILE, check_durable, crashed, disk_with, only};
+use base_types::{Blob, LineList};
+use edge_memory::MemDisk;
+use out_files::{OutFault, bring_up};
+use std::alloc::Global;
+use std::process::Abort;
+use std::test::Fail;
+
+fn push(alloc: Global, lines: &mut LineList, line: &[u8]) -> Result<(), Fail> {
+    let line = Blob::new(alloc, line)?;
+    if lines.push(line).is_err() {
+        return Err(Fail::from("memory"));
+    }
+    Ok(())
+}
+
+// The lines, each with a newline behind it.
+fn text_of(alloc: Global, lines: &LineList) -> Result<Vec<u8>, Fail>
+    ensures { IfOk result (λ text. text.items ≡ lines_text lines.now) }
+{
+    let mut text = Vec::new(alloc);
+    'lines: for line in lines.as_slice() {
+        text.extend_from_slice(line.bytes())?;
+        text.push(b'\n')?;
+    }
+    Ok(text)
+}
+
+fn complete(
+    alloc: Global,
+    disk: &mut MemDisk,
+    sealed: u64,
+    lines: &LineList,
+) -> Result<Result<u64, OutFault>, Fail> {
+    if sealed > 1_000_000 || text_of(alloc, lines)?.len() > 1_000_000 {
+        return Err(Fail::from("a file of more than a million bytes"));
+    }
+    Ok(bring_up(alloc, disk, FILE, sealed, lines))
+}
+
+// A file, how much of it is sealed, and the lines with which it is completed.
+struct Row {
+    file: &'static str,
+    sealed: u64,
+    lines: &'static [&'static str],
+    completed: &'static str,
+}
+
+const ROWS: [Row; 8] = [
+    Row {
+        file: "",
+        sealed: 0,
+        lines: &["ab", "c"],
+        completed: "ab\nc\n",
+    },
+    Row {
+        file: "",
+        sealed: 0,
+        lines: &[],
+        completed: "",
+    },
+    // A tail that is longer than the lines, one that is shorter, and one that is as long.
+    Row {
+        file: "head\na long torn tail",
+        sealed: 5,
+        lines: &["x"],
+        completed: "head\nx\n",
+    },
+    Row {
+        file: "head\nt",
+        sealed: 5,
+        lines: &["one", "two"],
+        completed: "head\none\ntwo\n",
+    },
+    Row {
+        file: "head\none\n",
+        sealed: 5,
+        lines: &["two"],
+        completed: "head\ntwo\n",
+    },
+    Row {
+        file: "head\n",
+        sealed: 5,
+        lines: &["x"],
+        completed: "head\nx\n",
+    },
+    Row {
+        file: "head\ntail",
+        sealed: 5,
+        lines: &[],
+        completed: "head\n",
+    },
+    Row {
+        file: "head\n",
+        sealed: 5,
+        lines: &["", ""],
+        completed: "head\n\n\n",
+    },
+];
+
+fn lines_of(alloc: Global, row: &Row) -> Result<LineList, Fail> {
+    let mut lines = LineList::new(alloc);
+    for line in row.lines {
+        push(alloc, &mut lines, line.as_bytes())?;
+    }
+    Ok(lines)
+}
+
+// Completes the file, and looks at its length and its bytes.
+fn check_completed(
+    rt: &impl Abort,
+    alloc: Global,
+    disk: &mut MemDisk,
+    row: &Row,
+    lines: &LineList,
+) -> Result<(), Fail> {
+    assert_eq!(rt;
+        complete(alloc, disk, row.sealed, lines)?,
+        Ok(row.completed.len() as u64)
+    );
+    assert_eq!(rt;
+        disk.file(alloc, FILE)?.as_slice(),
+        row.completed.as_bytes()
+    );
+    assert!(rt; !disk.starved());
+    Ok(())
+}
+
+// Crashes after each call that the disk made: what is sealed stands, and the file can be completed again.
+fn check_crashes(
+    rt: &impl Abort,
+    alloc: Global,
+    disk: &MemDisk,
+    row: &Row,
+    lines: &LineList,
+) -> Result<(), Fail> {
+    let sealed = row
+        .file
+        .as_bytes()
+        .get(..row.sealed as usize)
+        .unwrap_or(b"");
+    for after in 0..=disk.calls() {
+        for choice in &CHOICES {
+            let mut crashed = crashed(alloc, disk, after, choice)?;
+            assert!(rt;
+                crashed.file(alloc, FILE)?.starts_with(sealed),
+                "a crash after {after} calls"
+            );
+            check_completed(rt, alloc, &mut crashed, row, lines)?;
+        }
+    }
+    Ok(())
+}
+
+#[test]
+fn a_file_is_completed(rt: HostRuntime) -> Result<(), Fail> {
+    let alloc = rt.alloc();
+    for row in &ROWS {
+        let lines = lines_of(alloc, row)?;
+        let mut disk = disk_with(alloc, row.file.as_bytes())?;
+        check_completed(&rt, alloc, &mut disk, row, &lines)?;
+        check_crashes(&rt, alloc, &disk, row, &lines)?;
+    }
+    Ok(())
+}
+
+#[test]
+fn each_call_may_fail(rt: HostRuntime) -> Result<(), Fail> {
+    let alloc = rt.alloc();
+    for row in &ROWS {
+        let lines = lines_of(alloc, row)?;
+        let mut whole = disk_with(alloc, row.file.as_bytes())?;
+        check_completed(&rt, alloc, &mut whole, row, &lines)?;
+        for number in 1..=whole.calls() {
+            let mut disk = disk_with(alloc, row.file.as_bytes())?;
+            let fail = only(alloc, number)?;
+            disk.plan(fail, None);
+            assert_eq!(rt;
+                complete(alloc, &mut disk, row.sealed, &lines)?,
+                Err(OutFault::Disk)
+            );
+            assert_eq!(rt; disk.calls(), number);
+            check_crashes(&rt, alloc, &disk, row, &lines)?;
+            check_completed(&rt, alloc, &mut disk, row, &lines)?;
+        }
+    }
+    Ok(())
+}
+
+#[test]
+fn a_short_file_stays(rt: HostRuntime) -> Result<(), Fail> {
+    let alloc = rt.alloc();
+    let mut lines = LineList::new(alloc);
+    push(alloc, &mut lines, b"x")?;
+    for sealed in 4..7u64 {
+        let mut disk = disk_with(alloc, b"abc")?;
+        assert_eq!(rt;
+            complete(alloc, &mut disk, sealed, &lines)?,
+            Err(OutFault::Short { have: 3 })
+        );
+        assert_eq!(rt; disk.file(alloc, FILE)?.as_slice(), b"abc".as_slice());
+    }
+    Ok(())
+}
+
+// How many lines of how many bytes, and the calls that they take: a look at the length, the writes, a cut and a sync.
+struct Large {
+    lines: usize,
+    bytes: usize,
+    calls: u64,
+}
+
+const LARGES: [Large; 6] = [
+    Large {
+        lines: 1,
+        bytes: 65_534,
+        calls: 4,
+    },
+    Large {
+        lines: 1,
+        bytes: 65_535,
+        calls: 4,
+    },
+    Large {
+        lines: 2,
+        bytes: 65_534,
+        calls: 4,
+    },
+    Large {
+        lines: 2,
+        bytes: 65_535,
+        calls: 5,
+    },
+    Large {
+        lines: 70,
+        bytes: 1_000,
+        calls: 5,
+    },
+    Large {
+        lines: 3,
+        bytes: 100_000,
+        calls: 6,
+    },
+];
+
+fn lines_like(alloc: Global, large: &Large) -> Result<LineList, Fail> {
+    let line = vec![in alloc; b'x'; large.bytes]?;
+    let mut lines = LineList::new(alloc);
+    for _ in 0..large.lines {
+        push(alloc, &mut lines, &line)?;
+    }
+    Ok(lines)
+}
+
+fn check_large(rt: &impl Abort, alloc: Global, large: &Large) -> Result<(), Fail> {
+    let lines = lines_like(alloc, large)?;
+    let mut want = b"head\n".as_slice().to_vec(alloc)?;
+    want.extend_from_slice(&text_of(alloc, &lines)?)?;
+    let mut disk = disk_with(alloc, b"head\ntail")?;
+    let end = complete(alloc, &mut disk, 5, &lines)?;
+    assert_eq!(rt; end, Ok(want.len() as u64));
+    assert!(rt; disk.file(alloc, FILE)?.as_slice() == want.as_slice());
+    assert_eq!(rt; disk.calls(), large.calls);
+    assert!(rt; !disk.starved());
+    for after in 0..=disk.calls() {
+        for choice in &CHOICES {
+            let crashed = crashed(alloc, &disk, after, choice)?;
+            assert!(rt; crashed.file(alloc, FILE)?.starts_with(b"head\n"));
+        }
+    }
+    Ok(())
+}
+
+#[test]
+fn long_texts_take_several_writes(rt: HostRuntime) -> Result<(), Fail> {
+    for large in &LARGES {
+        check_large(&rt, rt.alloc(), large)?;
+    }
+    Ok(())
+}
