@@ -14,8 +14,8 @@ use crate::state::State;
 use base_types::{Blob, BotName, Moment, queue_of};
 use step_code::{CacheRule, Facts, StepKind};
 
-// The last second of the year 9999.
-const LAST_MOMENT: u64 = 253_402_300_799;
+// The last second of the year 9999, as a moment.
+pub const LAST_MOMENT: u64 = 253_402_300_799;
 
 // No feed is read behind this offset.
 const LONGEST_FEED: u64 = 1_073_741_824;

@@ -267,6 +267,17 @@ impl<R: Rules> Core<R> {
         }
     }
 
+    /// What refuses the step, if it doesn't fit.
+    pub fn refusal(&self, step: &Step) -> Result<Option<StepRefusal>, OutOfMemory>
+        ensures { IfOk result (λ refusal. refusal ≡ first_failing (parts (R.meaning self.now.rules) self.now.state step.now.what)) }
+    {
+        refusal(
+            &self.state,
+            self.rules.facts(&self.plan).as_slice(),
+            &step.what,
+        )
+    }
+
     /// Whether a stored step may be replayed: it fits, its moment is in order, and what shows of its content is right.
     /// It doesn't ask the rules what they give.
     pub fn fits(&self, step: &Step) -> Result<bool, OutOfMemory>

@@ -7,6 +7,7 @@ ghost use Rattle.step_code.specs.State.{is_feed, is_out, is_queue};
 ghost use Rattle.journal_book.specs.SoundTests.{are_distinct, bots_have_places, counts_are_within, do_not_fall, dumps_are_sound, hands_are_sound, has_feed, has_output, is_sound_cache, is_short, is_sound_hand, is_sound_under, is_within, parts_are_within, rise};
 
 use crate::code_length::base_length;
+use crate::content::LAST_MOMENT;
 use crate::distinct::{are_apart_below, keys_differ, names_differ};
 use crate::facts::{collects, is_instance, writes};
 use crate::standing::standing;
@@ -16,9 +17,6 @@ use step_code::{Base, BotCache, Facts, Feed, Hand, Mark, Output, Queue};
 
 /// No number in a state goes past this one, so that sums with lengths fit 64 bits.
 const LAST_NUMBER: u64 = 4_611_686_018_427_387_905;
-
-/// The last second of the year 9999.
-const LAST_MOMENT: u64 = 253_402_300_799;
 
 /// The longest code of a state, in bytes.
 const LONGEST_BASE: u64 = 268_435_456;

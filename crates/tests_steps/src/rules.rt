@@ -1,0 +1,334 @@
+//! Rules for the tests, with two bundles.
+ghost use Rattle.std.specs.Prelude.{◌≡◌, ◌∷◌, ◌++◌, [], List, ℕ, IfOk, Some, None, position, MatchOption};
+ghost use Rattle.std.specs.Str.{bytes_eq};
+ghost use Rattle.step_code.specs.Rules.{bot_named};
+ghost use Rattle.tests_steps.specs.Tiny.{bad_parts, bots_of_bundle, cache_rule, collector, deduplicator, feed_facts, given_by, is_bad, note, parser, plain_bot, report, thin_bots, tiny_bots, writer};
+
+use base_types::{
+    Blob, BotName, FaultNote, Moment, NoteList, OutOfMemory, QueueList, QueueName, SendList, Text,
+};
+use std::alloc::Global;
+use std::marker::Model;
+use step_code::{CacheRule, Facts, FactsList, FeedFacts, Given, PlanFault, Role, Rules};
+
+/// Rules that know the bundles `thin` and `tiny`.
+#[derive(Clone, Copy, Debug)]
+pub struct TinyRules;
+
+/// A bundle and its bots.
+#[derive(Debug, Drop)]
+pub struct TinyPlan {
+    bundle: Blob,
+    bots: FactsList,
+}
+
+/// A bot of a bundle, and its role.
+#[derive(Debug, Drop)]
+pub struct TinyWork {
+    bundle: Blob,
+    bot: BotName,
+    role: Role,
+}
+
+impl Model for TinyWork {
+    ghost use Rattle.std.specs.Prelude.{◌≡◌, Some, option_map};
+    ghost use Rattle.step_code.specs.Rules.{Task};
+    ghost use Rattle.tests_steps.specs.Tiny.{bot_of};
+
+    ghost Value = { Task };
+
+    ghost view = { λ w. record { bundle = w.bundle; bot = w.bot } };
+
+    ghost invariant = { λ w. option_map (λ f. f.role) (bot_of (record { bundle = w.bundle; bot = w.bot })) ≡ Some w.role };
+}
+
+fn text(alloc: Global, bytes: &[u8]) -> Result<Text, OutOfMemory>
+    ensures { IfOk result (λ text. text ≡ bytes.now) }
+{
+    match Text::new(alloc, bytes) {
+        Ok(text) => Ok(text),
+        Err(_) => Err(OutOfMemory),
+    }
+}
+
+fn queue(bytes: &[u8]) -> Result<QueueName, OutOfMemory>
+    ensures { IfOk result (λ queue. queue ≡ bytes.now) }
+{
+    match QueueName::new(bytes) {
+        Ok(queue) => Ok(queue),
+        Err(_) => Err(OutOfMemory),
+    }
+}
+
+fn plain_bot(
+    name: &[u8],
+    role: Role,
+    alloc: Global,
+    defaults: QueueList,
+) -> Result<Facts, OutOfMemory>
+    ensures { IfOk result (λ f. f ≡ plain_bot name.now role defaults) }
+{
+    let Ok(bot) = BotName::new(name) else {
+        return Err(OutOfMemory);
+    };
+    Ok(Facts {
+        bot,
+        role,
+        instances: 1,
+        retries: 3,
+        delay: 0,
+        stop: false,
+        defaults,
+        on_error: QueueList::new(alloc),
+        cache: None,
+        feed: None,
+    })
+}
+
+fn one_queue(alloc: Global, name: &[u8]) -> Result<QueueList, OutOfMemory>
+    ensures { IfOk result (λ queues. queues ≡ name.now ∷ []) }
+{
+    Ok(QueueList::from(vec![in alloc; queue(name)?]?))
+}
+
+fn two_queues(alloc: Global, first: &[u8], second: &[u8]) -> Result<QueueList, OutOfMemory>
+    ensures { IfOk result (λ queues. queues ≡ first.now ∷ second.now ∷ []) }
+{
+    Ok(QueueList::from(vec![in alloc; queue(first)?, queue(second)?]?))
+}
+
+fn collector(alloc: Global, defaults: QueueList) -> Result<Facts, OutOfMemory>
+    ensures { IfOk result (λ f. f ≡ collector defaults) }
+{
+    let mut facts = plain_bot(b"collect", Role::Collector, alloc, defaults)?;
+    facts.feed = Some(FeedFacts {
+        file: text(alloc, b"feed.csv")?,
+        chunk_size: 64,
+        replicate: false,
+    });
+    Ok(facts)
+}
+
+fn deduplicator(alloc: Global) -> Result<Facts, OutOfMemory>
+    ensures { IfOk result (λ f. f ≡ deduplicator) }
+{
+    let mut facts = plain_bot(
+        b"dedup",
+        Role::Expert,
+        alloc,
+        one_queue(alloc, b"write-queue")?,
+    )?;
+    facts.cache = Some(CacheRule {
+        ttl: 60,
+        cache_max: 2,
+    });
+    Ok(facts)
+}
+
+fn parser(alloc: Global) -> Result<Facts, OutOfMemory>
+    ensures { IfOk result (λ f. f ≡ parser) }
+{
+    let mut facts = plain_bot(
+        b"parse",
+        Role::Parser,
+        alloc,
+        one_queue(alloc, b"dedup-queue")?,
+    )?;
+    facts.instances = 2;
+    Ok(facts)
+}
+
+fn writer(alloc: Global) -> Result<Facts, OutOfMemory>
+    ensures { IfOk result (λ f. f ≡ writer) }
+{
+    plain_bot(b"write", Role::Output, alloc, QueueList::new(alloc))
+}
+
+fn thin_bots(alloc: Global) -> Result<FactsList, OutOfMemory>
+    ensures { IfOk result (λ bots. bots ≡ thin_bots) }
+{
+    let collector = collector(alloc, one_queue(alloc, b"write-queue")?)?;
+    Ok(FactsList::from(vec![in alloc; collector, writer(alloc)?]?))
+}
+
+fn tiny_bots(alloc: Global) -> Result<FactsList, OutOfMemory>
+    ensures { IfOk result (λ bots. bots ≡ tiny_bots) }
+{
+    let collector = collector(alloc, two_queues(alloc, b"parse-queue", b"write-queue")?)?;
+    let deduplicator = deduplicator(alloc)?;
+    let parser = parser(alloc)?;
+    let writer = writer(alloc)?;
+    Ok(FactsList::from(vec![in alloc; collector, deduplicator, parser, writer]?))
+}
+
+fn bots_of(alloc: Global, bundle: &[u8]) -> Result<Option<FactsList>, OutOfMemory>
+    ensures { IfOk result (λ bots. bots ≡ bots_of_bundle bundle.now) }
+{
+    if bundle == b"thin".as_slice() {
+        Ok(Some(thin_bots(alloc)?))
+    } else if bundle == b"tiny".as_slice() {
+        Ok(Some(tiny_bots(alloc)?))
+    } else {
+        Ok(None)
+    }
+}
+
+fn place_of_bot(bots: &[Facts], name: &BotName) -> Option<usize>
+    ensures { result ≡ position (λ f. bytes_eq f.bot name.now) bots.now }
+{
+    bots.iter().position(|f| f.bot == *name)
+}
+
+/// The bot of this name.
+#[tactic(auto, using(step_code::proofs::Found::find_placed, step_code::proofs::Found::find_missing))]
+pub fn bot_named<'f>(bots: &'f [Facts], name: &BotName) -> Option<&'f Facts>
+    ensures { MatchOption result (bot_named name.now bots.now ≡ None) (λ f. bot_named name.now bots.now ≡ Some f.now) }
+{
+    match place_of_bot(bots, name) {
+        Some(i) => Some(&bots[i]),
+        None => None,
+    }
+}
+
+fn is_bad(body: &[u8]) -> bool
+    ensures { result ≡ is_bad body.now }
+{
+    match body {
+        [first, ..] => *first == b'!',
+        [] => false,
+    }
+}
+
+fn note(alloc: Global) -> Result<FaultNote, OutOfMemory>
+    ensures { IfOk result (λ n. n ≡ note) }
+{
+    Ok(FaultNote {
+        code: 7,
+        text: text(alloc, b"bad")?,
+    })
+}
+
+fn bad_parts(alloc: Global, body: &Blob) -> Result<NoteList, OutOfMemory>
+    ensures { IfOk result (λ parts. parts ≡ bad_parts body.now) }
+{
+    if is_bad(body.bytes()) {
+        Ok(NoteList::from(vec![in alloc; (body.copy(alloc)?, note(alloc)?)]?))
+    } else {
+        Ok(NoteList::new(alloc))
+    }
+}
+
+// The body behind a byte.
+fn behind(alloc: Global, byte: &[u8], body: &Blob) -> Result<Blob, OutOfMemory>
+    ensures { IfOk result (λ blob. blob ≡ byte.now ++ body.now) }
+{
+    let mut blob = Blob::new(alloc, byte)?;
+    blob.append(body.bytes())?;
+    Ok(blob)
+}
+
+fn sends(alloc: Global, name: &[u8], body: Blob) -> Result<SendList, OutOfMemory>
+    ensures { IfOk result (λ sends. sends ≡ (name.now, body) ∷ []) }
+{
+    Ok(SendList::from(vec![in alloc; (queue(name)?, body)]?))
+}
+
+fn given_by(alloc: Global, role: Role, body: &Blob) -> Result<Given, OutOfMemory>
+    ensures { IfOk result (λ given. given ≡ given_by role body.now) }
+{
+    match role {
+        Role::Collector => Ok(Given::Fault(note(alloc)?)),
+        Role::Parser => Ok(Given::Pass {
+            sends: sends(alloc, b"dedup-queue", behind(alloc, b"P", body)?)?,
+            dumps: bad_parts(alloc, body)?,
+            key: None,
+            line: false,
+        }),
+        Role::Expert => Ok(Given::Pass {
+            sends: sends(alloc, b"write-queue", behind(alloc, b"D", body)?)?,
+            dumps: NoteList::new(alloc),
+            key: Some(body.copy(alloc)?),
+            line: false,
+        }),
+        Role::Output => Ok(Given::Pass {
+            sends: SendList::new(alloc),
+            dumps: NoteList::new(alloc),
+            key: None,
+            line: true,
+        }),
+    }
+}
+
+impl Rules for TinyRules {
+    ghost use Rattle.step_code.specs.Rules.{Task};
+    ghost use Rattle.tests_steps.specs.Tiny.{meaning, IsBody};
+    ghost use Rattle.tests_steps.specs.TinyLaws.{bots_are_sound, reports_are_lawful, given_fits};
+
+    type Plan = TinyPlan;
+
+    type Work = TinyWork;
+
+    ghost meaning = { λ _. meaning };
+
+    ghost lawful = { λ _. IsBody };
+
+    ghost bundle_of = { λ plan. plan.bundle };
+
+    ghost bots_of = { λ plan. plan.bots };
+
+    ghost task_of = { λ work. work };
+
+    fn plan(&self, alloc: Global, bundle: &Blob) -> Result<TinyPlan, PlanFault> {
+        match bots_of(alloc, bundle.bytes()) {
+            Ok(Some(bots)) => match bundle.copy(alloc) {
+                Ok(bundle) => Ok(TinyPlan { bundle, bots }),
+                Err(OutOfMemory) => Err(PlanFault::OutOfMemory),
+            },
+            Ok(None) => Err(PlanFault::Refused),
+            Err(OutOfMemory) => Err(PlanFault::OutOfMemory),
+        }
+    }
+
+    fn facts<'p>(&self, plan: &'p TinyPlan) -> &'p FactsList {
+        &plan.bots
+    }
+
+    fn report(
+        &self,
+        alloc: Global,
+        _plan: &TinyPlan,
+        _bot: &BotName,
+        piece: &Blob,
+        _now: Moment,
+    ) -> Result<Blob, OutOfMemory> {
+        behind(alloc, b"R", piece)
+    }
+
+    fn work(&self, alloc: Global, plan: &TinyPlan, bot: &BotName) -> Result<TinyWork, OutOfMemory> {
+        match bot_named(plan.bots.as_slice(), bot) {
+            Some(facts) => Ok(TinyWork {
+                bundle: plan.bundle.copy(alloc)?,
+                bot: *bot,
+                role: facts.role,
+            }),
+            None => Err(OutOfMemory),
+        }
+    }
+
+    #[tactic(auto, using(crate::proofs::Tiny::given_of))]
+    fn give(
+        &self,
+        alloc: Global,
+        work: &mut TinyWork,
+        body: &Blob,
+        _since: Moment,
+    ) -> Result<Given, OutOfMemory> {
+        given_by(alloc, work.role, body)
+    }
+
+    ghost bots_are_sound = { λ rules bundle bots. bots_are_sound bundle bots };
+
+    ghost reports_are_lawful = { λ rules bots task piece now loads collects. reports_are_lawful piece };
+
+    ghost given_fits = { λ rules bots facts task body since. given_fits bots facts task body };
+}
