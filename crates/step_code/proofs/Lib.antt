@@ -12,4 +12,4 @@ mod Replayable
 mod StateLaws
 mod StepLaws
 mod Steps
-mod WorkedRow
+mod Example

@@ -6,8 +6,6 @@ mod attempt;
 #[cfg(test)]
 mod build;
 #[cfg(test)]
-mod codes;
-#[cfg(test)]
 mod cores;
 #[cfg(test)]
 mod done;

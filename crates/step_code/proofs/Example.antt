@@ -1,4 +1,4 @@
--- A worked row: a piece of a feed is collected, taken, written as a line, and the feed ends. The definitions give by
+-- An example: a piece of a feed is collected, taken, written as a line, and the feed ends. The definitions give by
 -- computing what was worked out by hand.
 use Rattle.std.proofs.Common.{◌≤◌, arith, take, ◌≡◌, true, false, List, [], ◌∷◌, refl, Some, None, codes}
 use Rattle.step_code.specs.declared.base.Base.{Base}

@@ -1,0 +1,5 @@
+//! Tests of the codes of steps and states.
+#![tactic(auto)]
+
+#[cfg(test)]
+mod codes;
