@@ -1,4 +1,5 @@
 pub mod Digits
+pub mod formers
 pub mod Name
 pub mod Padded
 pub mod Scalar

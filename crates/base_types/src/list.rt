@@ -1,8 +1,9 @@
-ghost use Rattle.std.specs.Prelude.{◌≡◌, ◌<◌, List, [], ◌∷◌, ◌++◌, length, OnOk, IfErr, MatchOption, slice_get, Some};
+ghost use Rattle.std.specs.Prelude.{◌≡◌, ◌<◌, List, [], ◌∷◌, ◌++◌, ◌==◌, length, OnOk, IfErr, MatchOption, slice_get, Some};
 
 use crate::{Blob, Dump, FaultNote, OutOfMemory, QueueName, Text};
 use std::alloc::Global;
 use std::marker::Model;
+use std::slice;
 
 /// A list that grows and shrinks at its end. Contracts see the items in order.
 #[derive(Debug, Drop)]
@@ -11,7 +12,12 @@ pub struct ListOf<T> {
 }
 
 impl<T> Model for ListOf<T> {
+    ghost use Rattle.std.specs.Prelude.{List};
+    ghost use Rattle.std.specs.Coded.{coded_list};
+
     ghost Value = { List T };
+
+    ghost coded = { coded_list T.code };
 
     ghost view = { λ l. l.items.items };
 }
@@ -21,6 +27,23 @@ impl<T> From<Vec<T>> for ListOf<T> {
 
     fn from(items: Vec<T>) -> Self {
         ListOf { items }
+    }
+}
+
+impl<'a, T> IntoIterator for &'a ListOf<T> {
+    ghost use Rattle.std.specs.Prelude.{◌≡◌, ◌<◌, ◌^◌, length};
+    ghost use Rattle.std.specs.Slice.Iter.{iter_rest, iter_steps};
+    ghost use Rattle.std.specs.Iterator.Runs.{EveryRun, ItemsMapTo};
+
+    type Item = &'a T;
+
+    type IntoIter = slice::Iter<'a, T>;
+
+    ghost into_iter_gives = { λ l it. (iter_rest it ≡ l.now) × (length (iter_rest it) < 2 ^ 64)
+        × EveryRun (iter_steps {A = T}) (λ p. ItemsMapTo p (λ x. x.now) (iter_rest p.from)) };
+
+    fn into_iter(self) -> slice::Iter<'a, T> {
+        self.as_slice().iter()
     }
 }
 
@@ -56,6 +79,12 @@ impl<T> ListOf<T> {
         ensures { result ≡ length self.now }
     {
         self.items.len()
+    }
+
+    pub fn is_empty(&self) -> bool
+        ensures { result ≡ (length self.now == 0) }
+    {
+        self.items.is_empty()
     }
 
     pub fn at(&self, i: usize) -> &T
