@@ -1,7 +1,8 @@
 //! The program: its command line, and the outside as the system gives it.
 #![tactic(auto)]
 
-ghost use Rattle.std.specs.Prelude.{◌≡◌, ◌≢◌, ◌↔◌, None, false};
+ghost use Rattle.std.specs.Prelude.{◌≡◌, ◌≢◌, ◌↔◌, None, false, drop};
+ghost use Rattle.pipeline_top.specs.StatusText.{number_of};
 ghost use Rattle.pipeline_top.specs.Words.{feed_name};
 ghost use Rattle.pipeline_program.specs.CommandLine.{is_command};
 
@@ -49,11 +50,24 @@ fn main(rt: HostRuntime) -> ExitCode {
 
 // Does what the command line says. Answers the exit status.
 fn run<R: Files + Env + Clock + Print + Eprint + AllocGlobal + Drop>(rt: &R) -> u8 {
-    let status = match command_line(rt) {
-        Ok(words) => run_words(rt, &words),
-        Err(status) => status,
-    };
-    if status != Status::Done {
+    match command_line(rt) {
+        Ok(words) => exit_status(rt, &words),
+        Err(status) => told(rt, &status),
+    }
+}
+
+// Does what the words say. Answers the exit status, which is 2 exactly where they are no command.
+fn exit_status<R: Files + Clock + Print + Eprint + AllocGlobal + Drop>(rt: &R, words: &[Text]) -> u8
+    ensures { (result ≡ 2) ↔ (is_command words.now ≡ false) }
+{
+    told(rt, &run_words(rt, words))
+}
+
+// Tells how it ended, unless all is done. Answers the exit status.
+fn told<E: Eprint>(rt: &E, status: &Status) -> u8
+    ensures { result ≡ number_of status.now }
+{
+    if *status != Status::Done {
         // Nothing is left to tell of a failure here.
         let _ = eprintln!(rt; "intelpipe: {status}");
     }
@@ -83,7 +97,17 @@ fn run_words<R: Files + Clock + Print + AllocGlobal + Drop>(rt: &R, words: &[Tex
         [] => Status::Words,
         [word] if word.as_str() == "--help" => show(rt, HELP),
         [word] if word.as_str() == "--version" => show(rt, VERSION),
-        [_store, command @ ..] => run_command(rt, command),
+        _ => run_command(rt, behind_store(words)),
+    }
+}
+
+// The words behind the store's folder.
+fn behind_store(words: &[Text]) -> &[Text]
+    ensures { result.now ≡ drop 1 words.now }
+{
+    match words {
+        [] => words,
+        [_store, command @ ..] => command,
     }
 }
 

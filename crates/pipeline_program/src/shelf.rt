@@ -1,4 +1,5 @@
 ghost use Rattle.std.specs.Prelude.{◌≡◌, ◌≤◌, [], Some, None, length, IfOk};
+ghost use Rattle.std.specs.Io.KnownBytes.{ReadConsumes};
 ghost use Rattle.edge_traits.specs.Source.{SourceView};
 ghost use Rattle.pipeline_program.specs.Counts.{untold};
 
@@ -20,9 +21,11 @@ pub struct FileSource<F> {
 }
 
 impl<F: Read + Seek> FileSource<F> {
-    // Seeks only where the last read didn't end there, so that a pipe can be read too.
+    // Seeks only where the last read didn't end there, so that a pipe can be read too. Then the bytes are the next that
+    // the file has left.
     fn read_from(&mut self, at: u64, buf: &mut [u8]) -> io::Result<usize>
         ensures within { IfOk result (λ n. n ≤ length buf.new) }
+        ensures bytes { self.old.next ≡ Some at → ReadConsumes (F.remaining self.old.file) (F.remaining self.new.file) result buf.new }
         ensures name { self.new.name ≡ self.old.name }
         ensures faults { self.new.faults ≡ self.old.faults }
     {

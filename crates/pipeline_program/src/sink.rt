@@ -1,9 +1,9 @@
-ghost use Rattle.std.specs.Prelude.{◌≡◌, None};
+ghost use Rattle.std.specs.Prelude.{◌≡◌};
 
 use edge_traits::{Failed, Sink};
 use std::io::Write;
 
-/// A writer as a sink, as standard output. It doesn't tell what it has taken.
+/// A writer as a sink, as standard output. It tells what it has taken where the writer tells what it holds.
 #[derive(Drop)]
 pub struct WriterSink<W> {
     writer: W,
@@ -12,14 +12,14 @@ pub struct WriterSink<W> {
 
 impl<W: Write> WriterSink<W> {
     pub fn new(writer: W) -> Self
-        ensures { ⟦<WriterSink<W> as Sink>⟧.sink result ≡ record { told = None; faults = 0 } }
+        ensures { ⟦<WriterSink<W> as Sink>⟧.sink result ≡ record { told = W.contents writer; faults = 0 } }
     {
         WriterSink { writer, faults: 0 }
     }
 }
 
 impl<W: Write> Sink for WriterSink<W> {
-    ghost sink = { λ s. record { told = None; faults = s.faults } };
+    ghost sink = { λ s. record { told = W.contents s.writer; faults = s.faults } };
 
     fn write(&mut self, bytes: &[u8]) -> Result<usize, Failed> {
         match self.writer.write(bytes) {
