@@ -1,4 +1,5 @@
 ghost use Rattle.std.specs.Prelude.{◌≡◌, ◌<◌, List, [], ◌∷◌, ◌++◌, ◌==◌, length, OnOk, IfErr, MatchOption, slice_get, Some};
+ghost use Rattle.std.specs.Cmp.Lexicographic.{pointwise, lists_per};
 
 use crate::{Blob, Dump, FaultNote, OutOfMemory, QueueName, Text};
 use std::alloc::Global;
@@ -20,6 +21,16 @@ impl<T> Model for ListOf<T> {
     ghost coded = { coded_list T.code };
 
     ghost view = { λ l. l.items.items };
+}
+
+impl<T: PartialEq> PartialEq for ListOf<T> {
+    ghost eq = { pointwise T.eq };
+
+    ghost laws = { lists_per T.laws };
+
+    fn eq(&self, other: &ListOf<T>) -> bool {
+        self.items == other.items
+    }
 }
 
 impl<T> From<Vec<T>> for ListOf<T> {
