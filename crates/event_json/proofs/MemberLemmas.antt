@@ -1,12 +1,12 @@
 -- The members of an object, one after another.
-use Rattle.std.proofs.Common.{◌≡◌, ℕ, List, [], ◌∷◌, ◌++◌, ◌||◌, ◌&&◌, Bool, true, false, String, Global, string_bytes, string_cmp, nat_cmp, Option, Some, None, is_some, option_and_then, Less, if◌then◌else◌, refl, sym, ap, subst, ◌∙◌, append_assoc}
+use Rattle.std.proofs.Common.{◌≡◌, ℕ, nat_eq, length, List, [], ◌∷◌, ◌++◌, ◌||◌, ◌&&◌, Bool, true, false, String, Global, string_bytes, string_cmp, nat_cmp, Option, Some, None, is_some, option_and_then, Less, if◌then◌else◌, refl, sym, ap, subst, ◌∙◌, append_assoc, arith, option_map, Bor}
 use Rattle.std.specs.List.{AllByRecursion}
 use Rattle.std.specs.List.Sorted.{IsStrictlySortedBy}
 use Rattle.std.specs.Map.{keys_of}
 use Rattle.std.specs.Ordering.{is_lt}
 use Rattle.std.specs.Cmp.Lexicographic.{slice_cmp}
 use Rattle.std.specs.FinMap.{empty, entries, insert, from_entries, same_entries_map}
-use Rattle.std.proofs.lemmas.Bool.{and_parts, and_from}
+use Rattle.std.proofs.lemmas.Bool.{and_parts, and_from, ne_eqb}
 use Rattle.std.proofs.lemmas.List.{append-nil}
 use Rattle.serde_json.specs.View.{view, members_view}
 use Rattle.serde_json.specs.declared.value.Value.{Value}
@@ -17,13 +17,22 @@ use Rattle.serde_json.specs.Data.{Data}
 use Rattle.serde_json.specs.Find.{as_str}
 use Rattle.std.specs.Str.{bytes_eq}
 use Rattle.event_json.specs.Fields.{FieldMap, is_above_all, IsAboveAll}
-use Rattle.event_json.specs.Reading.{any_unbuilt, is_unbuilt, first_bad, pairs_of, part_of, part_of_text, part_of_str, value_or_bad, bad_or, add_part, is_dropped, type_key}
+use Rattle.event_json.specs.Reading.{any_unbuilt, is_single, is_unbuilt, first_bad, pairs_of, part_of, part_of_text, part_of_str, value_or_bad, bad_or, add_part, is_dropped, type_key}
 use Rattle.event_json.specs.declared.reading.Part.{Part}
 use Rattle.event_json.specs.declared.reading.Part.TheVariants.{Nothing, Value as Set, Bad}
 use Rattle.event_json.proofs.FieldsLemmas.{Key, Pairs, order, entries-from_entries, entries-empty, put_last, sorted_entries}
 
 abbrev pub Entry : Type 0
 Entry = String Global × Value
+
+pub single_by_length : (es : List Entry) → nat_eq (length es) 1 ≡ is_single (members_view es)
+single_by_length [] = refl
+single_by_length (e ∷ []) = refl
+single_by_length (e ∷ f ∷ es) = ne_eqb _ 1 (λ same. absurd (omega (arith, same)))
+
+pub text_there : (o : Option (Bor (List ℕ))) → is_some o ≡ is_some (option_map (λ s. s.now) o)
+text_there (Some s) = refl
+text_there None = refl
 
 -- ---- the first of the members that are left, and those behind it
 

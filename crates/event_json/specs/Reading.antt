@@ -1,5 +1,5 @@
 -- The lenient reading of a message.
-use Rattle.std.specs.Prelude.{ℕ, List, [], ◌∷◌, ◌≡◌, Bool, true, false, ◌||◌, ◌&&◌, ◌==◌, not, codes, Option, Some, None, is_none, option_and_then, Result, Ok, Err, if◌then◌else◌}
+use Rattle.std.specs.Prelude.{ℕ, List, [], ◌∷◌, ◌≡◌, Bool, true, false, ◌||◌, ◌&&◌, ◌==◌, not, codes, Option, Some, None, is_none, is_some, option_and_then, Result, Ok, Err, if◌then◌else◌}
 use Rattle.std.specs.List.{list_any}
 use Rattle.std.specs.FinMap.{from_entries}
 use Rattle.std.specs.Str.{bytes_eq}
@@ -24,6 +24,14 @@ use Rattle.event_json.specs.declared.read_fault.ReadFault.TheVariants as fault
 
 abbrev pub type_key : List ℕ
 type_key = codes "__type"
+
+abbrev pub dec_key : List ℕ
+dec_key = codes "$dec"
+
+abbrev pub is_single : Members → Bool
+is_single no_members = false
+is_single (member key d no_members) = true
+is_single (member key d (member other e ms)) = false
 
 -- ---- what one member adds
 
@@ -121,8 +129,12 @@ of_kind (Some kind) ms = with_fields kind (first_bad ms) (pairs_of ms)
 abbrev pub of_members : Members → Result Message ReadFault
 of_members ms = if any_unbuilt ms then Err fault.Unbuilt else of_kind (kind_of (get_member type_key ms)) ms
 
+-- the members of a decimal under quotes: one, a text under `$dec`
+abbrev pub is_lexeme : Members → Bool
+is_lexeme ms = is_single ms && is_some (option_and_then as_str (get_member dec_key ms))
+
 abbrev pub of_object : Option Members → Result Message ReadFault
-of_object (Some ms) = of_members ms
+of_object (Some ms) = if is_lexeme ms then Err fault.NotObject else of_members ms
 of_object None = Err fault.NotObject
 
 abbrev pub of_tree : Option Data → Result Message ReadFault

@@ -5,7 +5,7 @@ ghost use Rattle.event_json.specs.Reading.{lenient, of_members, of_tree, IsFault
 ghost use Rattle.event_json.specs.Writing.{message_text};
 
 use crate::quote::has_digit_outside;
-use crate::reading::{any_unbuilt, kind_of, read_fields};
+use crate::reading::{any_unbuilt, is_lexeme, kind_of, read_fields};
 use crate::writing::push_message;
 use crate::{Message, ReadFault};
 use base_types::{Blob, OutOfMemory};
@@ -50,8 +50,8 @@ fn clean_tree(alloc: Global, tree: &Value) -> Result<Message, ReadFault>
     ensures { MatchResult result (λ message. of_tree (Some (view tree.now)) ≡ Ok message) (IsFaultOf (of_tree (Some (view tree.now)))) }
 {
     match tree.as_object() {
-        Some(members) => clean_members(alloc, members),
-        None => Err(ReadFault::NotObject),
+        Some(members) if !is_lexeme(members) => clean_members(alloc, members),
+        _ => Err(ReadFault::NotObject),
     }
 }
 

@@ -1,9 +1,9 @@
-ghost use Rattle.std.specs.Prelude.{◌≡◌, ◌==◌, Some, None, IfOk, MatchResult};
+ghost use Rattle.std.specs.Prelude.{◌≡◌, ◌==◌, is_some, option_and_then, Some, None, IfOk, MatchResult};
 ghost use Rattle.std.specs.List.{list_any};
 ghost use Rattle.std.specs.FinMap.{from_entries};
 ghost use Rattle.serde_json.specs.View.{view, members_view};
-ghost use Rattle.serde_json.specs.Find.{get_member};
-ghost use Rattle.event_json.specs.Reading.{any_unbuilt, first_bad, is_dropped, is_extra, is_unbuilt, is_unbuilt_kind, is_unbuilt_str, kind_of, kind_of_word, pairs_of, part_of, part_of_text, type_key, IsFieldFault};
+ghost use Rattle.serde_json.specs.Find.{as_str, get_member};
+ghost use Rattle.event_json.specs.Reading.{any_unbuilt, dec_key, first_bad, is_dropped, is_extra, is_lexeme, is_single, is_unbuilt, is_unbuilt_kind, is_unbuilt_str, kind_of, kind_of_word, pairs_of, part_of, part_of_text, type_key, IsFieldFault};
 
 use crate::field::{behind, type_of_name};
 use crate::value::{clean, strip};
@@ -13,6 +13,8 @@ use serde_json::{Map, Value};
 use std::alloc::Global;
 
 const TYPE_KEY: &str = "__type";
+
+const DEC_KEY: &str = "$dec";
 
 /// What a member adds to the fields.
 #[derive(Debug, Drop)]
@@ -75,6 +77,28 @@ fn kind_of_value(value: &Value) -> Option<Kind>
     ensures { result ≡ kind_of (Some (view value.now)) }
 {
     kind_of_word(value.as_str()?)
+}
+
+fn is_single(members: &Map<String, Value>) -> bool
+    ensures { result ≡ is_single (members_view members.now.entries) }
+{
+    members.len() == 1
+}
+
+fn has_dec_text(members: &Map<String, Value>) -> bool
+    ensures { result ≡ is_some (option_and_then as_str (get_member dec_key (members_view members.now.entries))) }
+{
+    match members.get(DEC_KEY) {
+        Some(value) => value.as_str().is_some(),
+        None => false,
+    }
+}
+
+/// Whether an object stands for a decimal under quotes.
+pub fn is_lexeme(members: &Map<String, Value>) -> bool
+    ensures { result ≡ is_lexeme (members_view members.now.entries) }
+{
+    is_single(members) && has_dec_text(members)
 }
 
 /// The kind of a message: an event, or what the word under `__type` says.

@@ -10,6 +10,8 @@ mod clock;
 mod counts;
 mod shelf;
 mod sink;
+#[cfg(test)]
+mod tests;
 
 use base_types::Text;
 use clock::SystemClock;

@@ -94,7 +94,11 @@ const FIELDS: [(&str, FieldType); 84] = [
 fn each_field_has_its_kind(rt: HostRuntime) -> Result<(), Fail> {
     let alloc = rt.alloc();
     for (name, kind) in &FIELDS {
-        assert_eq!(rt; type_of(&Text::new(alloc, name.as_bytes())?), Some(*kind));
+        assert_eq!(rt;
+            type_of(&Text::new(alloc, name.as_bytes())?),
+            Some(*kind),
+            "{name}"
+        );
     }
     Ok(())
 }
@@ -114,7 +118,11 @@ const NO_FIELDS: [&str; 9] = [
 #[test]
 fn other_names_are_no_fields(rt: HostRuntime) -> Result<(), Fail> {
     for name in &NO_FIELDS {
-        assert_eq!(rt; type_of(&Text::new(rt.alloc(), name.as_bytes())?), None);
+        assert_eq!(rt;
+            type_of(&Text::new(rt.alloc(), name.as_bytes())?),
+            None,
+            "{name}"
+        );
     }
     Ok(())
 }
@@ -141,7 +149,7 @@ fn word_of(alloc: Global, fault: &ReadFault) -> Result<String, AllocError> {
     }
 }
 
-const READINGS: [(&str, &str); 62] = [
+const READINGS: [(&str, &str); 66] = [
     ("{}", "{\"__type\":\"Event\"}"),
     (" { } ", "{\"__type\":\"Event\"}"),
     ("", "json"),
@@ -158,6 +166,13 @@ const READINGS: [(&str, &str); 62] = [
     ("\"a\"", "no object"),
     ("null", "no object"),
     ("true", "no object"),
+    (r#"{"$dec":"-"}"#, "no object"),
+    (r#" {"$dec" : "1.5"}"#, "no object"),
+    (
+        r#"{"$dec":"-","comment":"a"}"#,
+        "{\"__type\":\"Event\",\"comment\":\"a\"}",
+    ),
+    (r#"{"$dec":"1.5","comment":"a"}"#, "field $dec"),
     ("7", "unbuilt"),
     ("[0", "unbuilt"),
     ("{\"comment\":7}", "unbuilt"),
@@ -233,7 +248,11 @@ const READINGS: [(&str, &str); 62] = [
 #[test]
 fn readings(rt: HostRuntime) -> Result<(), Fail> {
     for (line, wanted) in &READINGS {
-        assert_eq!(rt; reading(rt.alloc(), line.as_bytes())?.as_str(), *wanted);
+        assert_eq!(rt;
+            reading(rt.alloc(), line.as_bytes())?.as_str(),
+            *wanted,
+            "{line}"
+        );
     }
     Ok(())
 }
