@@ -1,12 +1,11 @@
 -- A file that is read, and cut behind the first gate that isn't open.
-use Rattle.std.proofs.Common.{◌≡◌, ◌≤◌, ◌+◌, ◌-◌, ◌⊎◌, inl, inr, ℕ, suc, zero, List, [], ◌∷◌, ◌++◌, length, take, drop, refl, sym, ◌∙◌, ap, subst, arith, append_assoc, length-append}
+use Rattle.std.proofs.Common.{◌≡◌, ◌≤◌, ◌+◌, ◌-◌, ◌⊎◌, ⊎_elim, inl, inr, ℕ, suc, zero, List, [], ◌∷◌, ◌++◌, length, take, drop, refl, sym, ◌∙◌, ap, subst, arith, append_assoc, length-append}
 use Rattle.std.specs.Prelude.{⊤}
 use Rattle.std.proofs.lemmas.List.{take_at, take_all}
-use Rattle.edge_traits.specs.Disk.{Image, Cut, Adds, Only, IsImage, Elapses, Leaves, LeavesOthers}
-use Rattle.edge_traits.proofs.Moments.{started, goes_on}
+use Rattle.edge_traits.specs.Disk.{DiskView, Image, Cut, MayFollow, Adds, Only, IsImage, Elapses, Leaves, LeavesOthers}
+use Rattle.edge_traits.proofs.Moments.{started, goes_on, run_on, widened}
 use Rattle.disk_journal.specs.GateFile.{header, open_records, gate_file, HasBodies, HaveSameBodies, IsDamagedAt}
-use Rattle.disk_journal.specs.Durable.{MayFollow}
-use Rattle.disk_journal.specs.Reads.{IsReadTo, IsClosed}
+use Rattle.disk_journal.specs.Reads.{OnlyReads, IsReadTo, IsClosed}
 
 pub ends_with_header : (generation end : ℕ) (file : List ℕ) → end ≡ length file → end ≤ 16 → take 16 file ≡ header generation → IsDamagedAt generation file 16
 ends_with_header generation end file is short front = inr (inl (refl, sym (take_all 16 file (omega (arith, is, short))) ∙ front))
@@ -49,11 +48,19 @@ module _ (generation : ℕ) (bodies : List (List ℕ)) (at : ℕ) (file : List �
       record { bodies = bodies; first = read_bodies_of; second = cut_keeps c (subst (λ d. Cut (at + 1) d c) (only left.0 left.1) left.2) }
 
 -- up to the cut nothing but what might have been left before
-pub before_cut : (file before synced read : ℕ) (past during since : ℕ → Image → Type 0) (may_old may_synced : ℕ → List ℕ → Type 0) (same : List ℕ → Type 0) → ((image : Image) → past before image → IsImage may_old image)
-    → Adds may_old may_synced (λ _. ⊤) → Elapses before synced past during may_synced → Elapses synced read during since may_synced
-    → Leaves before read past since (λ image. (may_old file (image file) ⊎ same (image file)) × LeavesOthers file may_old image)
-before_cut file before synced read past during since may_old may_synced same only_now adds sync reads =
-    let P : Image → Type 0 = λ image. (may_old file (image file) ⊎ same (image file)) × LeavesOthers file may_old image in
-    let still : (image : Image) → IsImage may_synced image → P image = λ image left. (inl (adds file tt (image file) (left file)), λ other ne. adds other tt (image other) (left other)) in
-    goes_on before synced read past during since P may_synced
-    (goes_on before before synced past past during P may_synced (started before past P (λ image left. (inl (only_now image left file), λ other ne. only_now image left other))) sync still) reads still
+pub before_cut : {D : Type 0} {disk : D → DiskView} {may_leave : D → ℕ → List ℕ → Type 0} {left_since : D → ℕ → Image → Type 0} {old synced read : D} (file : ℕ) (same : List ℕ → Type 0)
+    → Elapses disk may_leave left_since old synced → OnlyReads disk may_leave left_since synced read → ((d : D) (image : Image) → left_since d (disk d).moment image → IsImage (may_leave d) image)
+    → Adds may_leave old synced (λ _. ⊤) → Leaves disk left_since old read (λ image. (may_leave old file (image file) ⊎ same (image file)) × LeavesOthers may_leave old file image)
+before_cut {may_leave = may_leave} {old = old} {synced = synced} file same time reads only_now adds =
+    let P : Image → Type 0 = λ image. (may_leave old file (image file) ⊎ same (image file)) × LeavesOthers may_leave old file image in
+    let still : (image : Image) → IsImage (may_leave synced) image → P image = λ image left. (inl (adds file tt (image file) (left file)), λ other ne. adds other tt (image other) (left other)) in
+    run_on (goes_on (started (λ image left. (inl (only_now old image left file), λ other ne. only_now old image left other))) time still)
+    (widened still (read_leaves reads (only_now synced)))
+  where
+    read_leaves : {D : Type 0} {disk : D → DiskView} {may_leave : D → ℕ → List ℕ → Type 0} {left_since : D → ℕ → Image → Type 0} {old new : D} → OnlyReads disk may_leave left_since old new → ((image : Image) → left_since old (disk old).moment image → IsImage (may_leave old) image)
+        → Leaves disk left_since old new (IsImage (may_leave old))
+    read_leaves reads only_now = record {
+      later = reads.later;
+      each = λ image left. ⊎_elim (only_now image) (λ now. now) (reads.nothing_else _ image (omega arith) left);
+      earlier = reads.nothing_else;
+    }

@@ -2,9 +2,9 @@
 use Rattle.std.proofs.Common.{◌≢◌, ℕ, List, length, Result, Ok, Err, OnOk, refl, arith}
 use Rattle.std.specs.Prelude.{⊤}
 use Rattle.std.proofs.lemmas.List.{take_all, take_min}
-use Rattle.edge_traits.specs.Disk.{Image, Torn, Cut, Follows, Adds, IsImage, Elapses, Leaves, LeavesOthers}
+use Rattle.edge_traits.specs.Disk.{DiskView, Image, Torn, Cut, LeavesAfter, Adds, IsImage, Elapses, Leaves}
 use Rattle.edge_traits.proofs.Moments.{started, goes_on}
-use Rattle.disk_journal.specs.Durable.{MayFollow}
+use Rattle.disk_journal.specs.Durable.{IsStepped}
 
 pub on_ok : {T E P : Type 0} (r : Result T E) → P → OnOk r P
 on_ok (Ok x) p = p
@@ -16,25 +16,18 @@ torn_itself at n c = record { before = take_min at c; behind = refl; no_shorter 
 pub cut_itself : (len : ℕ) (c : List ℕ) → Cut len c c
 cut_itself len c = record { front = take_all (length c) c (omega arith); no_shorter = omega arith }
 
--- what a crash leaves while the file takes such a step
-abbrev pub IsStepped : ℕ → (List ℕ → List ℕ → Type 0) → (ℕ → List ℕ → Type 0) → Image → Type 0
-IsStepped file step may_leave image = MayFollow step (may_leave file) (image file) × LeavesOthers file may_leave image
-
 -- the call
-pub changed : (file before mid : ℕ) (step : List ℕ → List ℕ → Type 0) (past during : ℕ → Image → Type 0) (may_before may_mid : ℕ → List ℕ → Type 0) → ((c : List ℕ) → step c c)
-    → ((image : Image) → past before image → IsImage may_before image) → Follows step (may_before file) (may_mid file) → Adds may_before may_mid (λ other. other ≢ file)
-    → Elapses before mid past during may_mid → Leaves before mid past during (IsStepped file step may_before)
-changed file before mid step past during may_before may_mid itself only_now follows adds time =
-    let P = IsStepped file step may_before in
-    let start = started before past P (λ image left. ((image file, only_now image left file, itself (image file)), λ other ne. only_now image left other)) in
-    goes_on before before mid past past during P may_mid start time (λ image now. (follows (image file) (now file), λ other ne. adds other ne (image other) (now other)))
+pub changed : {D : Type 0} {disk : D → DiskView} {may_leave : D → ℕ → List ℕ → Type 0} {left_since : D → ℕ → Image → Type 0} {old mid : D} (file : ℕ) (step : List ℕ → List ℕ → Type 0) → ((c : List ℕ) → step c c)
+    → Elapses disk may_leave left_since old mid → ((image : Image) → left_since old (disk old).moment image → IsImage (may_leave old) image)
+    → LeavesAfter may_leave old mid file step → Adds may_leave old mid (λ other. other ≢ file) → Leaves disk left_since old mid (IsStepped may_leave old file step)
+changed file step itself time only_now after adds =
+    goes_on (started (λ image left. ((image file, only_now image left file, itself (image file)), λ other ne. only_now image left other))) time
+    (λ image now. (after (image file) (now file), λ other ne. adds other ne (image other) (now other)))
 
 -- and its sync
-pub changed_synced : (file before mid now : ℕ) (step : List ℕ → List ℕ → Type 0) (past during since : ℕ → Image → Type 0) (may_before may_mid may_now : ℕ → List ℕ → Type 0) → ((c : List ℕ) → step c c)
-    → ((image : Image) → past before image → IsImage may_before image) → Follows step (may_before file) (may_mid file) → Adds may_before may_mid (λ other. other ≢ file)
-    → Elapses before mid past during may_mid → Adds may_mid may_now (λ _. ⊤) → Elapses mid now during since may_now → Leaves before now past since (IsStepped file step may_before)
-changed_synced file before mid now step past during since may_before may_mid may_now itself only_now follows adds time still time_of_sync =
-    let P = IsStepped file step may_before in
-    let so_far = changed file before mid step past during may_before may_mid itself only_now follows adds time in
-    goes_on before mid now past during since P may_now so_far time_of_sync
-    (λ image left. (follows (image file) (still file tt (image file) (left file)), λ other ne. adds other ne (image other) (still other tt (image other) (left other))))
+pub changed_synced : {D : Type 0} {disk : D → DiskView} {may_leave : D → ℕ → List ℕ → Type 0} {left_since : D → ℕ → Image → Type 0} {old mid new : D} (file : ℕ) (step : List ℕ → List ℕ → Type 0)
+    → LeavesAfter may_leave old mid file step → Adds may_leave old mid (λ other. other ≢ file)
+    → Leaves disk left_since old mid (IsStepped may_leave old file step) → Elapses disk may_leave left_since mid new → Adds may_leave mid new (λ _. ⊤) → Leaves disk left_since old new (IsStepped may_leave old file step)
+changed_synced file step after adds so_far time still =
+    goes_on so_far time
+    (λ image left. (after (image file) (still file tt (image file) (left file)), λ other ne. adds other ne (image other) (still other tt (image other) (left other))))

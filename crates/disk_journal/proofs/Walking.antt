@@ -1,10 +1,9 @@
 -- Reading a gate file from its header to the first gate that isn't open.
-use Rattle.std.proofs.Common.{◌≡◌, ◌<◌, ◌≤◌, ◌+◌, ◌^◌, inl, inr, ℕ, List, [], ◌∷◌, ◌++◌, length, take, drop, false, Result, Ok, Err, OnOk, is_err, refl, sym, ◌∙◌, ap, subst, arith, append_assoc, length-append}
+use Rattle.std.proofs.Common.{◌≡◌, ◌<◌, ◌≤◌, ◌+◌, ◌^◌, ⊎_elim, inr, ℕ, List, [], ◌∷◌, ◌++◌, length, take, drop, false, Result, Ok, Err, OnOk, is_err, refl, sym, ◌∙◌, ap, subst, arith, append_assoc, length-append}
 use Rattle.std.specs.Prelude.{Some}
 use Rattle.std.specs.Int.{to_be_bytes, w64}
 use Rattle.std.proofs.lemmas.List.{take-append-drop, length-take-le, drop-drop}
 use Rattle.edge_traits.specs.Disk.{DiskView, Image}
-use Rattle.edge_traits.proofs.Moments.{both}
 use Rattle.disk_journal.specs.GateFile.{header, open_record, open_records, IsDamagedAt}
 use Rattle.disk_journal.specs.Journal.{IsFaultOf}
 use Rattle.disk_journal.specs.declared.journal.JournalFault.{JournalFault}
@@ -14,30 +13,22 @@ use Rattle.disk_journal.proofs.Resting.{length_open_record}
 use Rattle.disk_journal.specs.Reads.{OnlyReads, IsReadTo, IsCutShort, IsOpen}
 
 -- one run of reads after another
-pub reads_on : (old mid new : DiskView) (may_old may_mid may_new : ℕ → List ℕ → Type 0) (past during since : ℕ → Image → Type 0)
-    → OnlyReads old mid may_old may_mid past during → OnlyReads mid new may_mid may_new during since → OnlyReads old new may_old may_new past since
-reads_on old mid new may_old may_mid may_new past during since first then = record {
+pub reads_on : {D : Type 0} {disk : D → DiskView} {may_leave : D → ℕ → List ℕ → Type 0} {left_since : D → ℕ → Image → Type 0} {old mid new : D}
+    → OnlyReads disk may_leave left_since old mid → OnlyReads disk may_leave left_since mid new → OnlyReads disk may_leave left_since old new
+reads_on first then = record {
   told = then.told ∙ first.told;
   crash = λ file passes c left. first.crash file passes c (then.crash file passes c left);
-  time = both old.moment mid.moment new.moment past during since may_old may_mid first.time then.time (λ image left file. first.crash file tt (image file) (left file));
+  later = omega (arith, first.later, then.later);
+  nothing_else = λ t image le left. ⊎_elim (first.nothing_else t image le) (λ now. inr (λ file. first.crash file tt (image file) (now file))) (then.nothing_else t image (omega (arith, le, first.later)) left);
   count = omega (arith, first.count, then.count);
 }
 
--- no read at all
-pub reads_none : (old : DiskView) (may_leave : ℕ → List ℕ → Type 0) (past : ℕ → Image → Type 0) → OnlyReads old old may_leave may_leave past past
-reads_none old may_leave past = record {
-  told = refl;
-  crash = λ file passes c left. left;
-  time = record { later = omega arith; nothing_else = λ t image le left. inl left; keeps = λ t image le left. left };
-  count = omega arith;
-}
-
 -- how far the loop is
-pub record HaveRead (old now : DiskView) (may_old may_now : ℕ → List ℕ → Type 0) (past since : ℕ → Image → Type 0) (file end : ℕ) (bodies : List (List ℕ)) (at : ℕ) : Type 0 where
-  pub reads : OnlyReads old now may_old may_now past since
+pub record HaveRead {D : Type 0} (disk : D → DiskView) (may_leave : D → ℕ → List ℕ → Type 0) (left_since : D → ℕ → Image → Type 0) (old now : D) (file end : ℕ) (bodies : List (List ℕ)) (at : ℕ) : Type 0 where
+  pub reads : OnlyReads disk may_leave left_since old now
   pub behind_header : 16 ≤ at
   pub within : at < end
-  pub to : (files : Image) (generation : ℕ) → old.told ≡ Some files → end ≡ length (files file) → take 16 (files file) ≡ header generation
+  pub to : (files : Image) (generation : ℕ) → (disk old).told ≡ Some files → end ≡ length (files file) → take 16 (files file) ≡ header generation
       → IsReadTo generation bodies at (drop at (files file)) (files file)
 
 pub pushed : {T E P : Type 0} (r : Result T E) → OnOk r P → is_err r ≡ false → P

@@ -1,7 +1,7 @@
-ghost use Rattle.std.specs.Prelude.{◌≡◌, ◌≢◌, ◌≤◌, ◌+◌, ◌^◌, ℕ, List, length, take, Some, None, OnOk, IsErr};
+ghost use Rattle.std.specs.Prelude.{◌≡◌, ◌≢◌, ◌≤◌, ◌+◌, ℕ, List, length, take, Some, None, OnOk, IsErr};
 ghost use Rattle.edge_traits.specs.Count.{Rose};
-ghost use Rattle.edge_traits.specs.Disk.{Image, overwritten, ChangesOnly, Torn, Cut, Adds, Only, Leaves, LeavesOthers};
-ghost use Rattle.disk_journal.specs.Durable.{MayFollow};
+ghost use Rattle.edge_traits.specs.Disk.{Image, longest_file, overwritten, ChangesOnly, Torn, Cut, Adds, Only, Leaves};
+ghost use Rattle.disk_journal.specs.Durable.{IsStepped};
 
 use edge_traits::{Disk, Failed};
 
@@ -13,17 +13,17 @@ pub(crate) fn write_durably<D: Disk>(
     bytes: &[u8],
 ) -> Result<(), Failed>
     requires within { (files : Image) → (D.disk disk.old).told ≡ Some files → at ≤ length (files file) }
-    requires small { at + length bytes.now ≤ 2 ^ 63 }
+    requires small { at + length bytes.now ≤ longest_file }
     ensures written { (files after : Image) → (D.disk disk.old).told ≡ Some files → (D.disk disk.new).told ≡ Some after
         → OnOk result (after file ≡ overwritten (files file) at bytes.now) }
     ensures durable { (after : Image) → (D.disk disk.new).told ≡ Some after → OnOk result (Only (after file) (D.may_leave disk.new file)) }
     ensures elsewhere { (files : Image) → (D.disk disk.old).told ≡ Some files → ChangesOnly files (D.disk disk.new).told file }
     ensures untold { (D.disk disk.old).told ≡ None → (D.disk disk.new).told ≡ None }
-    ensures crash_elsewhere { Adds (D.may_leave disk.old) (D.may_leave disk.new) (λ other. other ≢ file) }
+    ensures crash_elsewhere { Adds D.may_leave disk.old disk.new (λ other. other ≢ file) }
 
     // A crash at any moment leaves the file as it was, or torn by this write alone.
-    ensures any_moment { Leaves (D.disk disk.old).moment (D.disk disk.new).moment (D.left_since disk.old) (D.left_since disk.new)
-        (λ image. MayFollow (Torn at (length bytes.now)) (D.may_leave disk.old file) (image file) × LeavesOthers file (D.may_leave disk.old) image) }
+    ensures any_moment { Leaves D.disk D.left_since disk.old disk.new
+        (IsStepped D.may_leave disk.old file (Torn at (length bytes.now))) }
     ensures failed { IsErr result → Rose (D.disk disk.old).faults (D.disk disk.new).faults }
     ensures count { (D.disk disk.old).faults ≤ (D.disk disk.new).faults }
 {
@@ -38,11 +38,11 @@ pub(crate) fn cut_durably<D: Disk>(disk: &mut D, file: u64, len: u64) -> Result<
         → OnOk result (after file ≡ take len (files file)) }
     ensures durable { (after : Image) → (D.disk disk.new).told ≡ Some after → OnOk result (Only (after file) (D.may_leave disk.new file)) }
     ensures elsewhere { (files : Image) → (D.disk disk.old).told ≡ Some files → ChangesOnly files (D.disk disk.new).told file }
-    ensures crash_elsewhere { Adds (D.may_leave disk.old) (D.may_leave disk.new) (λ other. other ≢ file) }
+    ensures crash_elsewhere { Adds D.may_leave disk.old disk.new (λ other. other ≢ file) }
 
     // A crash at any moment leaves the file as it was, or cut by this call alone.
-    ensures any_moment { Leaves (D.disk disk.old).moment (D.disk disk.new).moment (D.left_since disk.old) (D.left_since disk.new)
-        (λ image. MayFollow (Cut len) (D.may_leave disk.old file) (image file) × LeavesOthers file (D.may_leave disk.old) image) }
+    ensures any_moment { Leaves D.disk D.left_since disk.old disk.new
+        (IsStepped D.may_leave disk.old file (Cut len)) }
     ensures failed { IsErr result → Rose (D.disk disk.old).faults (D.disk disk.new).faults }
     ensures count { (D.disk disk.old).faults ≤ (D.disk disk.new).faults }
 {

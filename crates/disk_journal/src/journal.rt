@@ -97,9 +97,9 @@ impl Journal {
         ensures at_rest { (files after : Image) → (D.disk disk.old).told ≡ Some files → (D.disk disk.new).told ≡ Some after
             → IfOk result (λ j. IsAtRest j (D.may_leave disk.new) (first.now ∷ []) after) }
         ensures elsewhere { (files : Image) → (D.disk disk.old).told ≡ Some files → ChangesOnly files (D.disk disk.new).told file }
-        ensures crash_elsewhere { Adds (D.may_leave disk.old) (D.may_leave disk.new) (λ other. other ≢ file) }
-        ensures any_moment { Leaves (D.disk disk.old).moment (D.disk disk.new).moment (D.left_since disk.old) (D.left_since disk.new)
-            (LeavesOthers file (D.may_leave disk.old)) }
+        ensures crash_elsewhere { Adds D.may_leave disk.old disk.new (λ other. other ≢ file) }
+        ensures any_moment { Leaves D.disk D.left_since disk.old disk.new
+            (LeavesOthers D.may_leave disk.old file) }
         ensures failed { IsErrOf result JournalFault.Disk → Rose (D.disk disk.old).faults (D.disk disk.new).faults }
         ensures count { (D.disk disk.old).faults ≤ (D.disk disk.new).faults }
         ensures not_damaged { (at : ℕ) → IsErrOf result (JournalFault.Damaged at) → ⊥ }
@@ -139,13 +139,13 @@ impl Journal {
         ensures fault { (files : Image) → (D.disk disk.old).told ≡ Some files → IfErr result (IsFaultOf generation (files file)) }
         ensures nothing_cut { (at : ℕ) → IsErrOf result (JournalFault.Damaged at) → (D.disk disk.new).told ≡ (D.disk disk.old).told }
         ensures elsewhere { (files : Image) → (D.disk disk.old).told ≡ Some files → ChangesOnly files (D.disk disk.new).told file }
-        ensures crash_elsewhere { Adds (D.may_leave disk.old) (D.may_leave disk.new) (λ other. other ≢ file) }
+        ensures crash_elsewhere { Adds D.may_leave disk.old disk.new (λ other. other ≢ file) }
 
         // A crash at any moment leaves what it might have left before, or the same records.
         ensures any_moment { (files : Image) → (D.disk disk.old).told ≡ Some files
-            → Leaves (D.disk disk.old).moment (D.disk disk.new).moment (D.left_since disk.old) (D.left_since disk.new)
+            → Leaves D.disk D.left_since disk.old disk.new
             (λ image. (D.may_leave disk.old file (image file) ⊎ HaveSameBodies generation (files file) (image file))
-            × LeavesOthers file (D.may_leave disk.old) image) }
+            × LeavesOthers D.may_leave disk.old file image) }
         ensures failed { IsErrOf result JournalFault.Disk → Rose (D.disk disk.old).faults (D.disk disk.new).faults }
         ensures count { (D.disk disk.old).faults ≤ (D.disk disk.new).faults }
     {
@@ -189,13 +189,13 @@ impl Journal {
         ensures broken { (result ≡ Err AppendFault.Broken) ↔ (self.old.broken ≡ true) }
         ensures nothing { self.old.broken ≡ true → (self.new ≡ self.old) × (disk.new ≡ disk.old) }
         ensures elsewhere { (files : Image) → (D.disk disk.old).told ≡ Some files → ChangesOnly files (D.disk disk.new).told self.old.file }
-        ensures crash_elsewhere { Adds (D.may_leave disk.old) (D.may_leave disk.new) (λ other. other ≢ self.old.file) }
+        ensures crash_elsewhere { Adds D.may_leave disk.old disk.new (λ other. other ≢ self.old.file) }
 
         // A crash at any moment leaves the records from before the call, with the new one or without.
         ensures any_moment { (files : Image) (bodies : List (List ℕ)) → (D.disk disk.old).told ≡ Some files
             → IsAtRest self.old (D.may_leave disk.old) bodies files
-            → Leaves (D.disk disk.old).moment (D.disk disk.new).moment (D.left_since disk.old) (D.left_since disk.new)
-            (λ image. HasOldOrNew self.old.generation bodies body.now (image self.old.file) × LeavesOthers self.old.file (D.may_leave disk.old) image) }
+            → Leaves D.disk D.left_since disk.old disk.new
+            (λ image. HasOldOrNew self.old.generation bodies body.now (image self.old.file) × LeavesOthers D.may_leave disk.old self.old.file image) }
         ensures failed { IsErrOf result AppendFault.Disk → Rose (D.disk disk.old).faults (D.disk disk.new).faults }
         ensures count { (D.disk disk.old).faults ≤ (D.disk disk.new).faults }
     {
@@ -264,11 +264,11 @@ fn write_record<D: Disk>(disk: &mut D, file: u64, end: u64, bytes: &[u8]) -> Res
         → OnOk result (after file ≡ gate_file generation (bodies ++ body ∷ []) 0) }
     ensures durable { (after : Image) → (D.disk disk.new).told ≡ Some after → OnOk result (Only (after file) (D.may_leave disk.new file)) }
     ensures elsewhere { (files : Image) → (D.disk disk.old).told ≡ Some files → ChangesOnly files (D.disk disk.new).told file }
-    ensures crash_elsewhere { Adds (D.may_leave disk.old) (D.may_leave disk.new) (λ other. other ≢ file) }
+    ensures crash_elsewhere { Adds D.may_leave disk.old disk.new (λ other. other ≢ file) }
     ensures any_moment { (files : Image) (generation : ℕ) (bodies : List (List ℕ)) (body : List ℕ) → (D.disk disk.old).told ≡ Some files
         → IsAtEnd generation bodies end (D.may_leave disk.old file) (files file) → IsRecordOf body bytes.now
-        → Leaves (D.disk disk.old).moment (D.disk disk.new).moment (D.left_since disk.old) (D.left_since disk.new)
-        (λ image. HasOldOrNew generation bodies body (image file) × LeavesOthers file (D.may_leave disk.old) image) }
+        → Leaves D.disk D.left_since disk.old disk.new
+        (λ image. HasOldOrNew generation bodies body (image file) × LeavesOthers D.may_leave disk.old file image) }
     ensures failed { IsErr result → Rose (D.disk disk.old).faults (D.disk disk.new).faults }
     ensures count { (D.disk disk.old).faults ≤ (D.disk disk.new).faults }
 {

@@ -23,7 +23,7 @@ pub(crate) fn read_bodies<D: Disk>(
     ensures bodies { (files : Image) → (D.disk disk.old).told ≡ Some files
         → IfOk result (λ found. IsReadTo generation found.0 found.1 (drop found.1 (files file)) (files file) × IsClosed (drop found.1 (files file))) }
     ensures fault { (files : Image) → (D.disk disk.old).told ≡ Some files → IfErr result (IsFaultOf generation (files file)) }
-    ensures reads { OnlyReads (D.disk disk.old) (D.disk disk.new) (D.may_leave disk.old) (D.may_leave disk.new) (D.left_since disk.old) (D.left_since disk.new) }
+    ensures reads { OnlyReads D.disk D.may_leave D.left_since disk.old disk.new }
     ensures failed { IsErrOf result JournalFault.Disk → Rose (D.disk disk.old).faults (D.disk disk.new).faults }
 {
     let end = disk.len(file)?;
@@ -47,7 +47,7 @@ fn read_records<D: Disk>(
         → IfOk result (λ found. IsReadTo generation found.0 found.1 (drop found.1 (files file)) (files file) × IsClosed (drop found.1 (files file))) }
     ensures damaged { (files : Image) (generation : ℕ) → (D.disk disk.old).told ≡ Some files → end ≡ length (files file) → take 16 (files file) ≡ header generation
         → IfErr result (IsFaultOf generation (files file)) }
-    ensures reads { OnlyReads (D.disk disk.old) (D.disk disk.new) (D.may_leave disk.old) (D.may_leave disk.new) (D.left_since disk.old) (D.left_since disk.new) }
+    ensures reads { OnlyReads D.disk D.may_leave D.left_since disk.old disk.new }
     ensures failed { IsErrOf result JournalFault.Disk → Rose (D.disk disk.old).faults (D.disk disk.new).faults }
 {
     let mut bodies = BlobList::new(alloc);
@@ -67,7 +67,7 @@ fn read_records<D: Disk>(
 fn check_header<D: Disk>(disk: &mut D, file: u64, generation: u64) -> Result<(), JournalFault>
     ensures header { (files : Image) → (D.disk disk.old).told ≡ Some files → OnOk result (take 16 (files file) ≡ header generation) }
     ensures fault { (files : Image) → (D.disk disk.old).told ≡ Some files → IfErr result (IsFaultOf generation (files file)) }
-    ensures reads { OnlyReads (D.disk disk.old) (D.disk disk.new) (D.may_leave disk.old) (D.may_leave disk.new) (D.left_since disk.old) (D.left_since disk.new) }
+    ensures reads { OnlyReads D.disk D.may_leave D.left_since disk.old disk.new }
     ensures failed { IsErrOf result JournalFault.Disk → Rose (D.disk disk.old).faults (D.disk disk.new).faults }
 {
     let mut bytes = [0; HEADER];
@@ -91,7 +91,7 @@ fn read_gate<D: Disk>(
         → IfOk result (λ size. MatchOption size (IsClosed (drop at (files file))) (IsOpen (drop at (files file)))) }
     ensures damaged { (files : Image) (place : ℕ) → (D.disk disk.old).told ≡ Some files → end ≡ length (files file)
         → IsErrOf result (JournalFault.Damaged place) → (place ≡ at) × IsCutShort (drop at (files file)) }
-    ensures reads { OnlyReads (D.disk disk.old) (D.disk disk.new) (D.may_leave disk.old) (D.may_leave disk.new) (D.left_since disk.old) (D.left_since disk.new) }
+    ensures reads { OnlyReads D.disk D.may_leave D.left_since disk.old disk.new }
     ensures failed { IsErrOf result JournalFault.Disk → Rose (D.disk disk.old).faults (D.disk disk.new).faults }
 {
     let mut frame = [0; FRAME];
@@ -128,7 +128,7 @@ fn read_body<D: Disk>(
         → IfOk result (λ body. body ≡ take size (drop (at + 9) (files file))) }
     ensures whole { (files : Image) (place : ℕ) → (D.disk disk.old).told ≡ Some files → at + 9 + size ≤ length (files file)
         → IsErrOf result (JournalFault.Damaged place) → ⊥ }
-    ensures reads { OnlyReads (D.disk disk.old) (D.disk disk.new) (D.may_leave disk.old) (D.may_leave disk.new) (D.left_since disk.old) (D.left_since disk.new) }
+    ensures reads { OnlyReads D.disk D.may_leave D.left_since disk.old disk.new }
     ensures failed { IsErrOf result JournalFault.Disk → Rose (D.disk disk.old).faults (D.disk disk.new).faults }
 {
     let mut bytes = vec![in alloc; 0; size as usize]?;

@@ -8,8 +8,10 @@ use Rattle.edge_traits.specs.Disk.{Elapses}
 use Rattle.edge_traits.specs.declared.source.Failed.{Failed}
 use Rattle.edge_memory.specs.declared.change.Change.{Change}
 use Rattle.edge_memory.specs.declared.change.Entry.{Entry}
+use Rattle.edge_memory.specs.declared.disk.MemDisk.{MemDisk}
+use Rattle.edge_memory.specs.Disk.{disk_view, may_leave, left_since}
 use Rattle.edge_memory.specs.Entries.{left, made}
-use Rattle.edge_memory.specs.Moments.{left_since, numbered_to, made_all, IsStep}
+use Rattle.edge_memory.specs.Moments.{numbered_to, made_all, IsStep}
 
 first_of_both : (a b : Bool) → (a && b) ≡ true → a ≡ true
 first_of_both true b e = refl
@@ -23,10 +25,10 @@ both : (a b : Bool) → a ≡ true → b ≡ true → (a && b) ≡ true
 both a b p q = rw (p, q)
 
 -- a crash in the time of a step leaves what one before it might have left, or what one may leave now
-pub elapses : (old : List Entry) (before : ℕ) (new : List Entry) (now : ℕ) → IsStep old before new now → Elapses before now (left_since old before) (left_since new now) (λ file c. left file (reverse new) c)
-elapses old before new now step = record {
+pub elapses : (old new : MemDisk) → IsStep old.log.entries.items old.log.calls new.log.entries.items new.log.calls → Elapses disk_view may_leave left_since old new
+elapses old new step = record {
   later = step.later;
-  nothing_else = λ t image le since. ⊎_elim (λ late. inr (λ file. subst (λ (es : List Entry). left file es (image file)) (step.last since.0 late since.2) (since.3 file))) (λ early. inl (since.0, since.1, early, λ file. subst (λ (es : List Entry). left file es (image file)) (step.same since.0 early) (since.3 file))) (cases_lt before since.0);
+  nothing_else = λ t image le since. ⊎_elim (λ late. inr (λ file. subst (λ (es : List Entry). left file es (image file)) (step.last since.0 late since.2) (since.3 file))) (λ early. inl (since.0, since.1, early, λ file. subst (λ (es : List Entry). left file es (image file)) (step.same since.0 early) (since.3 file))) (cases_lt old.log.calls since.0);
   keeps = λ t image le past. (past.0, past.1, omega (arith, step.later, past.2), λ file. subst (λ (es : List Entry). left file es (image file)) (sym (step.same past.0 past.2)) (past.3 file));
 }
 

@@ -2,7 +2,7 @@
 use Rattle.std.specs.Prelude.{◌≡◌, ◌==◌, ℕ, Bool, List, [], ◌∷◌, length, take, reverse, nat_le, if◌then◌else◌}
 use Rattle.std.specs.Bool.{MatchBool}
 use Rattle.std.specs.List.{list_any, take_while}
-use Rattle.edge_traits.specs.Disk.{overwritten, Torn, Cut}
+use Rattle.edge_traits.specs.Disk.{overwritten, Torn, Cut, MayFollow}
 use Rattle.edge_memory.specs.declared.change.Change.{Change}
 use Rattle.edge_memory.specs.declared.change.Change.TheVariants as did
 use Rattle.edge_memory.specs.declared.change.Entry.{Entry}
@@ -27,10 +27,10 @@ content file (entry ∷ earlier) = content_after file entry (content file earlie
 
 -- what a crash may leave after a change, by what a read gave before it and what a crash might have left
 abbrev pub left_by : Change → List ℕ → (List ℕ → Type 0) → List ℕ → Type 0
-left_by (did.Write at bytes) seen before c = (d : List ℕ) × before d × Torn at (length bytes.items) d c
-left_by (did.FailedWrite at len) seen before c = (d : List ℕ) × before d × Torn at len d c
-left_by (did.Cut len) seen before c = (d : List ℕ) × before d × Cut len d c
-left_by (did.FailedCut len) seen before c = (d : List ℕ) × before d × Cut len d c
+left_by (did.Write at bytes) seen before c = MayFollow (Torn at (length bytes.items)) before c
+left_by (did.FailedWrite at len) seen before c = MayFollow (Torn at len) before c
+left_by (did.Cut len) seen before c = MayFollow (Cut len) before c
+left_by (did.FailedCut len) seen before c = MayFollow (Cut len) before c
 left_by did.Sync seen before c = c ≡ seen
 left_by (did.Found bytes) seen before c = c ≡ bytes.items
 

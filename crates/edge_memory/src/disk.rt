@@ -1,6 +1,6 @@
 ghost use Rattle.std.specs.Prelude.{◌≡◌, ◌≢◌, ◌<◌, ◌≤◌, ◌↔◌, ◌+◌, ◌-◌, ◌^◌, ◌⊎◌, ◌||◌, ◌&&◌, ◌∷◌, ◌++◌, [], List, ℕ, Bool, min, length, take, drop, not, true, false, is_err, reverse, Some, None, Option, IfOk, OnOk, OnErr, IsErr, IsTrue, ⊤};
 ghost use Rattle.edge_traits.specs.Count.{Rose, last_count};
-ghost use Rattle.edge_traits.specs.Disk.{Image, overwritten, ChangesOnly, Torn, Cut, Follows, Adds, Only, IsImage, Elapses};
+ghost use Rattle.edge_traits.specs.Disk.{Image, longest_file, overwritten, ChangesOnly, Torn, Cut, LeavesAfter, Adds, Only, IsImage, Elapses};
 ghost use Rattle.edge_memory.specs.Entries.{content};
 ghost use Rattle.edge_memory.specs.Moments.{IsStep};
 ghost use Rattle.edge_memory.specs.declared.change.Change.{Change};
@@ -236,12 +236,12 @@ impl Disk for MemDisk {
     fn len(&mut self, file: u64) -> Result<u64, Failed>
         ensures len { (files : Image) → (disk_view self.old).told ≡ Some files → IfOk result (λ n. n ≡ length (files file)) }
         ensures told { (disk_view self.new).told ≡ (disk_view self.old).told }
-        ensures crash { Adds (may_leave self.old) (may_leave self.new) (λ _. ⊤) }
-        ensures time { Elapses (disk_view self.old).moment (disk_view self.new).moment (left_since self.old) (left_since self.new) (may_leave self.new) }
+        ensures crash { Adds may_leave self.old self.new (λ _. ⊤) }
+        ensures time { Elapses disk_view may_leave left_since self.old self.new }
         ensures failed { IsErr result → Rose (disk_view self.old).faults (disk_view self.new).faults }
         ensures count { (disk_view self.old).faults ≤ (disk_view self.new).faults }
         ensures counted { Counted self.old self.new (is_err result) }
-        ensures keeps { Adds (may_leave self.new) (may_leave self.old) (λ _. ⊤) }
+        ensures keeps { Adds may_leave self.new self.old (λ _. ⊤) }
     {
         let bytes = self.read(file)?;
         Ok(bytes.len() as u64)
@@ -252,12 +252,12 @@ impl Disk for MemDisk {
         ensures bytes { (files : Image) → (disk_view self.old).told ≡ Some files
             → IfOk result (λ n. (n ≡ min (length buf.new) (length (files file) - at)) × (take n buf.new ≡ take n (drop at (files file)))) }
         ensures told { (disk_view self.new).told ≡ (disk_view self.old).told }
-        ensures crash { Adds (may_leave self.old) (may_leave self.new) (λ _. ⊤) }
-        ensures time { Elapses (disk_view self.old).moment (disk_view self.new).moment (left_since self.old) (left_since self.new) (may_leave self.new) }
+        ensures crash { Adds may_leave self.old self.new (λ _. ⊤) }
+        ensures time { Elapses disk_view may_leave left_since self.old self.new }
         ensures failed { IsErr result → Rose (disk_view self.old).faults (disk_view self.new).faults }
         ensures count { (disk_view self.old).faults ≤ (disk_view self.new).faults }
         ensures counted { Counted self.old self.new (is_err result) }
-        ensures keeps { Adds (may_leave self.new) (may_leave self.old) (λ _. ⊤) }
+        ensures keeps { Adds may_leave self.new self.old (λ _. ⊤) }
     {
         let bytes = self.read(file)?;
         Ok(copy_from(&bytes, at, buf))
@@ -265,19 +265,19 @@ impl Disk for MemDisk {
 
     fn write_at(&mut self, file: u64, at: u64, bytes: &[u8]) -> Result<(), Failed>
         requires within { (files : Image) → (disk_view self.old).told ≡ Some files → at ≤ length (files file) }
-        requires small { at + length bytes.now ≤ 2 ^ 63 }
+        requires small { at + length bytes.now ≤ longest_file }
         ensures written { (files after : Image) → (disk_view self.old).told ≡ Some files → (disk_view self.new).told ≡ Some after
             → OnOk result (after file ≡ overwritten (files file) at bytes.now) }
         ensures elsewhere { (files : Image) → (disk_view self.old).told ≡ Some files → ChangesOnly files (disk_view self.new).told file }
         ensures untold { (disk_view self.old).told ≡ None → (disk_view self.new).told ≡ None }
-        ensures crash { Follows (Torn at (length bytes.now)) (may_leave self.old file) (may_leave self.new file) }
-        ensures crash_elsewhere { Adds (may_leave self.old) (may_leave self.new) (λ other. other ≢ file) }
-        ensures time { Elapses (disk_view self.old).moment (disk_view self.new).moment (left_since self.old) (left_since self.new) (may_leave self.new) }
+        ensures crash { LeavesAfter may_leave self.old self.new file (Torn at (length bytes.now)) }
+        ensures crash_elsewhere { Adds may_leave self.old self.new (λ other. other ≢ file) }
+        ensures time { Elapses disk_view may_leave left_since self.old self.new }
         ensures failed { IsErr result → Rose (disk_view self.old).faults (disk_view self.new).faults }
         ensures count { (disk_view self.old).faults ≤ (disk_view self.new).faults }
         ensures refused { OnErr result ((disk_view self.new).told ≡ (disk_view self.old).told) }
         ensures counted { Counted self.old self.new (is_err result) }
-        ensures keeps_elsewhere { Adds (may_leave self.new) (may_leave self.old) (λ other. other ≢ file) }
+        ensures keeps_elsewhere { Adds may_leave self.new self.old (λ other. other ≢ file) }
 
         // Until a sync a crash may leave whatever a torn write leaves.
         ensures tears { OnOk result ((d c : List ℕ) → may_leave self.old file d → Torn at (length bytes.now) d c
@@ -305,14 +305,14 @@ impl Disk for MemDisk {
             → OnOk result (after file ≡ take len (files file)) }
         ensures elsewhere { (files : Image) → (disk_view self.old).told ≡ Some files → ChangesOnly files (disk_view self.new).told file }
         ensures untold { (disk_view self.old).told ≡ None → (disk_view self.new).told ≡ None }
-        ensures crash { Follows (Cut len) (may_leave self.old file) (may_leave self.new file) }
-        ensures crash_elsewhere { Adds (may_leave self.old) (may_leave self.new) (λ other. other ≢ file) }
-        ensures time { Elapses (disk_view self.old).moment (disk_view self.new).moment (left_since self.old) (left_since self.new) (may_leave self.new) }
+        ensures crash { LeavesAfter may_leave self.old self.new file (Cut len) }
+        ensures crash_elsewhere { Adds may_leave self.old self.new (λ other. other ≢ file) }
+        ensures time { Elapses disk_view may_leave left_since self.old self.new }
         ensures failed { IsErr result → Rose (disk_view self.old).faults (disk_view self.new).faults }
         ensures count { (disk_view self.old).faults ≤ (disk_view self.new).faults }
         ensures refused { OnErr result ((disk_view self.new).told ≡ (disk_view self.old).told) }
         ensures counted { Counted self.old self.new (is_err result) }
-        ensures keeps_elsewhere { Adds (may_leave self.new) (may_leave self.old) (λ other. other ≢ file) }
+        ensures keeps_elsewhere { Adds may_leave self.new self.old (λ other. other ≢ file) }
 
         // Until a sync a crash may undo it, or a part of it.
         ensures undone { OnOk result ((d c : List ℕ) → may_leave self.old file d → Cut len d c
@@ -332,13 +332,13 @@ impl Disk for MemDisk {
         ensures durable { (files : Image) → (disk_view self.old).told ≡ Some files
             → OnOk result (Only (files file) (may_leave self.new file)) }
         ensures told { (disk_view self.new).told ≡ (disk_view self.old).told }
-        ensures crash { Adds (may_leave self.old) (may_leave self.new) (λ _. ⊤) }
-        ensures time { Elapses (disk_view self.old).moment (disk_view self.new).moment (left_since self.old) (left_since self.new) (may_leave self.new) }
+        ensures crash { Adds may_leave self.old self.new (λ _. ⊤) }
+        ensures time { Elapses disk_view may_leave left_since self.old self.new }
         ensures failed { IsErr result → Rose (disk_view self.old).faults (disk_view self.new).faults }
         ensures count { (disk_view self.old).faults ≤ (disk_view self.new).faults }
         ensures counted { Counted self.old self.new (is_err result) }
-        ensures keeps_elsewhere { Adds (may_leave self.new) (may_leave self.old) (λ other. other ≢ file) }
-        ensures keeps { OnErr result (Adds (may_leave self.new) (may_leave self.old) (λ _. ⊤)) }
+        ensures keeps_elsewhere { Adds may_leave self.new self.old (λ other. other ≢ file) }
+        ensures keeps { OnErr result (Adds may_leave self.new self.old (λ _. ⊤)) }
     {
         self.change(file, Some(Change::Sync), None)
     }

@@ -2,11 +2,15 @@
 --
 -- Between two syncs of a file, each range that was written and the part past the old end may hold any bytes after a
 -- crash, and the length may be any between the least and the greatest since the sync. The bytes outside stay.
-use Rattle.std.specs.Prelude.{◌≡◌, ◌≢◌, ◌⊎◌, ◌≤◌, ◌+◌, ℕ, min, max, List, ◌++◌, length, take, drop, Option, Some}
+use Rattle.std.specs.Prelude.{◌≡◌, ◌≢◌, ◌⊎◌, ◌≤◌, ◌+◌, ◌^◌, ℕ, min, max, List, ◌++◌, length, take, drop, Option, Some}
 
 -- the content of each file; one that was never written is empty
 abbrev pub Image : Type 0
 Image = ℕ → List ℕ
+
+-- no write reaches further
+abbrev pub longest_file : ℕ
+longest_file = 2 ^ 63
 
 -- what a read gives, if it is told; the count of faults; and the moment, a number that doesn't fall
 pub record DiskView : Type 0 where
@@ -34,13 +38,17 @@ pub record Cut (len : ℕ) (old new : List ℕ) : Type 0 where
   pub front : take (length new) old ≡ new
   pub no_shorter : min len (length old) ≤ length new
 
--- whatever a crash may leave now, it might have left before, after a step
-abbrev pub Follows : (List ℕ → List ℕ → Type 0) → (List ℕ → Type 0) → (List ℕ → Type 0) → Type 0
-Follows step old new = (c : List ℕ) → new c → (d : List ℕ) × old d × step d c
+-- what might have been left before, after a step
+abbrev pub MayFollow : (List ℕ → List ℕ → Type 0) → (List ℕ → Type 0) → List ℕ → Type 0
+MayFollow step before c = (d : List ℕ) × before d × step d c
+
+-- whatever a crash may leave in the file now, it might have left there before, after a step
+abbrev pub LeavesAfter : {D : Type 0} → (D → ℕ → List ℕ → Type 0) → D → D → ℕ → (List ℕ → List ℕ → Type 0) → Type 0
+LeavesAfter may_leave old new file step = (c : List ℕ) → may_leave new file c → MayFollow step (may_leave old file) c
 
 -- whatever a crash may leave now in a file that passes, it might have left there before
-abbrev pub Adds : (ℕ → List ℕ → Type 0) → (ℕ → List ℕ → Type 0) → (ℕ → Type 0) → Type 0
-Adds old new passes = (file : ℕ) → passes file → (c : List ℕ) → new file c → old file c
+abbrev pub Adds : {D : Type 0} → (D → ℕ → List ℕ → Type 0) → D → D → (ℕ → Type 0) → Type 0
+Adds may_leave old new passes = (file : ℕ) → passes file → (c : List ℕ) → may_leave new file c → may_leave old file c
 
 -- a crash leaves this content and no other
 abbrev pub Only : List ℕ → (List ℕ → Type 0) → Type 0
@@ -50,19 +58,19 @@ Only content may_leave = (c : List ℕ) → may_leave c → c ≡ content
 abbrev pub IsImage : (ℕ → List ℕ → Type 0) → Image → Type 0
 IsImage may_leave image = (file : ℕ) → may_leave file (image file)
 
+-- in each other file a crash leaves what it might have left there before
+abbrev pub LeavesOthers : {D : Type 0} → (D → ℕ → List ℕ → Type 0) → D → ℕ → Image → Type 0
+LeavesOthers may_leave old file image = (other : ℕ) → other ≢ file → may_leave old other (image other)
+
 -- time goes on: a crash since t might have left what it might have left before, or what it may leave now
-pub record Elapses (before now : ℕ) (past since : ℕ → Image → Type 0) (may_leave : ℕ → List ℕ → Type 0) : Type 0 where
-  pub later : before ≤ now
-  pub nothing_else : (t : ℕ) (image : Image) → t ≤ before → since t image → past t image ⊎ IsImage may_leave image
-  pub keeps : (t : ℕ) (image : Image) → t ≤ before → past t image → since t image
+pub record Elapses {D : Type 0} (disk : D → DiskView) (may_leave : D → ℕ → List ℕ → Type 0) (left_since : D → ℕ → Image → Type 0) (old new : D) : Type 0 where
+  pub later : (disk old).moment ≤ (disk new).moment
+  pub nothing_else : (t : ℕ) (image : Image) → t ≤ (disk old).moment → left_since new t image → left_since old t image ⊎ IsImage (may_leave new) image
+  pub keeps : (t : ℕ) (image : Image) → t ≤ (disk old).moment → left_since old t image → left_since new t image
 
 -- a crash at any moment from one on leaves files that pass; one since an earlier moment leaves such files, or what it
 -- might have left before
-pub record Leaves (before now : ℕ) (past since : ℕ → Image → Type 0) (passes : Image → Type 0) : Type 0 where
-  pub later : before ≤ now
-  pub each : (image : Image) → since before image → passes image
-  pub earlier : (t : ℕ) (image : Image) → t ≤ before → since t image → past t image ⊎ passes image
-
--- in each other file a crash leaves what it might have left there before
-abbrev pub LeavesOthers : ℕ → (ℕ → List ℕ → Type 0) → Image → Type 0
-LeavesOthers file may_leave image = (other : ℕ) → other ≢ file → may_leave other (image other)
+pub record Leaves {D : Type 0} (disk : D → DiskView) (left_since : D → ℕ → Image → Type 0) (old new : D) (passes : Image → Type 0) : Type 0 where
+  pub later : (disk old).moment ≤ (disk new).moment
+  pub each : (image : Image) → left_since new (disk old).moment image → passes image
+  pub earlier : (t : ℕ) (image : Image) → t ≤ (disk old).moment → left_since new t image → left_since old t image ⊎ passes image

@@ -1,6 +1,6 @@
-ghost use Rattle.std.specs.Prelude.{◌≡◌, ◌≢◌, ◌≤◌, ◌+◌, ◌-◌, ◌^◌, List, ℕ, min, length, take, drop, Some, None, IfOk, OnOk, IsErr, ⊤};
+ghost use Rattle.std.specs.Prelude.{◌≡◌, ◌≢◌, ◌≤◌, ◌+◌, ◌-◌, List, ℕ, min, length, take, drop, Some, None, IfOk, OnOk, IsErr, ⊤};
 ghost use Rattle.edge_traits.specs.Count.{Rose};
-ghost use Rattle.edge_traits.specs.Disk.{DiskView, Image, overwritten, ChangesOnly, Torn, Cut, Follows, Adds, Only, IsImage, Elapses};
+ghost use Rattle.edge_traits.specs.Disk.{DiskView, Image, longest_file, overwritten, ChangesOnly, Torn, Cut, LeavesAfter, Adds, Only, IsImage, Elapses};
 
 use crate::Failed;
 
@@ -21,8 +21,8 @@ pub trait Disk {
     fn len(&mut self, file: u64) -> Result<u64, Failed>
         ensures len { (files : Image) → (disk self.old).told ≡ Some files → IfOk result (λ n. n ≡ length (files file)) }
         ensures told { (disk self.new).told ≡ (disk self.old).told }
-        ensures crash { Adds (may_leave self.old) (may_leave self.new) (λ _. ⊤) }
-        ensures time { Elapses (disk self.old).moment (disk self.new).moment (left_since self.old) (left_since self.new) (may_leave self.new) }
+        ensures crash { Adds may_leave self.old self.new (λ _. ⊤) }
+        ensures time { Elapses disk may_leave left_since self.old self.new }
         ensures failed { IsErr result → Rose (disk self.old).faults (disk self.new).faults }
         ensures count { (disk self.old).faults ≤ (disk self.new).faults };
 
@@ -32,22 +32,22 @@ pub trait Disk {
         ensures bytes { (files : Image) → (disk self.old).told ≡ Some files
             → IfOk result (λ n. (n ≡ min (length buf.new) (length (files file) - at)) × (take n buf.new ≡ take n (drop at (files file)))) }
         ensures told { (disk self.new).told ≡ (disk self.old).told }
-        ensures crash { Adds (may_leave self.old) (may_leave self.new) (λ _. ⊤) }
-        ensures time { Elapses (disk self.old).moment (disk self.new).moment (left_since self.old) (left_since self.new) (may_leave self.new) }
+        ensures crash { Adds may_leave self.old self.new (λ _. ⊤) }
+        ensures time { Elapses disk may_leave left_since self.old self.new }
         ensures failed { IsErr result → Rose (disk self.old).faults (disk self.new).faults }
         ensures count { (disk self.old).faults ≤ (disk self.new).faults };
 
     /// Writes at the offset `at`, over what is there and past the end.
     fn write_at(&mut self, file: u64, at: u64, bytes: &[u8]) -> Result<(), Failed>
         requires within { (files : Image) → (disk self.old).told ≡ Some files → at ≤ length (files file) }
-        requires small { at + length bytes.now ≤ 2 ^ 63 }
+        requires small { at + length bytes.now ≤ longest_file }
         ensures written { (files after : Image) → (disk self.old).told ≡ Some files → (disk self.new).told ≡ Some after
             → OnOk result (after file ≡ overwritten (files file) at bytes.now) }
         ensures elsewhere { (files : Image) → (disk self.old).told ≡ Some files → ChangesOnly files (disk self.new).told file }
         ensures untold { (disk self.old).told ≡ None → (disk self.new).told ≡ None }
-        ensures crash { Follows (Torn at (length bytes.now)) (may_leave self.old file) (may_leave self.new file) }
-        ensures crash_elsewhere { Adds (may_leave self.old) (may_leave self.new) (λ other. other ≢ file) }
-        ensures time { Elapses (disk self.old).moment (disk self.new).moment (left_since self.old) (left_since self.new) (may_leave self.new) }
+        ensures crash { LeavesAfter may_leave self.old self.new file (Torn at (length bytes.now)) }
+        ensures crash_elsewhere { Adds may_leave self.old self.new (λ other. other ≢ file) }
+        ensures time { Elapses disk may_leave left_since self.old self.new }
         ensures failed { IsErr result → Rose (disk self.old).faults (disk self.new).faults }
         ensures count { (disk self.old).faults ≤ (disk self.new).faults };
 
@@ -58,9 +58,9 @@ pub trait Disk {
             → OnOk result (after file ≡ take len (files file)) }
         ensures elsewhere { (files : Image) → (disk self.old).told ≡ Some files → ChangesOnly files (disk self.new).told file }
         ensures untold { (disk self.old).told ≡ None → (disk self.new).told ≡ None }
-        ensures crash { Follows (Cut len) (may_leave self.old file) (may_leave self.new file) }
-        ensures crash_elsewhere { Adds (may_leave self.old) (may_leave self.new) (λ other. other ≢ file) }
-        ensures time { Elapses (disk self.old).moment (disk self.new).moment (left_since self.old) (left_since self.new) (may_leave self.new) }
+        ensures crash { LeavesAfter may_leave self.old self.new file (Cut len) }
+        ensures crash_elsewhere { Adds may_leave self.old self.new (λ other. other ≢ file) }
+        ensures time { Elapses disk may_leave left_since self.old self.new }
         ensures failed { IsErr result → Rose (disk self.old).faults (disk self.new).faults }
         ensures count { (disk self.old).faults ≤ (disk self.new).faults };
 
@@ -69,8 +69,8 @@ pub trait Disk {
         ensures durable { (files : Image) → (disk self.old).told ≡ Some files
             → OnOk result (Only (files file) (may_leave self.new file)) }
         ensures told { (disk self.new).told ≡ (disk self.old).told }
-        ensures crash { Adds (may_leave self.old) (may_leave self.new) (λ _. ⊤) }
-        ensures time { Elapses (disk self.old).moment (disk self.new).moment (left_since self.old) (left_since self.new) (may_leave self.new) }
+        ensures crash { Adds may_leave self.old self.new (λ _. ⊤) }
+        ensures time { Elapses disk may_leave left_since self.old self.new }
         ensures failed { IsErr result → Rose (disk self.old).faults (disk self.new).faults }
         ensures count { (disk self.old).faults ≤ (disk self.new).faults };
 

@@ -13,9 +13,9 @@ abbrev pub completed : List ℕ → ℕ → List (List ℕ) → List ℕ
 completed file sealed lines = take sealed file ++ lines_text lines
 
 -- a crash leaves these bytes at the file's front, and in each other file what it might have left before
-pub record KeepsFront (front : List ℕ) (file : ℕ) (may_leave : ℕ → List ℕ → Type 0) (image : Image) : Type 0 where
+pub record KeepsFront {D : Type 0} (may_leave : D → ℕ → List ℕ → Type 0) (old : D) (file : ℕ) (front : List ℕ) (image : Image) : Type 0 where
   pub front_stays : take (length front) (image file) ≡ front
-  pub others : LeavesOthers file may_leave image
+  pub others : LeavesOthers may_leave old file image
 
 -- a file that is too short is told with its length; the other faults say nothing of the file
 abbrev pub IsFaultOf : List ℕ → ℕ → OutFault → Type 0

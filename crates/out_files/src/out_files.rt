@@ -1,6 +1,6 @@
-ghost use Rattle.std.specs.Prelude.{◌≡◌, ◌≢◌, ◌<◌, ◌≤◌, ◌+◌, ◌^◌, ◌++◌, [], ◌∷◌, ℕ, List, length, take, Some, IfOk, IfErr, OnOk, IsErr, IsErrOf};
+ghost use Rattle.std.specs.Prelude.{◌≡◌, ◌≢◌, ◌<◌, ◌≤◌, ◌+◌, ◌++◌, [], ◌∷◌, ℕ, List, length, take, Some, IfOk, IfErr, OnOk, IsErr, IsErrOf};
 ghost use Rattle.edge_traits.specs.Count.{Rose};
-ghost use Rattle.edge_traits.specs.Disk.{Image, ChangesOnly, Adds, Only, Leaves};
+ghost use Rattle.edge_traits.specs.Disk.{Image, longest_file, ChangesOnly, Adds, Only, Leaves};
 ghost use Rattle.out_files.specs.Output.{lines_text, completed, KeepsFront, IsFaultOf};
 ghost use Rattle.out_files.specs.Run.{RunsAbove, IsSoFar};
 
@@ -54,7 +54,7 @@ pub fn bring_up<D: Disk>(
     sealed: u64,
     lines: &LineList,
 ) -> Result<u64, OutFault>
-    requires { sealed + length (lines_text lines.now) ≤ 2 ^ 63 }
+    requires { sealed + length (lines_text lines.now) ≤ longest_file }
     ensures length { IfOk result (λ n. n ≡ sealed + length (lines_text lines.now)) }
     ensures completed { (files after : Image) → (D.disk disk.old).told ≡ Some files → (D.disk disk.new).told ≡ Some after
         → OnOk result (after file ≡ completed (files file) sealed lines.now) }
@@ -63,12 +63,12 @@ pub fn bring_up<D: Disk>(
     ensures long { (files : Image) → (D.disk disk.old).told ≡ Some files → OnOk result (sealed ≤ length (files file)) }
     ensures short { (have : ℕ) → IsErrOf result (OutFault.Short have) → (D.disk disk.new).told ≡ (D.disk disk.old).told }
     ensures elsewhere { (files : Image) → (D.disk disk.old).told ≡ Some files → ChangesOnly files (D.disk disk.new).told file }
-    ensures crash_elsewhere { Adds (D.may_leave disk.old) (D.may_leave disk.new) (λ other. other ≢ file) }
+    ensures crash_elsewhere { Adds D.may_leave disk.old disk.new (λ other. other ≢ file) }
 
     // Sealed bytes that every image has at the start are kept by a crash at any moment.
     ensures any_moment { (front : List ℕ) → length front ≡ sealed → ((c : List ℕ) → D.may_leave disk.old file c → take sealed c ≡ front)
-        → Leaves (D.disk disk.old).moment (D.disk disk.new).moment (D.left_since disk.old) (D.left_since disk.new)
-        (KeepsFront front file (D.may_leave disk.old)) }
+        → Leaves D.disk D.left_since disk.old disk.new
+        (KeepsFront D.may_leave disk.old file front) }
     ensures failed { IsErrOf result OutFault.Disk → Rose (D.disk disk.old).faults (D.disk disk.new).faults }
     ensures count { (D.disk disk.old).faults ≤ (D.disk disk.new).faults }
 {
@@ -90,12 +90,12 @@ fn write_lines<D: Disk>(
     sealed: u64,
     lines: &LineList,
 ) -> Result<u64, OutFault>
-    requires small { sealed + length (lines_text lines.now) ≤ 2 ^ 63 }
+    requires small { sealed + length (lines_text lines.now) ≤ longest_file }
     requires within { (files : Image) → (D.disk disk.old).told ≡ Some files → sealed ≤ length (files file) }
     ensures end { IfOk result (λ n. n ≡ sealed + length (lines_text lines.now)) }
     ensures written { (files after : Image) → (D.disk disk.old).told ≡ Some files → (D.disk disk.new).told ≡ Some after
         → IfOk result (λ n. IsSoFar (after file) n [] (completed (files file) sealed lines.now)) }
-    ensures run { RunsAbove file sealed (D.disk disk.old) (D.disk disk.new) (D.may_leave disk.old) (D.may_leave disk.new) (D.left_since disk.old) (D.left_since disk.new) }
+    ensures run { RunsAbove D.disk D.may_leave D.left_since disk.old disk.new file sealed }
     ensures not_short { (have : ℕ) → IsErrOf result (OutFault.Short have) → ⊥ }
     ensures failed { IsErrOf result OutFault.Disk → Rose (D.disk disk.old).faults (D.disk disk.new).faults }
 {
@@ -126,14 +126,14 @@ fn write_out<D: Disk>(
     least: usize,
 ) -> Result<u64, Failed>
     requires some { 0 < least }
-    requires small { at + length buffer.old.items ≤ 2 ^ 63 }
+    requires small { at + length buffer.old.items ≤ longest_file }
     requires within { (files : Image) → (D.disk disk.old).told ≡ Some files → at ≤ length (files file) }
     ensures less { OnOk result (length buffer.new.items < least) }
     ensures end { IfOk result (λ n. (at ≤ n) × (n + length buffer.new.items ≡ at + length buffer.old.items)) }
     ensures written { (files after : Image) (text : List ℕ) → (D.disk disk.old).told ≡ Some files → (D.disk disk.new).told ≡ Some after
         → IsSoFar (files file) at buffer.old.items text → IfOk result (λ n. IsSoFar (after file) n buffer.new.items text) }
     ensures run { (sealed : ℕ) → sealed ≤ at
-        → RunsAbove file sealed (D.disk disk.old) (D.disk disk.new) (D.may_leave disk.old) (D.may_leave disk.new) (D.left_since disk.old) (D.left_since disk.new) }
+        → RunsAbove D.disk D.may_leave D.left_since disk.old disk.new file sealed }
     ensures failed { IsErr result → Rose (D.disk disk.old).faults (D.disk disk.new).faults }
 {
     if buffer.len() < least {

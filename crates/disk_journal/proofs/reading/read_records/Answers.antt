@@ -18,7 +18,7 @@ records-preserved g c =
     let longer = pushed c.push.result c.push.ensures.ok (sym c.is_err.ensures.value ∙ c.if-is_err.false) in
     let fits : c.records.at + 9 + c.in-Some.size < c.args.end = subst (λ o. IfSome o (λ n. c.records.at + 9 + n < c.args.end)) c.in-Some.is c.in_ok-size.ensures.fits in
     record {
-      reads = reads_on _ _ _ _ _ _ _ _ _ (reads_on _ _ _ _ _ _ _ _ _ so_far.reads c.in_ok-size.ensures.reads) c.in_ok-body.ensures.reads;
+      reads = reads_on (reads_on so_far.reads c.in_ok-size.ensures.reads) c.in_ok-body.ensures.reads;
       behind_header = omega (arith, so_far.behind_header);
       within = omega (arith, fits);
       to = λ files generation told end header.

@@ -1,42 +1,36 @@
 use Rattle.std.proofs.Common.{◌≤◌, take, sym, ◌∙◌, arith}
 use Rattle.std.proofs.lemmas.List.{append-nil}
-use Rattle.out_files.proofs.Runs.{no_call, one_look, one_more, then_run, shortening_keeps, told_before}
+use Rattle.out_files.proofs.Runs.{one_call, one_look, then_run, shortening_keeps, told_before}
 use Rattle.out_files.proofs.out_files.bring_up.Goals as goal
 
 pub returns-in_err-end-clause-any_moment : goal.returns-in_err-end-clause-any_moment
 returns-in_err-end-clause-any_moment g c =
-    let looked = one_look c.args.file c.args.sealed _ _ _ _ _ _ _ _ _ (no_call c.args.file c.args.sealed _ _ _ (g.met.D.Disk.only_now c.args.disk.now))
-    c.len.ensures.told c.len.ensures.crash c.len.ensures.time c.len.ensures.count in
-    let lined = then_run c.args.file c.args.sealed _ _ _ _ _ _ _ _ _ looked c.write_lines.ensures.run in
+    let looked = one_look c.args.file c.args.sealed (g.met.D.Disk.only_now c.args.disk.now) c.len.ensures.time c.len.ensures.told c.len.ensures.crash c.len.ensures.count in
+    let lined = then_run looked c.write_lines.ensures.run in
     lined.any_moment
 
 pub cut-requires : goal.cut-requires
 cut-requires g c files told =
-    let looked = one_look c.args.file c.args.sealed _ _ _ _ _ _ _ _ _ (no_call c.args.file c.args.sealed _ _ _ (g.met.D.Disk.only_now c.args.disk.now))
-    c.len.ensures.told c.len.ensures.crash c.len.ensures.time c.len.ensures.count in
-    let lined = then_run c.args.file c.args.sealed _ _ _ _ _ _ _ _ _ looked c.write_lines.ensures.run in
-    let old = told_before _ _ lined.untold files told in
-    (c.in_ok-end.ensures.written old.0 files (c.len.ensures.told ∙ old.1) told).within
+    let old = told_before _ _ c.write_lines.ensures.run.untold files told in
+    (c.in_ok-end.ensures.written old.0 files old.1 told).within
 
 pub returns-in_err-cut-clause-any_moment : goal.returns-in_err-cut-clause-any_moment
 returns-in_err-cut-clause-any_moment g c =
-    let looked = one_look c.args.file c.args.sealed _ _ _ _ _ _ _ _ _ (no_call c.args.file c.args.sealed _ _ _ (g.met.D.Disk.only_now c.args.disk.now))
-    c.len.ensures.told c.len.ensures.crash c.len.ensures.time c.len.ensures.count in
-    let lined = then_run c.args.file c.args.sealed _ _ _ _ _ _ _ _ _ looked c.write_lines.ensures.run in
+    let looked = one_look c.args.file c.args.sealed (g.met.D.Disk.only_now c.args.disk.now) c.len.ensures.time c.len.ensures.told c.len.ensures.crash c.len.ensures.count in
+    let lined = then_run looked c.write_lines.ensures.run in
     let above : c.args.sealed ≤ c.in_ok-end.end = omega (arith, c.in_ok-end.ensures.end) in
-    let cut = one_more c.args.file c.args.sealed _ _ _ _ _ _ _ _ _ lined c.cut.ensures.elsewhere c.cut.ensures.untold c.cut.ensures.crash_elsewhere
-    (shortening_keeps c.args.sealed c.in_ok-end.end _ _ above c.cut.ensures.crash) c.cut.ensures.time c.cut.ensures.count in
+    let cut = then_run lined (one_call c.args.file c.args.sealed (g.met.D.Disk.only_now c.write_lines.new.disk) c.cut.ensures.time c.cut.ensures.elsewhere c.cut.ensures.untold c.cut.ensures.crash_elsewhere
+    (shortening_keeps g.D.Disk.may_leave _ _ c.args.file c.args.sealed c.in_ok-end.end above c.cut.ensures.crash) c.cut.ensures.count) in
     cut.any_moment
 
 pub returns-in_err-sync-clause-any_moment : goal.returns-in_err-sync-clause-any_moment
 returns-in_err-sync-clause-any_moment g c =
-    let looked = one_look c.args.file c.args.sealed _ _ _ _ _ _ _ _ _ (no_call c.args.file c.args.sealed _ _ _ (g.met.D.Disk.only_now c.args.disk.now))
-    c.len.ensures.told c.len.ensures.crash c.len.ensures.time c.len.ensures.count in
-    let lined = then_run c.args.file c.args.sealed _ _ _ _ _ _ _ _ _ looked c.write_lines.ensures.run in
+    let looked = one_look c.args.file c.args.sealed (g.met.D.Disk.only_now c.args.disk.now) c.len.ensures.time c.len.ensures.told c.len.ensures.crash c.len.ensures.count in
+    let lined = then_run looked c.write_lines.ensures.run in
     let above : c.args.sealed ≤ c.in_ok-end.end = omega (arith, c.in_ok-end.ensures.end) in
-    let cut = one_more c.args.file c.args.sealed _ _ _ _ _ _ _ _ _ lined c.cut.ensures.elsewhere c.cut.ensures.untold c.cut.ensures.crash_elsewhere
-    (shortening_keeps c.args.sealed c.in_ok-end.end _ _ above c.cut.ensures.crash) c.cut.ensures.time c.cut.ensures.count in
-    let synced = one_look c.args.file c.args.sealed _ _ _ _ _ _ _ _ _ cut c.sync.ensures.told c.sync.ensures.crash c.sync.ensures.time c.sync.ensures.count in
+    let cut = then_run lined (one_call c.args.file c.args.sealed (g.met.D.Disk.only_now c.write_lines.new.disk) c.cut.ensures.time c.cut.ensures.elsewhere c.cut.ensures.untold c.cut.ensures.crash_elsewhere
+    (shortening_keeps g.D.Disk.may_leave _ _ c.args.file c.args.sealed c.in_ok-end.end above c.cut.ensures.crash) c.cut.ensures.count) in
+    let synced = then_run cut (one_look c.args.file c.args.sealed (g.met.D.Disk.only_now c.cut.new.self) c.sync.ensures.time c.sync.ensures.told c.sync.ensures.crash c.sync.ensures.count) in
     synced.any_moment
 
 pub returns-clause-completed : goal.returns-clause-completed
@@ -48,11 +42,10 @@ returns-clause-completed g c files after told told_after =
 
 pub returns-clause-any_moment : goal.returns-clause-any_moment
 returns-clause-any_moment g c =
-    let looked = one_look c.args.file c.args.sealed _ _ _ _ _ _ _ _ _ (no_call c.args.file c.args.sealed _ _ _ (g.met.D.Disk.only_now c.args.disk.now))
-    c.len.ensures.told c.len.ensures.crash c.len.ensures.time c.len.ensures.count in
-    let lined = then_run c.args.file c.args.sealed _ _ _ _ _ _ _ _ _ looked c.write_lines.ensures.run in
+    let looked = one_look c.args.file c.args.sealed (g.met.D.Disk.only_now c.args.disk.now) c.len.ensures.time c.len.ensures.told c.len.ensures.crash c.len.ensures.count in
+    let lined = then_run looked c.write_lines.ensures.run in
     let above : c.args.sealed ≤ c.in_ok-end.end = omega (arith, c.in_ok-end.ensures.end) in
-    let cut = one_more c.args.file c.args.sealed _ _ _ _ _ _ _ _ _ lined c.cut.ensures.elsewhere c.cut.ensures.untold c.cut.ensures.crash_elsewhere
-    (shortening_keeps c.args.sealed c.in_ok-end.end _ _ above c.cut.ensures.crash) c.cut.ensures.time c.cut.ensures.count in
-    let synced = one_look c.args.file c.args.sealed _ _ _ _ _ _ _ _ _ cut c.sync.ensures.told c.sync.ensures.crash c.sync.ensures.time c.sync.ensures.count in
+    let cut = then_run lined (one_call c.args.file c.args.sealed (g.met.D.Disk.only_now c.write_lines.new.disk) c.cut.ensures.time c.cut.ensures.elsewhere c.cut.ensures.untold c.cut.ensures.crash_elsewhere
+    (shortening_keeps g.D.Disk.may_leave _ _ c.args.file c.args.sealed c.in_ok-end.end above c.cut.ensures.crash) c.cut.ensures.count) in
+    let synced = then_run cut (one_look c.args.file c.args.sealed (g.met.D.Disk.only_now c.cut.new.self) c.sync.ensures.time c.sync.ensures.told c.sync.ensures.crash c.sync.ensures.count) in
     synced.any_moment

@@ -13,7 +13,7 @@ lines-init g c = record {
   text = λ files after told told_after.
       let same : files ≡ after = cc in
       nothing_gathered c.args.sealed _ (files c.args.file) (after c.args.file) c.new-buffer.ensures.items (c.requires.within files told) (ap (λ (f : Image). f c.args.file) same);
-  run = no_call c.args.file c.args.sealed _ _ _ (g.met.D.Disk.only_now c.args.disk.now);
+  run = no_call c.args.file c.args.sealed (g.met.D.Disk.only_now c.args.disk.now);
 }
 
 pub write_out-requires-clause-small : goal.write_out-requires-clause-small
@@ -29,7 +29,7 @@ write_out-requires-clause-within g c files told =
     (c.lines.invariant.text old.0 files old.1 told).within
 
 pub returns-in_err-at-clause-run : goal.returns-in_err-at-clause-run
-returns-in_err-at-clause-run g c = then_run c.args.file c.args.sealed _ _ _ _ _ _ _ _ _ c.lines.invariant.run (c.write_out.ensures.run c.args.sealed c.lines.invariant.above)
+returns-in_err-at-clause-run g c = then_run c.lines.invariant.run (c.write_out.ensures.run c.args.sealed c.lines.invariant.above)
 
 pub returns-in_err-at-clause-failed : goal.returns-in_err-at-clause-failed
 returns-in_err-at-clause-failed g c _ =
@@ -49,7 +49,7 @@ lines-preserved g c =
           let before = c.lines.invariant.text files mid.0 told mid.1 in
           c.in_ok-at.ensures.written mid.0 after _ mid.1 told_after
           (gathered_more (mid.0 c.args.file) c.lines.at c.lines.buffer.items c.push_line.new.buffer.items (files c.args.file) c.args.sealed items c.lines.line-index c.line-item.result c.lines-test.true c.line-item.is pushed before);
-      run = then_run c.args.file c.args.sealed _ _ _ _ _ _ _ _ _ c.lines.invariant.run (c.write_out.ensures.run c.args.sealed c.lines.invariant.above);
+      run = then_run c.lines.invariant.run (c.write_out.ensures.run c.args.sealed c.lines.invariant.above);
     }
 
 pub write_out-requires-2-clause-small : goal.write_out-requires-2-clause-small
@@ -66,7 +66,7 @@ pub returns-in_err-push_line-clause-run : goal.returns-in_err-push_line-clause-r
 returns-in_err-push_line-clause-run g c = c.lines.invariant.run
 
 pub returns-in_err-write_out-clause-run : goal.returns-in_err-write_out-clause-run
-returns-in_err-write_out-clause-run g c = then_run c.args.file c.args.sealed _ _ _ _ _ _ _ _ _ c.lines.invariant.run (c.write_out-2.ensures.run c.args.sealed c.lines.invariant.above)
+returns-in_err-write_out-clause-run g c = then_run c.lines.invariant.run (c.write_out-2.ensures.run c.args.sealed c.lines.invariant.above)
 
 pub returns-in_err-write_out-clause-failed : goal.returns-in_err-write_out-clause-failed
 returns-in_err-write_out-clause-failed g c _ =
@@ -90,4 +90,4 @@ returns-clause-written g c files after told told_after =
     (c.in_ok-write_out.ensures.written mid.0 after _ mid.1 told_after before)
 
 pub returns-clause-run : goal.returns-clause-run
-returns-clause-run g c = then_run c.args.file c.args.sealed _ _ _ _ _ _ _ _ _ c.lines.invariant.run (c.write_out-2.ensures.run c.args.sealed c.lines.invariant.above)
+returns-clause-run g c = then_run c.lines.invariant.run (c.write_out-2.ensures.run c.args.sealed c.lines.invariant.above)

@@ -10,5 +10,5 @@ invariant-lines g l = record {
   size : l.at + length l.buffer.items ≡ l.sealed + length (lines_text (take l.line-index l.line-items));
   text : (files after : Image) → (g.D.Disk.disk l.fn.disk).told ≡ Some files → (g.D.Disk.disk l.disk).told ≡ Some after
       → IsSoFar (after l.file) l.at l.buffer.items (completed (files l.file) l.sealed (take l.line-index l.line-items));
-  run : RunsAbove l.file l.sealed (g.D.Disk.disk l.fn.disk) (g.D.Disk.disk l.disk) (g.D.Disk.may_leave l.fn.disk) (g.D.Disk.may_leave l.disk) (g.D.Disk.left_since l.fn.disk) (g.D.Disk.left_since l.disk);
+  run : RunsAbove g.D.Disk.disk g.D.Disk.may_leave g.D.Disk.left_since l.fn.disk l.disk l.file l.sealed;
 }

@@ -1,16 +1,14 @@
 use Rattle.std.proofs.Common.{◌≡◌, length, ap, ◌∙◌, arith}
 use Rattle.edge_traits.specs.Disk.{overwritten}
-use Rattle.out_files.proofs.Runs.{no_call, one_more, write_keeps}
+use Rattle.out_files.proofs.Runs.{one_call, write_keeps}
 use Rattle.out_files.proofs.Contents.{written_out}
 use Rattle.out_files.proofs.out_files.write_out.Goals as goal
 
 pub returns-in_err-write_at-clause-run : goal.returns-in_err-write_at-clause-run
 returns-in_err-write_at-clause-run g c sealed above =
-    one_more c.args.file sealed _ _ _ _ _ _ _ _ _
-    (no_call c.args.file sealed _ _ _ (g.met.D.Disk.only_now c.args.disk.now))
-    c.write_at.ensures.elsewhere c.write_at.ensures.untold c.write_at.ensures.crash_elsewhere
-    (write_keeps sealed c.args.at _ _ _ above c.write_at.ensures.crash)
-    c.write_at.ensures.time c.write_at.ensures.count
+    one_call c.args.file sealed (g.met.D.Disk.only_now c.args.disk.now)
+    c.write_at.ensures.time c.write_at.ensures.elsewhere c.write_at.ensures.untold c.write_at.ensures.crash_elsewhere
+    (write_keeps g.D.Disk.may_leave _ _ c.args.file sealed c.args.at _ above c.write_at.ensures.crash) c.write_at.ensures.count
 
 pub returns-clause-written : goal.returns-clause-written
 returns-clause-written g c files after text told told_after before =
@@ -21,8 +19,6 @@ returns-clause-written g c files after text told told_after before =
 
 pub returns-clause-run : goal.returns-clause-run
 returns-clause-run g c sealed above =
-    one_more c.args.file sealed _ _ _ _ _ _ _ _ _
-    (no_call c.args.file sealed _ _ _ (g.met.D.Disk.only_now c.args.disk.now))
-    c.write_at.ensures.elsewhere c.write_at.ensures.untold c.write_at.ensures.crash_elsewhere
-    (write_keeps sealed c.args.at _ _ _ above c.write_at.ensures.crash)
-    c.write_at.ensures.time c.write_at.ensures.count
+    one_call c.args.file sealed (g.met.D.Disk.only_now c.args.disk.now)
+    c.write_at.ensures.time c.write_at.ensures.elsewhere c.write_at.ensures.untold c.write_at.ensures.crash_elsewhere
+    (write_keeps g.D.Disk.may_leave _ _ c.args.file sealed c.args.at _ above c.write_at.ensures.crash) c.write_at.ensures.count

@@ -17,7 +17,7 @@ returns-in-Ok-clause-any_moment g c = λ files bodies told rest.
     let inside = subst (λ j. IsAtRest j (g.D.Disk.may_leave c.args.disk.now) bodies files) (sym c.self.view_is) rest in
     let bytes = laid_out c.deref.result.now c.fill.new.buffer _ c.args.body.now _ c.deref.ensures.value (c.fill.ensures.len ∙ c.deref_mut.ensures.len) c.fill.ensures.record (omega (arith, c.requires.small)) in
     let run = c.in-Ok.ensures.any_moment files _ bodies c.args.body.now told (at_end _ _ bodies files inside) bytes in
-    subst (λ (j : JournalView). Leaves (g.D.Disk.disk c.args.disk.now).moment (g.D.Disk.disk c.write_record.new.disk).moment (g.D.Disk.left_since c.args.disk.now) (g.D.Disk.left_since c.write_record.new.disk) (λ image. HasOldOrNew j.generation bodies c.args.body.now (image j.file) × LeavesOthers j.file (g.D.Disk.may_leave c.args.disk.now) image))
+    subst (λ (j : JournalView). Leaves g.D.Disk.disk g.D.Disk.left_since c.args.disk.now c.write_record.new.disk (λ image. HasOldOrNew j.generation bodies c.args.body.now (image j.file) × LeavesOthers g.D.Disk.may_leave c.args.disk.now j.file image))
     c.self.view_is run
 
 pub returns-in-Err-clause-any_moment : goal.returns-in-Err-clause-any_moment
@@ -25,5 +25,5 @@ returns-in-Err-clause-any_moment g c = λ files bodies told rest.
     let inside = subst (λ j. IsAtRest j (g.D.Disk.may_leave c.args.disk.now) bodies files) (sym c.self.view_is) rest in
     let bytes = laid_out c.deref.result.now c.fill.new.buffer _ c.args.body.now _ c.deref.ensures.value (c.fill.ensures.len ∙ c.deref_mut.ensures.len) c.fill.ensures.record (omega (arith, c.requires.small)) in
     let run = c.in-Err.ensures.any_moment files _ bodies c.args.body.now told (at_end _ _ bodies files inside) bytes in
-    subst (λ (j : JournalView). Leaves (g.D.Disk.disk c.args.disk.now).moment (g.D.Disk.disk c.write_record.new.disk).moment (g.D.Disk.left_since c.args.disk.now) (g.D.Disk.left_since c.write_record.new.disk) (λ image. HasOldOrNew j.generation bodies c.args.body.now (image j.file) × LeavesOthers j.file (g.D.Disk.may_leave c.args.disk.now) image))
+    subst (λ (j : JournalView). Leaves g.D.Disk.disk g.D.Disk.left_since c.args.disk.now c.write_record.new.disk (λ image. HasOldOrNew j.generation bodies c.args.body.now (image j.file) × LeavesOthers g.D.Disk.may_leave c.args.disk.now j.file image))
     c.self.view_is run

@@ -14,17 +14,17 @@ pub returns-in_err-cut_durably-clause-any_moment : goal.returns-in_err-cut_durab
 returns-in_err-cut_durably-clause-any_moment g c = λ files told.
     let found = c.in_ok-bodies.ensures.bodies files (c.in_ok-sync.ensures.told ∙ told) in
     let reads = c.in_ok-bodies.ensures.reads in
-    run_on _ _ _ _ _ _ _
-    (before_cut c.args.file _ _ _ _ _ _ _ _ (HaveSameBodies c.args.generation (files c.args.file)) (g.met.D.Disk.only_now c.args.disk.now) c.sync.ensures.crash c.sync.ensures.time reads.time)
-    (widened _ _ _ _ _ _ (λ image left. (inr (same_bodies c.args.generation c.in_ok-bodies.bodies c.in_ok-bodies.gate (files c.args.file) found.0 found.1 _ (λ d may. c.in_ok-sync.ensures.durable files told d (reads.crash c.args.file tt d may)) (image c.args.file) left.0), λ other ne. c.sync.ensures.crash other tt (image other) (reads.crash other tt (image other) (left.1 other ne)))) c.cut_durably.ensures.any_moment)
+    run_on
+    (before_cut c.args.file (HaveSameBodies c.args.generation (files c.args.file)) c.sync.ensures.time reads g.met.D.Disk.only_now c.sync.ensures.crash)
+    (widened (λ image left. (inr (same_bodies c.args.generation c.in_ok-bodies.bodies c.in_ok-bodies.gate (files c.args.file) found.0 found.1 _ (λ d may. c.in_ok-sync.ensures.durable files told d (reads.crash c.args.file tt d may)) (image c.args.file) left.0), λ other ne. c.sync.ensures.crash other tt (image other) (reads.crash other tt (image other) (left.1 other ne)))) c.cut_durably.ensures.any_moment)
 
 pub returns-clause-any_moment : goal.returns-clause-any_moment
 returns-clause-any_moment g c = λ files told.
     let found = c.in_ok-bodies.ensures.bodies files (c.in_ok-sync.ensures.told ∙ told) in
     let reads = c.in_ok-bodies.ensures.reads in
-    run_on _ _ _ _ _ _ _
-    (before_cut c.args.file _ _ _ _ _ _ _ _ (HaveSameBodies c.args.generation (files c.args.file)) (g.met.D.Disk.only_now c.args.disk.now) c.sync.ensures.crash c.sync.ensures.time reads.time)
-    (widened _ _ _ _ _ _ (λ image left. (inr (same_bodies c.args.generation c.in_ok-bodies.bodies c.in_ok-bodies.gate (files c.args.file) found.0 found.1 _ (λ d may. c.in_ok-sync.ensures.durable files told d (reads.crash c.args.file tt d may)) (image c.args.file) left.0), λ other ne. c.sync.ensures.crash other tt (image other) (reads.crash other tt (image other) (left.1 other ne)))) c.cut_durably.ensures.any_moment)
+    run_on
+    (before_cut c.args.file (HaveSameBodies c.args.generation (files c.args.file)) c.sync.ensures.time reads g.met.D.Disk.only_now c.sync.ensures.crash)
+    (widened (λ image left. (inr (same_bodies c.args.generation c.in_ok-bodies.bodies c.in_ok-bodies.gate (files c.args.file) found.0 found.1 _ (λ d may. c.in_ok-sync.ensures.durable files told d (reads.crash c.args.file tt d may)) (image c.args.file) left.0), λ other ne. c.sync.ensures.crash other tt (image other) (reads.crash other tt (image other) (left.1 other ne)))) c.cut_durably.ensures.any_moment)
 
 pub returns-clause-bodies : goal.returns-clause-bodies
 returns-clause-bodies g c = λ files told.

@@ -2,7 +2,7 @@ use Rattle.edge_memory.proofs.Steps.{elapses}
 use Rattle.edge_memory.proofs.disk.MemDiskDisk.len.Goals as goal
 
 pub returns-in_err-bytes-clause-time : goal.returns-in_err-bytes-clause-time
-returns-in_err-bytes-clause-time c = elapses _ _ _ _ c.in_err-bytes.ensures.time
+returns-in_err-bytes-clause-time c = elapses _ _ c.in_err-bytes.ensures.time
 
 pub returns-clause-time : goal.returns-clause-time
-returns-clause-time c = elapses _ _ _ _ c.in_ok-bytes.ensures.time
+returns-clause-time c = elapses _ _ c.in_ok-bytes.ensures.time
