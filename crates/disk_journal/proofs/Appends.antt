@@ -5,7 +5,7 @@ use Rattle.std.proofs.lemmas.Bool.{cases_eq}
 use Rattle.std.proofs.lemmas.Grind.{common_steps, flat_map-append}
 use Rattle.std.proofs.lemmas.List.{append-nil, take-append-drop, take_at, drop_at, drop_more, take_all, drop_all, length-take}
 use Rattle.edge_traits.specs.Disk.{Image, overwritten, Torn, Only, MayFollow}
-use Rattle.disk_journal.specs.GateFile.{header, open_record, open_records, gate_file, HaveLengths, HasOldOrNew}
+use Rattle.disk_journal.specs.GateFile.{Heading, header, open_record, open_records, gate_file, HaveLengths, HasOldOrNew}
 use Rattle.disk_journal.specs.Appending.{shut_record, IsRecordOf, IsAtEnd}
 
 length_overwritten : (old bytes : List ℕ) (at : ℕ) → at ≤ length old → at + length bytes ≤ length (overwritten old at bytes)
@@ -76,17 +76,17 @@ torn_gate front rest c gate at is torn =
     sym (take-append-drop at c) ∙ ap (λ l. l ++ drop at c) before ∙ ap (λ l. front ++ l) behind
 
 -- the record counts where its gate is open
-record_counts : (generation : ℕ) (bodies : List (List ℕ)) (body : List ℕ) → header generation ++ open_records bodies ++ 1 ∷ shut_record body ≡ gate_file generation (bodies ++ body ∷ []) 0
-record_counts generation bodies body =
-    let front = header generation ++ open_records bodies in
+record_counts : (heading : Heading) (bodies : List (List ℕ)) (body : List ℕ) → header heading ++ open_records bodies ++ 1 ∷ shut_record body ≡ gate_file heading (bodies ++ body ∷ []) 0
+record_counts heading bodies body =
+    let front = header heading ++ open_records bodies in
     let record_then_gate : 1 ∷ shut_record body ≡ open_record body ++ 0 ∷ [] = refl in
-    let all : header generation ++ open_records (bodies ++ body ∷ []) ≡ front ++ open_record body =
-    ap (λ l. header generation ++ l) (open_records_push bodies body) ∙ sym (append_assoc (header generation) (open_records bodies) (open_record body)) in
+    let all : header heading ++ open_records (bodies ++ body ∷ []) ≡ front ++ open_record body =
+    ap (λ l. header heading ++ l) (open_records_push bodies body) ∙ sym (append_assoc (header heading) (open_records bodies) (open_record body)) in
     ap (λ l. front ++ l) record_then_gate ∙ sym (append_assoc front (open_record body) (0 ∷ [])) ∙ ap (λ l. l ++ 0 ∷ []) (sym all)
 
-module _ (generation end : ℕ) (bodies : List (List ℕ)) (may_leave : List ℕ → Type 0) (file : List ℕ) (at_end : IsAtEnd generation bodies end may_leave file) (body bytes : List ℕ) (is_record : IsRecordOf body bytes) where
+module _ (heading : Heading) (end : ℕ) (bodies : List (List ℕ)) (may_leave : List ℕ → Type 0) (file : List ℕ) (at_end : IsAtEnd heading bodies end may_leave file) (body bytes : List ℕ) (is_record : IsRecordOf body bytes) where
   abbrev front : List ℕ
-  front = header generation ++ open_records bodies
+  front = header heading ++ open_records bodies
 
   size : length front ≡ end - 1
   size = omega (arith, at_end.place, ap length at_end.content, length-append front (at_end.gate ∷ []))
@@ -97,24 +97,24 @@ module _ (generation end : ℕ) (bodies : List (List ℕ)) (may_leave : List ℕ
       ∙ append_assoc front (at_end.gate ∷ []) (shut_record body)
 
   -- what the two steps make
-  pub appended : (mid after : List ℕ) → mid ≡ overwritten file end bytes → after ≡ overwritten mid (end - 1) (1 ∷ []) → after ≡ gate_file generation (bodies ++ body ∷ []) 0
+  pub appended : (mid after : List ℕ) → mid ≡ overwritten file end bytes → after ≡ overwritten mid (end - 1) (1 ∷ []) → after ≡ gate_file heading (bodies ++ body ∷ []) 0
   appended mid after staged opened =
-      opened ∙ ap (λ l. overwritten l (end - 1) (1 ∷ [])) (is_staged mid staged) ∙ written_gate front (shut_record body) at_end.gate 1 (end - 1) size ∙ record_counts generation bodies body
+      opened ∙ ap (λ l. overwritten l (end - 1) (1 ∷ [])) (is_staged mid staged) ∙ written_gate front (shut_record body) at_end.gate 1 (end - 1) size ∙ record_counts heading bodies body
 
   -- a crash in the first leaves the old bodies
-  pub first_leaves : (c : List ℕ) → MayFollow (Torn end (length bytes)) may_leave c → HasOldOrNew generation bodies body c
+  pub first_leaves : (c : List ℕ) → MayFollow (Torn end (length bytes)) may_leave c → HasOldOrNew heading bodies body c
   first_leaves c left =
       let torn = subst (λ d. Torn end (length bytes) d c) (at_end.durable left.0 left.1) left.2 in
       inl (record { gate = at_end.gate; behind = drop end c; closed = at_end.closed; lengths = at_end.lengths; content = torn_behind file c end (length bytes) at_end.place torn ∙ ap (λ l. l ++ drop end c) at_end.content })
 
-  opened_or_not : (gate : ℕ) → HasOldOrNew generation bodies body (front ++ gate ∷ shut_record body)
+  opened_or_not : (gate : ℕ) → HasOldOrNew heading bodies body (front ++ gate ∷ shut_record body)
   opened_or_not gate = elim (cases_eq gate 1) [
-    | inl is_open ↦ inr (record { gate = 0; behind = []; closed = omega arith; lengths = have_lengths_push bodies body at_end.lengths is_record.short; content = ap (λ g. front ++ g ∷ shut_record body) is_open ∙ record_counts generation bodies body ∙ sym (append-nil (gate_file generation (bodies ++ body ∷ []) 0)) })
+    | inl is_open ↦ inr (record { gate = 0; behind = []; closed = omega arith; lengths = have_lengths_push bodies body at_end.lengths is_record.short; content = ap (λ g. front ++ g ∷ shut_record body) is_open ∙ record_counts heading bodies body ∙ sym (append-nil (gate_file heading (bodies ++ body ∷ []) 0)) })
     | inr shut ↦ inl (record { gate = gate; behind = shut_record body; closed = shut; lengths = at_end.lengths; content = sym (append_assoc front (gate ∷ []) (shut_record body)) })
   ]
 
   -- one in the second leaves these and the new one, or without it
-  pub second_leaves : (mid : List ℕ) (may_leave_mid : List ℕ → Type 0) → mid ≡ overwritten file end bytes → Only mid may_leave_mid → (c : List ℕ) → MayFollow (Torn (end - 1) 1) may_leave_mid c → HasOldOrNew generation bodies body c
+  pub second_leaves : (mid : List ℕ) (may_leave_mid : List ℕ → Type 0) → mid ≡ overwritten file end bytes → Only mid may_leave_mid → (c : List ℕ) → MayFollow (Torn (end - 1) 1) may_leave_mid c → HasOldOrNew heading bodies body c
   second_leaves mid may_leave_mid staged only c left =
       let torn = subst (λ d. Torn (end - 1) 1 d c) (only left.0 left.1 ∙ is_staged mid staged) left.2 in
-      subst (HasOldOrNew generation bodies body) (sym (torn_gate front (shut_record body) c at_end.gate (end - 1) size torn)) (opened_or_not (get_or c (end - 1) 0))
+      subst (HasOldOrNew heading bodies body) (sym (torn_gate front (shut_record body) c at_end.gate (end - 1) size torn)) (opened_or_not (get_or c (end - 1) 0))

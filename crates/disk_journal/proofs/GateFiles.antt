@@ -3,13 +3,10 @@ use Rattle.std.proofs.Common.{◌≡◌, ◌≢◌, ◌<◌, ◌^◌, inl, inr, 
 use Rattle.std.specs.Int.{to_be_bytes, from_be_bytes, w64}
 use Rattle.std.proofs.lemmas.Nat.{from_be_bytes-to_be_bytes_8}
 use Rattle.std.proofs.lemmas.List.{append_cancel_left, take_at}
-use Rattle.disk_journal.specs.GateFile.{header, open_record, open_records, gate_file, HaveLengths, HasBodies, BeginsWithRecord, IsDamagedAt}
+use Rattle.disk_journal.specs.GateFile.{Heading, header, open_record, open_records, gate_file, HaveLengths, HasBodies, BeginsWithRecord, IsDamagedAt}
 
-pub length_word : (n : ℕ) → length (to_be_bytes w64 n) ≡ 8
-length_word n = refl
-
-pub length_header : (generation : ℕ) → length (header generation) ≡ 16
-length_header generation = refl
+pub length_header : (heading : Heading) → length (header heading) ≡ 16
+length_header heading = refl
 
 pub word_is_one : (m n : ℕ) → m < 2 ^ 64 → n < 2 ^ 64 → to_be_bytes w64 m ≡ to_be_bytes w64 n → m ≡ n
 word_is_one m n short_m short_n same = sym (from_be_bytes-to_be_bytes_8 m short_m) ∙ ap (from_be_bytes w64) same ∙ from_be_bytes-to_be_bytes_8 n short_n
@@ -64,45 +61,45 @@ records_are_one (a ∷ front) (b ∷ bs) g h x y short_a short_b end_a end_b sam
 pub closed_ends : (gate : ℕ) (behind : List ℕ) → gate ≢ 1 → BeginsWithRecord (gate ∷ behind) → ⊥
 closed_ends gate behind closed begun = let same : gate ≡ 1 = (let e = begun.content in cc) in closed same
 
-pub file_split : (generation : ℕ) (bodies : List (List ℕ)) (gate : ℕ) (behind : List ℕ) → gate_file generation bodies gate ++ behind ≡ header generation ++ (open_records bodies ++ gate ∷ behind)
-file_split generation bodies gate behind =
-    append_assoc (header generation ++ open_records bodies) (gate ∷ []) behind ∙ append_assoc (header generation) (open_records bodies) (gate ∷ behind)
+pub file_split : (heading : Heading) (bodies : List (List ℕ)) (gate : ℕ) (behind : List ℕ) → gate_file heading bodies gate ++ behind ≡ header heading ++ (open_records bodies ++ gate ∷ behind)
+file_split heading bodies gate behind =
+    append_assoc (header heading ++ open_records bodies) (gate ∷ []) behind ∙ append_assoc (header heading) (open_records bodies) (gate ∷ behind)
 
-pub bodies_are_one : (generation : ℕ) (a b : List (List ℕ)) (file : List ℕ) → HasBodies generation a file → HasBodies generation b file → a ≡ b
-bodies_are_one generation a b file has_a has_b =
-    let same = sym (file_split generation a has_a.gate has_a.behind) ∙ sym has_a.content ∙ has_b.content ∙ file_split generation b has_b.gate has_b.behind in
-    (records_are_one a b has_a.gate has_b.gate has_a.behind has_b.behind has_a.lengths has_b.lengths (closed_ends _ _ has_a.closed) (closed_ends _ _ has_b.closed) (append_cancel_left (header generation) _ _ same)).0
+pub bodies_are_one : (heading : Heading) (a b : List (List ℕ)) (file : List ℕ) → HasBodies heading a file → HasBodies heading b file → a ≡ b
+bodies_are_one heading a b file has_a has_b =
+    let same = sym (file_split heading a has_a.gate has_a.behind) ∙ sym has_a.content ∙ has_b.content ∙ file_split heading b has_b.gate has_b.behind in
+    (records_are_one a b has_a.gate has_b.gate has_a.behind has_b.behind has_a.lengths has_b.lengths (closed_ends _ _ has_a.closed) (closed_ends _ _ has_b.closed) (append_cancel_left (header heading) _ _ same)).0
 
-cut_split : (generation : ℕ) (bodies : List (List ℕ)) (rest : List ℕ) → header generation ++ open_records bodies ++ rest ≡ header generation ++ (open_records bodies ++ rest)
-cut_split generation bodies rest = append_assoc (header generation) (open_records bodies) rest
+cut_split : (heading : Heading) (bodies : List (List ℕ)) (rest : List ℕ) → header heading ++ open_records bodies ++ rest ≡ header heading ++ (open_records bodies ++ rest)
+cut_split heading bodies rest = append_assoc (header heading) (open_records bodies) rest
 
-front_of_cut : (generation : ℕ) (bodies : List (List ℕ)) (rest file : List ℕ) → file ≡ header generation ++ open_records bodies ++ rest → take 16 file ≡ header generation
-front_of_cut generation bodies rest file is = ap (take 16) (is ∙ cut_split generation bodies rest) ∙ take_at (header generation) (open_records bodies ++ rest) 16 refl
+front_of_cut : (heading : Heading) (bodies : List (List ℕ)) (rest file : List ℕ) → file ≡ header heading ++ open_records bodies ++ rest → take 16 file ≡ header heading
+front_of_cut heading bodies rest file is = ap (take 16) (is ∙ cut_split heading bodies rest) ∙ take_at (header heading) (open_records bodies ++ rest) 16 refl
 
-long_of_cut : (generation : ℕ) (bodies : List (List ℕ)) (gate : ℕ) (behind : List ℕ) → header generation ++ open_records bodies ++ gate ∷ behind ≡ header generation → ⊥
-long_of_cut generation bodies gate behind is =
-    omega (arith, ap length is, length-append (header generation ++ open_records bodies) (gate ∷ behind), length-append (header generation) (open_records bodies), length_header generation)
+long_of_cut : (heading : Heading) (bodies : List (List ℕ)) (gate : ℕ) (behind : List ℕ) → header heading ++ open_records bodies ++ gate ∷ behind ≡ header heading → ⊥
+long_of_cut heading bodies gate behind is =
+    omega (arith, ap length is, length-append (header heading ++ open_records bodies) (gate ∷ behind), length-append (header heading) (open_records bodies), length_header heading)
 
-pub damaged_has_no_bodies : (generation at : ℕ) (bodies : List (List ℕ)) (file : List ℕ) → IsDamagedAt generation file at → HasBodies generation bodies file → ⊥
-damaged_has_no_bodies generation at bodies file (inl other) has =
-    other.1 (front_of_cut generation bodies (has.gate ∷ has.behind) file (has.content ∙ append_assoc (header generation ++ open_records bodies) (has.gate ∷ []) has.behind))
-damaged_has_no_bodies generation at bodies file (inr (inl ends)) has =
-    long_of_cut generation bodies has.gate has.behind (sym (append_assoc (header generation ++ open_records bodies) (has.gate ∷ []) has.behind) ∙ sym has.content ∙ ends.1)
-damaged_has_no_bodies generation at bodies file (inr (inr cut)) has =
-    let same = sym (cut_split generation cut.bodies (1 ∷ cut.behind)) ∙ sym cut.content ∙ has.content ∙ file_split generation bodies has.gate has.behind in
-    let rest = (records_are_one cut.bodies bodies 1 has.gate cut.behind has.behind cut.lengths has.lengths cut.cut (closed_ends _ _ has.closed) (append_cancel_left (header generation) _ _ same)).1 in
+pub damaged_has_no_bodies : (heading : Heading) (at : ℕ) (bodies : List (List ℕ)) (file : List ℕ) → IsDamagedAt heading file at → HasBodies heading bodies file → ⊥
+damaged_has_no_bodies heading at bodies file (inl other) has =
+    other.1 (front_of_cut heading bodies (has.gate ∷ has.behind) file (has.content ∙ append_assoc (header heading ++ open_records bodies) (has.gate ∷ []) has.behind))
+damaged_has_no_bodies heading at bodies file (inr (inl ends)) has =
+    long_of_cut heading bodies has.gate has.behind (sym (append_assoc (header heading ++ open_records bodies) (has.gate ∷ []) has.behind) ∙ sym has.content ∙ ends.1)
+damaged_has_no_bodies heading at bodies file (inr (inr cut)) has =
+    let same = sym (cut_split heading cut.bodies (1 ∷ cut.behind)) ∙ sym cut.content ∙ has.content ∙ file_split heading bodies has.gate has.behind in
+    let rest = (records_are_one cut.bodies bodies 1 has.gate cut.behind has.behind cut.lengths has.lengths cut.cut (closed_ends _ _ has.closed) (append_cancel_left (header heading) _ _ same)).1 in
     has.closed (cc)
 
-pub damage_is_at_one_place : (generation at other : ℕ) (file : List ℕ) → IsDamagedAt generation file at → IsDamagedAt generation file other → at ≡ other
-damage_is_at_one_place generation at other file (inl a) (inl b) = a.0 ∙ sym b.0
-damage_is_at_one_place generation at other file (inl a) (inr (inl b)) = absurd (a.1 (ap (take 16) b.1))
-damage_is_at_one_place generation at other file (inl a) (inr (inr b)) = absurd (a.1 (front_of_cut generation b.bodies (1 ∷ b.behind) file b.content))
-damage_is_at_one_place generation at other file (inr (inl a)) (inl b) = absurd (b.1 (ap (take 16) a.1))
-damage_is_at_one_place generation at other file (inr (inl a)) (inr (inl b)) = a.0 ∙ sym b.0
-damage_is_at_one_place generation at other file (inr (inl a)) (inr (inr b)) = absurd (long_of_cut generation b.bodies 1 b.behind (sym b.content ∙ a.1))
-damage_is_at_one_place generation at other file (inr (inr a)) (inl b) = absurd (b.1 (front_of_cut generation a.bodies (1 ∷ a.behind) file a.content))
-damage_is_at_one_place generation at other file (inr (inr a)) (inr (inl b)) = absurd (long_of_cut generation a.bodies 1 a.behind (sym a.content ∙ b.1))
-damage_is_at_one_place generation at other file (inr (inr a)) (inr (inr b)) =
-    let same = sym (cut_split generation a.bodies (1 ∷ a.behind)) ∙ sym a.content ∙ b.content ∙ cut_split generation b.bodies (1 ∷ b.behind) in
-    let bodies = (records_are_one a.bodies b.bodies 1 1 a.behind b.behind a.lengths b.lengths a.cut b.cut (append_cancel_left (header generation) _ _ same)).0 in
-    a.place ∙ ap (λ bs. length (header generation ++ open_records bs)) bodies ∙ sym b.place
+pub damage_is_at_one_place : (heading : Heading) (at other : ℕ) (file : List ℕ) → IsDamagedAt heading file at → IsDamagedAt heading file other → at ≡ other
+damage_is_at_one_place heading at other file (inl a) (inl b) = a.0 ∙ sym b.0
+damage_is_at_one_place heading at other file (inl a) (inr (inl b)) = absurd (a.1 (ap (take 16) b.1))
+damage_is_at_one_place heading at other file (inl a) (inr (inr b)) = absurd (a.1 (front_of_cut heading b.bodies (1 ∷ b.behind) file b.content))
+damage_is_at_one_place heading at other file (inr (inl a)) (inl b) = absurd (b.1 (ap (take 16) a.1))
+damage_is_at_one_place heading at other file (inr (inl a)) (inr (inl b)) = a.0 ∙ sym b.0
+damage_is_at_one_place heading at other file (inr (inl a)) (inr (inr b)) = absurd (long_of_cut heading b.bodies 1 b.behind (sym b.content ∙ a.1))
+damage_is_at_one_place heading at other file (inr (inr a)) (inl b) = absurd (b.1 (front_of_cut heading a.bodies (1 ∷ a.behind) file a.content))
+damage_is_at_one_place heading at other file (inr (inr a)) (inr (inl b)) = absurd (long_of_cut heading a.bodies 1 a.behind (sym a.content ∙ b.1))
+damage_is_at_one_place heading at other file (inr (inr a)) (inr (inr b)) =
+    let same = sym (cut_split heading a.bodies (1 ∷ a.behind)) ∙ sym a.content ∙ b.content ∙ cut_split heading b.bodies (1 ∷ b.behind) in
+    let bodies = (records_are_one a.bodies b.bodies 1 1 a.behind b.behind a.lengths b.lengths a.cut b.cut (append_cancel_left (header heading) _ _ same)).0 in
+    a.place ∙ ap (λ bs. length (header heading ++ open_records bs)) bodies ∙ sym b.place

@@ -4,11 +4,11 @@ use Rattle.std.specs.Prelude.{⊤}
 use Rattle.std.proofs.lemmas.List.{take_at, take_all}
 use Rattle.edge_traits.specs.Disk.{DiskView, Image, Cut, MayFollow, Adds, Only, IsImage, Elapses, Leaves, LeavesOthers}
 use Rattle.edge_traits.proofs.Moments.{started, goes_on, run_on, widened}
-use Rattle.disk_journal.specs.GateFile.{header, open_records, gate_file, HasBodies, HaveSameBodies, IsDamagedAt}
+use Rattle.disk_journal.specs.GateFile.{Heading, header, open_records, gate_file, HasBodies, HaveSameBodies, IsDamagedAt}
 use Rattle.disk_journal.specs.Reads.{OnlyReads, IsReadTo, IsClosed}
 
-pub ends_with_header : (generation end : ℕ) (file : List ℕ) → end ≡ length file → end ≤ 16 → take 16 file ≡ header generation → IsDamagedAt generation file 16
-ends_with_header generation end file is short front = inr (inl (refl, sym (take_all 16 file (omega (arith, is, short))) ∙ front))
+pub ends_with_header : (heading : Heading) (end : ℕ) (file : List ℕ) → end ≡ length file → end ≤ 16 → take 16 file ≡ header heading → IsDamagedAt heading file 16
+ends_with_header heading end file is short front = inr (inl (refl, sym (take_all 16 file (omega (arith, is, short))) ∙ front))
 
 take_past : (xs ys : List ℕ) (n : ℕ) → length xs ≤ n → take n (xs ++ ys) ≡ xs ++ take (n - length xs) ys
 take_past [] ys n le = let same : n ≡ n - 0 = omega arith in ap (λ (k : ℕ). take k ys) same
@@ -16,34 +16,34 @@ take_past (x ∷ xs) ys zero le = absurd (omega (arith, le))
 take_past (x ∷ xs) ys (suc n) le =
     let less : suc n - length (x ∷ xs) ≡ n - length xs = omega arith in ap (λ l. x ∷ l) (take_past xs ys n (omega (arith, le))) ∙ ap (λ k. x ∷ xs ++ take k ys) (sym less)
 
-module _ (generation : ℕ) (bodies : List (List ℕ)) (at : ℕ) (file : List ℕ) (to : IsReadTo generation bodies at (drop at file) file) (end : IsClosed (drop at file)) where
-  split : file ≡ gate_file generation bodies end.gate ++ end.behind
-  split = to.content ∙ ap (λ l. header generation ++ open_records bodies ++ l) end.content ∙ sym (append_assoc (header generation ++ open_records bodies) (end.gate ∷ []) end.behind)
+module _ (heading : Heading) (bodies : List (List ℕ)) (at : ℕ) (file : List ℕ) (to : IsReadTo heading bodies at (drop at file) file) (end : IsClosed (drop at file)) where
+  split : file ≡ gate_file heading bodies end.gate ++ end.behind
+  split = to.content ∙ ap (λ l. header heading ++ open_records bodies ++ l) end.content ∙ sym (append_assoc (header heading ++ open_records bodies) (end.gate ∷ []) end.behind)
 
-  size : length (gate_file generation bodies end.gate) ≡ at + 1
-  size = omega (arith, to.place, length-append (header generation ++ open_records bodies) (end.gate ∷ []))
+  size : length (gate_file heading bodies end.gate) ≡ at + 1
+  size = omega (arith, to.place, length-append (header heading ++ open_records bodies) (end.gate ∷ []))
 
-  pub read_bodies_of : HasBodies generation bodies file
+  pub read_bodies_of : HasBodies heading bodies file
   read_bodies_of = record { gate = end.gate; behind = end.behind; closed = end.closed; lengths = to.lengths; content = split }
 
   pub gate_stands : at + 1 ≤ length file
-  gate_stands = omega (arith, ap length split, length-append (gate_file generation bodies end.gate) end.behind, size)
+  gate_stands = omega (arith, ap length split, length-append (gate_file heading bodies end.gate) end.behind, size)
 
-  pub front_is : take (at + 1) file ≡ gate_file generation bodies end.gate
-  front_is = ap (take (at + 1)) split ∙ take_at (gate_file generation bodies end.gate) end.behind (at + 1) size
+  pub front_is : take (at + 1) file ≡ gate_file heading bodies end.gate
+  front_is = ap (take (at + 1)) split ∙ take_at (gate_file heading bodies end.gate) end.behind (at + 1) size
 
   -- a cut behind that gate keeps the bodies
-  cut_keeps : (c : List ℕ) → Cut (at + 1) file c → HasBodies generation bodies c
+  cut_keeps : (c : List ℕ) → Cut (at + 1) file c → HasBodies heading bodies c
   cut_keeps c cut = record {
     gate = end.gate;
-    behind = take (length c - length (gate_file generation bodies end.gate)) end.behind;
+    behind = take (length c - length (gate_file heading bodies end.gate)) end.behind;
     closed = end.closed;
     lengths = to.lengths;
     content =
-        sym cut.front ∙ ap (take (length c)) split ∙ take_past (gate_file generation bodies end.gate) end.behind (length c) (omega (arith, cut.no_shorter, size, gate_stands));
+        sym cut.front ∙ ap (take (length c)) split ∙ take_past (gate_file heading bodies end.gate) end.behind (length c) (omega (arith, cut.no_shorter, size, gate_stands));
   }
 
-  pub same_bodies : (may_leave : List ℕ → Type 0) → Only file may_leave → (c : List ℕ) → MayFollow (Cut (at + 1)) may_leave c → HaveSameBodies generation file c
+  pub same_bodies : (may_leave : List ℕ → Type 0) → Only file may_leave → (c : List ℕ) → MayFollow (Cut (at + 1)) may_leave c → HaveSameBodies heading file c
   same_bodies may_leave only c left =
       record { bodies = bodies; first = read_bodies_of; second = cut_keeps c (subst (λ d. Cut (at + 1) d c) (only left.0 left.1) left.2) }
 

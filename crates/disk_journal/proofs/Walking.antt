@@ -1,10 +1,10 @@
 -- Reading a gate file from its header to the first gate that isn't open.
-use Rattle.std.proofs.Common.{◌≡◌, ◌<◌, ◌≤◌, ◌+◌, ◌^◌, ⊎_elim, inr, ℕ, List, [], ◌∷◌, ◌++◌, length, take, drop, false, Result, Ok, Err, OnOk, is_err, refl, sym, ◌∙◌, ap, subst, arith, append_assoc, length-append}
+use Rattle.std.proofs.Common.{◌≡◌, ◌<◌, ◌+◌, ◌^◌, ⊎_elim, inr, ℕ, List, [], ◌∷◌, ◌++◌, length, take, drop, false, Result, Ok, Err, OnOk, is_err, refl, sym, ◌∙◌, ap, subst, arith, append_assoc, length-append}
 use Rattle.std.specs.Prelude.{Some}
 use Rattle.std.specs.Int.{to_be_bytes, w64}
 use Rattle.std.proofs.lemmas.List.{take-append-drop, length-take-le, drop-drop}
 use Rattle.edge_traits.specs.Disk.{DiskView, Image}
-use Rattle.disk_journal.specs.GateFile.{header, open_record, open_records, IsDamagedAt}
+use Rattle.disk_journal.specs.GateFile.{Heading, header, header_length, open_record, open_records, IsDamagedAt}
 use Rattle.disk_journal.specs.Journal.{IsFaultOf}
 use Rattle.disk_journal.specs.declared.journal.JournalFault.{JournalFault}
 use Rattle.disk_journal.specs.declared.journal.JournalFault.TheVariants as fault
@@ -26,38 +26,44 @@ reads_on first then = record {
 -- how far the loop is
 pub record HaveRead {D : Type 0} (disk : D → DiskView) (may_leave : D → ℕ → List ℕ → Type 0) (left_since : D → ℕ → Image → Type 0) (old now : D) (file end : ℕ) (bodies : List (List ℕ)) (at : ℕ) : Type 0 where
   pub reads : OnlyReads disk may_leave left_since old now
-  pub behind_header : 16 ≤ at
+  pub place : at ≡ header_length + length (open_records bodies)
   pub within : at < end
-  pub to : (files : Image) (generation : ℕ) → (disk old).told ≡ Some files → end ≡ length (files file) → take 16 (files file) ≡ header generation
-      → IsReadTo generation bodies at (drop at (files file)) (files file)
+  pub to : (files : Image) (heading : Heading) → (disk old).told ≡ Some files → end ≡ length (files file) → take header_length (files file) ≡ header heading
+      → IsReadTo heading bodies at (drop at (files file)) (files file)
 
 pub pushed : {T E P : Type 0} (r : Result T E) → OnOk r P → is_err r ≡ false → P
 pushed (Ok x) holds ok = holds
 pushed (Err e) holds ok = absurd (cc)
 
+-- one body more
+pub place_more : (at size : ℕ) (bodies more : List (List ℕ)) (body : List ℕ) → at ≡ header_length + length (open_records bodies) → more ≡ bodies ++ body ∷ [] → length body ≡ size
+    → at + (9 + size) ≡ header_length + length (open_records more)
+place_more at size bodies more body place pushed is =
+    omega (arith, ap (λ bs. length (open_records bs)) pushed, ap length (open_records_push bodies body), length-append (open_records bodies) (open_record body), length_open_record body)
+
 -- a record that isn't whole is where the file is damaged
-cut_at : (generation : ℕ) (bodies : List (List ℕ)) (at : ℕ) (file : List ℕ) → IsReadTo generation bodies at (drop at file) file → IsCutShort (drop at file) → IsDamagedAt generation file at
-cut_at generation bodies at file to short = inr (inr (record {
+cut_at : (heading : Heading) (bodies : List (List ℕ)) (at : ℕ) (file : List ℕ) → IsReadTo heading bodies at (drop at file) file → IsCutShort (drop at file) → IsDamagedAt heading file at
+cut_at heading bodies at file to short = inr (inr (record {
   bodies = bodies;
   behind = short.behind;
   lengths = to.lengths;
-  content = to.content ∙ ap (λ l. header generation ++ open_records bodies ++ l) short.opened;
+  content = to.content ∙ ap (λ l. header heading ++ open_records bodies ++ l) short.opened;
   place = to.place;
   cut = short.cut;
 }))
 
-pub damage_found : (e : JournalFault) (generation : ℕ) (bodies : List (List ℕ)) (at : ℕ) (file : List ℕ) → IsReadTo generation bodies at (drop at file) file
-    → ((place : ℕ) → e ≡ fault.Damaged place → (place ≡ at) × IsCutShort (drop at file)) → IsFaultOf generation file e
-damage_found (fault.Damaged place) generation bodies at file to found =
-    subst (IsDamagedAt generation file) (sym (found place refl).0) (cut_at generation bodies at file to (found place refl).1)
-damage_found fault.Disk generation bodies at file to found = tt
-damage_found fault.OutOfMemory generation bodies at file to found = tt
+pub damage_found : (e : JournalFault) (heading : Heading) (bodies : List (List ℕ)) (at : ℕ) (file : List ℕ) → IsReadTo heading bodies at (drop at file) file
+    → ((place : ℕ) → e ≡ fault.Damaged place → (place ≡ at) × IsCutShort (drop at file)) → IsFaultOf heading file e
+damage_found (fault.Damaged place) heading bodies at file to found =
+    subst (IsDamagedAt heading file) (sym (found place refl).0) (cut_at heading bodies at file to (found place refl).1)
+damage_found fault.Disk heading bodies at file to found = tt
+damage_found fault.OutOfMemory heading bodies at file to found = tt
 
 -- a whole record more
-pub record_read : (generation : ℕ) (bodies : List (List ℕ)) (at size : ℕ) (body file : List ℕ) → IsReadTo generation bodies at (drop at file) file → size < 2 ^ 64
-    → IsOpen (drop at file) size → body ≡ take size (drop (at + 9) file) → IsReadTo generation (bodies ++ body ∷ []) (at + (9 + size)) (drop (at + (9 + size)) file) file
-record_read generation bodies at size body file to short opened is =
-    let front = header generation ++ open_records bodies in
+pub record_read : (heading : Heading) (bodies : List (List ℕ)) (at size : ℕ) (body file : List ℕ) → IsReadTo heading bodies at (drop at file) file → size < 2 ^ 64
+    → IsOpen (drop at file) size → body ≡ take size (drop (at + 9) file) → IsReadTo heading (bodies ++ body ∷ []) (at + (9 + size)) (drop (at + (9 + size)) file) file
+record_read heading bodies at size body file to short opened is =
+    let front = header heading ++ open_records bodies in
     let behind = opened.behind in
     let word = to_be_bytes w64 size in
     let rest : drop (at + 9) file ≡ behind = sym (drop-drop 9 at file) ∙ ap (drop 9) opened.content in
@@ -70,13 +76,13 @@ record_read generation bodies at size body file to short opened is =
     ∙ ap (λ b. 1 ∷ word ++ (b ++ drop size behind)) is_body
     ∙ ap (λ l. 1 ∷ word ++ l) (take-append-drop size behind)
     ∙ sym opened.content in
-    let longer : header generation ++ open_records (bodies ++ body ∷ []) ≡ front ++ open_record body =
-    ap (λ l. header generation ++ l) (open_records_push bodies body) ∙ sym (append_assoc (header generation) (open_records bodies) (open_record body)) in
+    let longer : header heading ++ open_records (bodies ++ body ∷ []) ≡ front ++ open_record body =
+    ap (λ l. header heading ++ l) (open_records_push bodies body) ∙ sym (append_assoc (header heading) (open_records bodies) (open_record body)) in
     record {
       lengths = have_lengths_push bodies body to.lengths (omega (arith, short, length_body));
       content =
           to.content ∙ ap (λ l. front ++ l) (sym whole) ∙ sym (append_assoc front (open_record body) (drop size behind))
-          ∙ ap (λ l. l ++ drop size behind) (sym longer) ∙ ap (λ l. header generation ++ open_records (bodies ++ body ∷ []) ++ l) (sym after);
+          ∙ ap (λ l. l ++ drop size behind) (sym longer) ∙ ap (λ l. header heading ++ open_records (bodies ++ body ∷ []) ++ l) (sym after);
       place = omega (arith, to.place, ap length longer, length-append front (open_record body), length_body, length_open_record body);
     }
   where

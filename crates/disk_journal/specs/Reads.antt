@@ -2,7 +2,7 @@
 use Rattle.std.specs.Prelude.{◌≡◌, ◌≢◌, ◌⊎◌, ◌<◌, ◌≤◌, ℕ, List, ◌∷◌, ◌++◌, length, ⊤}
 use Rattle.std.specs.Int.{to_be_bytes, w64}
 use Rattle.edge_traits.specs.Disk.{DiskView, Image, IsImage, Adds}
-use Rattle.disk_journal.specs.GateFile.{header, open_records, HaveLengths, BeginsWithRecord}
+use Rattle.disk_journal.specs.GateFile.{Heading, header, open_records, HaveLengths, BeginsWithRecord}
 
 -- the disk only read: nothing changed, and a crash leaves what it might have left before
 pub record OnlyReads {D : Type 0} (disk : D → DiskView) (may_leave : D → ℕ → List ℕ → Type 0) (left_since : D → ℕ → Image → Type 0) (old new : D) : Type 0 where
@@ -13,10 +13,10 @@ pub record OnlyReads {D : Type 0} (disk : D → DiskView) (may_leave : D → ℕ
   pub count : (disk old).faults ≤ (disk new).faults
 
 -- the file has a header and whole records of these bodies up to the offset, and goes on with the rest
-pub record IsReadTo (generation : ℕ) (bodies : List (List ℕ)) (at : ℕ) (rest file : List ℕ) : Type 0 where
+pub record IsReadTo (heading : Heading) (bodies : List (List ℕ)) (at : ℕ) (rest file : List ℕ) : Type 0 where
   pub lengths : HaveLengths bodies
-  pub content : file ≡ (header generation ++ open_records bodies) ++ rest
-  pub place : at ≡ length (header generation ++ open_records bodies)
+  pub content : file ≡ (header heading ++ open_records bodies) ++ rest
+  pub place : at ≡ length (header heading ++ open_records bodies)
 
 -- these bytes begin with an open gate, and not with a whole record and a gate
 pub record IsCutShort (rest : List ℕ) : Type 0 where

@@ -38,6 +38,7 @@ pub(crate) fn cut_durably<D: Disk>(disk: &mut D, file: u64, len: u64) -> Result<
         → OnOk result (after file ≡ take len (files file)) }
     ensures durable { (after : Image) → (D.disk disk.new).told ≡ Some after → OnOk result (Only (after file) (D.may_leave disk.new file)) }
     ensures elsewhere { (files : Image) → (D.disk disk.old).told ≡ Some files → ChangesOnly files (D.disk disk.new).told file }
+    ensures untold { (D.disk disk.old).told ≡ None → (D.disk disk.new).told ≡ None }
     ensures crash_elsewhere { Adds D.may_leave disk.old disk.new (λ other. other ≢ file) }
 
     // A crash at any moment leaves the file as it was, or cut by this call alone.

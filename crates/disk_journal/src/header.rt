@@ -1,5 +1,5 @@
 ghost use Rattle.std.specs.Prelude.{◌≡◌};
-ghost use Rattle.disk_journal.specs.GateFile.{header};
+ghost use Rattle.disk_journal.specs.GateFile.{heading_of, header};
 
 // How many bytes a header takes.
 pub(crate) const HEADER: usize = 16;
@@ -17,7 +17,7 @@ const FORMAT: u32 = 1;
 
 // The header of a file of this generation.
 pub(crate) fn header(generation: u64) -> [u8; HEADER]
-    ensures { result ≡ header generation }
+    ensures { result ≡ header (heading_of generation) }
 {
     let mut bytes = [0; HEADER];
     bytes[..4].copy_from_slice(b"IMQJ");

@@ -1,7 +1,7 @@
-ghost use Rattle.std.specs.Prelude.{◌≡◌, ◌≢◌, ◌⊎◌, ◌↔◌, ◌<◌, ◌≤◌, ◌+◌, ◌-◌, ◌^◌, ◌++◌, [], ◌∷◌, ℕ, List, Bool, true, false, length, take, Some, Ok, Err, IfOk, IfErr, OnOk, OnErr, IsErrOf, IsErr};
+ghost use Rattle.std.specs.Prelude.{◌≡◌, ◌≢◌, ◌⊎◌, ◌↔◌, ◌<◌, ◌≤◌, ◌+◌, ◌-◌, ◌++◌, [], ◌∷◌, ℕ, List, Bool, true, false, length, take, Some, None, Ok, Err, IfOk, IfErr, OnOk, OnErr, IsErrOf, IsErr};
 ghost use Rattle.edge_traits.specs.Count.{Rose};
 ghost use Rattle.edge_traits.specs.Disk.{Image, overwritten, ChangesOnly, Adds, Only, Leaves, LeavesOthers};
-ghost use Rattle.disk_journal.specs.GateFile.{gate_file, HasBodies, HasOldOrNew, HaveSameBodies};
+ghost use Rattle.disk_journal.specs.GateFile.{Heading, heading_of, header_length, frame_length, longest_journal, gate_file, HasBodies, HasOldOrNew, HaveSameBodies};
 ghost use Rattle.disk_journal.specs.Appending.{shut_record, IsAtEnd, IsRecordOf};
 ghost use Rattle.disk_journal.specs.Journal.{IsAtRest, IsFaultOf};
 
@@ -68,13 +68,14 @@ pub struct Journal {
 
 impl Model for Journal {
     ghost use Rattle.disk_journal.specs.Journal.{JournalView};
-    ghost use Rattle.std.specs.Prelude.{length, ◌-◌, ◌≤◌};
+    ghost use Rattle.disk_journal.specs.GateFile.{heading_of, header_length, frame_length};
+    ghost use Rattle.std.specs.Prelude.{length, ◌-◌, ◌<◌, ◌≤◌};
 
     ghost Value = { JournalView };
 
-    ghost view = { λ j. record { file = j.file; generation = j.generation; length = j.end; room = length j.buffer.items - 9; broken = j.broken } };
+    ghost view = { λ j. record { file = j.file; heading = heading_of j.generation; length = j.end; room = length j.buffer.items - frame_length; broken = j.broken } };
 
-    ghost invariant = { λ j. (17 ≤ j.end) × (9 ≤ length j.buffer.items) };
+    ghost invariant = { λ j. (header_length < j.end) × (frame_length ≤ length j.buffer.items) };
 }
 
 impl Journal {
@@ -90,18 +91,22 @@ impl Journal {
         generation: u64,
         first: &[u8],
     ) -> Result<Journal, JournalFault>
-        requires small { 26 + length first.now ≤ 2 ^ 62 }
-        ensures journal { IfOk result (λ j. j ≡ record { file = file; generation = generation; length = 26 + length first.now; room = 0; broken = false }) }
+        requires small { header_length + 1 + frame_length + length first.now ≤ longest_journal }
+        ensures journal { IfOk result (λ j. j ≡ record { file = file; heading = heading_of generation; length = header_length + 1 + frame_length + length first.now; room = 0; broken = false }) }
         ensures created { (files after : Image) → (D.disk disk.old).told ≡ Some files → (D.disk disk.new).told ≡ Some after
-            → OnOk result (after file ≡ gate_file generation (first.now ∷ []) 0) }
+            → OnOk result (after file ≡ gate_file (heading_of generation) (first.now ∷ []) 0) }
         ensures at_rest { (files after : Image) → (D.disk disk.old).told ≡ Some files → (D.disk disk.new).told ≡ Some after
             → IfOk result (λ j. IsAtRest j (D.may_leave disk.new) (first.now ∷ []) after) }
         ensures elsewhere { (files : Image) → (D.disk disk.old).told ≡ Some files → ChangesOnly files (D.disk disk.new).told file }
+        ensures untold { (D.disk disk.old).told ≡ None → (D.disk disk.new).told ≡ None }
         ensures crash_elsewhere { Adds D.may_leave disk.old disk.new (λ other. other ≢ file) }
         ensures any_moment { Leaves D.disk D.left_since disk.old disk.new
             (LeavesOthers D.may_leave disk.old file) }
         ensures failed { IsErrOf result JournalFault.Disk → Rose (D.disk disk.old).faults (D.disk disk.new).faults }
         ensures count { (D.disk disk.old).faults ≤ (D.disk disk.new).faults }
+
+        // Memory is taken before the disk is touched.
+        ensures no_memory { IsErrOf result JournalFault.OutOfMemory → disk.new ≡ disk.old }
         ensures not_damaged { (at : ℕ) → IsErrOf result (JournalFault.Damaged at) → ⊥ }
     {
         let bytes = new_file(alloc, generation, first)?;
@@ -130,21 +135,24 @@ impl Journal {
         file: u64,
         generation: u64,
     ) -> Result<(Journal, BlobList), JournalFault>
-        ensures journal { IfOk result (λ found. (found.0.file ≡ file) × (found.0.generation ≡ generation) × (found.0.room ≡ 0) × (found.0.broken ≡ false)) }
-        ensures bodies { (files : Image) → (D.disk disk.old).told ≡ Some files → IfOk result (λ found. HasBodies generation found.1 (files file)) }
+        ensures journal { IfOk result (λ found. (found.0.file ≡ file) × (found.0.heading ≡ heading_of generation) × (found.0.room ≡ 0) × (found.0.broken ≡ false)) }
+        ensures length { IfOk result (λ found. found.0.length ≡ length (gate_file (heading_of generation) found.1 0)) }
+        ensures bodies { (files : Image) → (D.disk disk.old).told ≡ Some files → IfOk result (λ found. HasBodies (heading_of generation) found.1 (files file)) }
         ensures at_rest { (files after : Image) → (D.disk disk.old).told ≡ Some files → (D.disk disk.new).told ≡ Some after
             → IfOk result (λ found. IsAtRest found.0 (D.may_leave disk.new) found.1 after) }
         ensures front { (files after : Image) → (D.disk disk.old).told ≡ Some files → (D.disk disk.new).told ≡ Some after
             → IfOk result (λ found. after file ≡ take found.0.length (files file)) }
-        ensures fault { (files : Image) → (D.disk disk.old).told ≡ Some files → IfErr result (IsFaultOf generation (files file)) }
+        ensures fault { (files : Image) → (D.disk disk.old).told ≡ Some files → IfErr result (IsFaultOf (heading_of generation) (files file)) }
         ensures nothing_cut { (at : ℕ) → IsErrOf result (JournalFault.Damaged at) → (D.disk disk.new).told ≡ (D.disk disk.old).told }
+        ensures no_memory { IsErrOf result JournalFault.OutOfMemory → (D.disk disk.new).told ≡ (D.disk disk.old).told }
         ensures elsewhere { (files : Image) → (D.disk disk.old).told ≡ Some files → ChangesOnly files (D.disk disk.new).told file }
+        ensures untold { (D.disk disk.old).told ≡ None → (D.disk disk.new).told ≡ None }
         ensures crash_elsewhere { Adds D.may_leave disk.old disk.new (λ other. other ≢ file) }
 
         // A crash at any moment leaves what it might have left before, or the same records.
         ensures any_moment { (files : Image) → (D.disk disk.old).told ≡ Some files
             → Leaves D.disk D.left_since disk.old disk.new
-            (λ image. (D.may_leave disk.old file (image file) ⊎ HaveSameBodies generation (files file) (image file))
+            (λ image. (D.may_leave disk.old file (image file) ⊎ HaveSameBodies (heading_of generation) (files file) (image file))
             × LeavesOthers D.may_leave disk.old file image) }
         ensures failed { IsErrOf result JournalFault.Disk → Rose (D.disk disk.old).faults (D.disk disk.new).faults }
         ensures count { (D.disk disk.old).faults ≤ (D.disk disk.new).faults }
@@ -163,6 +171,13 @@ impl Journal {
         Ok((journal, bodies))
     }
 
+    /// The length of its file in bytes.
+    pub fn len(&self) -> u64
+        ensures { result ≡ self.now.length }
+    {
+        self.end
+    }
+
     /// Takes the memory for appending a body of so many bytes, if it isn't there already.
     pub fn reserve(&mut self, bytes: u64) -> Result<(), OutOfMemory>
         ensures room { OnOk result (bytes ≤ self.new.room) }
@@ -178,24 +193,28 @@ impl Journal {
     /// it, a sync, the open gate, and a sync.
     pub fn append<D: Disk>(&mut self, disk: &mut D, body: &[u8]) -> Result<(), AppendFault>
         requires room { length body.now ≤ self.old.room }
-        requires small { self.old.length + length body.now + 9 ≤ 2 ^ 62 }
+        requires small { self.old.length + length body.now + frame_length ≤ longest_journal }
         requires at_rest { self.old.broken ≡ false → (files : Image) → (D.disk disk.old).told ≡ Some files
             → (bodies : List (List ℕ)) × IsAtRest self.old (D.may_leave disk.old) bodies files }
-        ensures ok { OnOk result (self.new ≡ record self.old { length = self.old.length + length body.now + 9 }) }
+        ensures ok { OnOk result (self.new ≡ record self.old { length = self.old.length + length body.now + frame_length }) }
         ensures at_rest { (files after : Image) (bodies : List (List ℕ)) → (D.disk disk.old).told ≡ Some files → (D.disk disk.new).told ≡ Some after
             → IsAtRest self.old (D.may_leave disk.old) bodies files
             → OnOk result (IsAtRest self.new (D.may_leave disk.new) (bodies ++ body.now ∷ []) after) }
+        ensures appended { (files after : Image) (bodies : List (List ℕ)) → (D.disk disk.old).told ≡ Some files → (D.disk disk.new).told ≡ Some after
+            → IsAtRest self.old (D.may_leave disk.old) bodies files
+            → OnOk result (after self.old.file ≡ gate_file self.old.heading (bodies ++ body.now ∷ []) 0) }
         ensures disk { IsErrOf result AppendFault.Disk → self.new ≡ record self.old { broken = true } }
         ensures broken { (result ≡ Err AppendFault.Broken) ↔ (self.old.broken ≡ true) }
         ensures nothing { self.old.broken ≡ true → (self.new ≡ self.old) × (disk.new ≡ disk.old) }
         ensures elsewhere { (files : Image) → (D.disk disk.old).told ≡ Some files → ChangesOnly files (D.disk disk.new).told self.old.file }
+        ensures untold { (D.disk disk.old).told ≡ None → (D.disk disk.new).told ≡ None }
         ensures crash_elsewhere { Adds D.may_leave disk.old disk.new (λ other. other ≢ self.old.file) }
 
         // A crash at any moment leaves the records from before the call, with the new one or without.
         ensures any_moment { (files : Image) (bodies : List (List ℕ)) → (D.disk disk.old).told ≡ Some files
             → IsAtRest self.old (D.may_leave disk.old) bodies files
             → Leaves D.disk D.left_since disk.old disk.new
-            (λ image. HasOldOrNew self.old.generation bodies body.now (image self.old.file) × LeavesOthers D.may_leave disk.old self.old.file image) }
+            (λ image. HasOldOrNew self.old.heading bodies body.now (image self.old.file) × LeavesOthers D.may_leave disk.old self.old.file image) }
         ensures failed { IsErrOf result AppendFault.Disk → Rose (D.disk disk.old).faults (D.disk disk.new).faults }
         ensures count { (D.disk disk.old).faults ≤ (D.disk disk.new).faults }
     {
@@ -219,11 +238,11 @@ impl Journal {
 
 // Makes the buffer long enough for a body of so many bytes. It is never made shorter.
 fn grown(buffer: &mut Vec<u8>, bytes: u64) -> Result<(), OutOfMemory>
-    requires { FRAME ≤ length buffer.old.items }
-    ensures room { OnOk result (bytes + 9 ≤ length buffer.new.items) }
+    requires { frame_length ≤ length buffer.old.items }
+    ensures room { OnOk result (bytes + frame_length ≤ length buffer.new.items) }
     ensures keeps { length buffer.old.items ≤ length buffer.new.items }
     ensures err { OnErr result (length buffer.new.items ≡ length buffer.old.items) }
-    ensures wanting { IsErr result → length buffer.old.items < bytes + 9 }
+    ensures wanting { IsErr result → length buffer.old.items < bytes + frame_length }
 {
     let Some(len) = bytes.checked_add(FRAME as u64) else {
         return Err(OutOfMemory);
@@ -236,8 +255,8 @@ fn grown(buffer: &mut Vec<u8>, bytes: u64) -> Result<(), OutOfMemory>
 
 // Lays the body behind its length, and a closed gate behind it.
 fn fill(buffer: &mut [u8], body: &[u8])
-    requires { length body.now + 9 ≤ length buffer.old }
-    ensures record { take (length body.now + 9) buffer.new ≡ shut_record body.now }
+    requires { length body.now + frame_length ≤ length buffer.old }
+    ensures record { take (length body.now + frame_length) buffer.new ≡ shut_record body.now }
     ensures len { length buffer.new ≡ length buffer.old }
 {
     put(buffer, 0, &(body.len() as u64).to_be_bytes());
@@ -256,19 +275,20 @@ fn put(buffer: &mut [u8], at: usize, piece: &[u8])
 // Writes a record and a closed gate at the file's end, and opens the gate before it once they are durable.
 fn write_record<D: Disk>(disk: &mut D, file: u64, end: u64, bytes: &[u8]) -> Result<(), Failed>
     requires gate { 1 ≤ end }
-    requires small { end + length bytes.now ≤ 2 ^ 62 }
+    requires small { end + length bytes.now ≤ longest_journal }
     requires within { (files : Image) → (D.disk disk.old).told ≡ Some files → end ≤ length (files file) }
-    ensures written { (files after : Image) (generation : ℕ) (bodies : List (List ℕ)) (body : List ℕ)
+    ensures written { (files after : Image) (heading : Heading) (bodies : List (List ℕ)) (body : List ℕ)
         → (D.disk disk.old).told ≡ Some files → (D.disk disk.new).told ≡ Some after
-        → IsAtEnd generation bodies end (D.may_leave disk.old file) (files file) → IsRecordOf body bytes.now
-        → OnOk result (after file ≡ gate_file generation (bodies ++ body ∷ []) 0) }
+        → IsAtEnd heading bodies end (D.may_leave disk.old file) (files file) → IsRecordOf body bytes.now
+        → OnOk result (after file ≡ gate_file heading (bodies ++ body ∷ []) 0) }
     ensures durable { (after : Image) → (D.disk disk.new).told ≡ Some after → OnOk result (Only (after file) (D.may_leave disk.new file)) }
     ensures elsewhere { (files : Image) → (D.disk disk.old).told ≡ Some files → ChangesOnly files (D.disk disk.new).told file }
+    ensures untold { (D.disk disk.old).told ≡ None → (D.disk disk.new).told ≡ None }
     ensures crash_elsewhere { Adds D.may_leave disk.old disk.new (λ other. other ≢ file) }
-    ensures any_moment { (files : Image) (generation : ℕ) (bodies : List (List ℕ)) (body : List ℕ) → (D.disk disk.old).told ≡ Some files
-        → IsAtEnd generation bodies end (D.may_leave disk.old file) (files file) → IsRecordOf body bytes.now
+    ensures any_moment { (files : Image) (heading : Heading) (bodies : List (List ℕ)) (body : List ℕ) → (D.disk disk.old).told ≡ Some files
+        → IsAtEnd heading bodies end (D.may_leave disk.old file) (files file) → IsRecordOf body bytes.now
         → Leaves D.disk D.left_since disk.old disk.new
-        (λ image. HasOldOrNew generation bodies body (image file) × LeavesOthers D.may_leave disk.old file image) }
+        (λ image. HasOldOrNew heading bodies body (image file) × LeavesOthers D.may_leave disk.old file image) }
     ensures failed { IsErr result → Rose (D.disk disk.old).faults (D.disk disk.new).faults }
     ensures count { (D.disk disk.old).faults ≤ (D.disk disk.new).faults }
 {
@@ -278,8 +298,8 @@ fn write_record<D: Disk>(disk: &mut D, file: u64, end: u64, bytes: &[u8]) -> Res
 
 // The bytes of a file with one record.
 fn new_file(alloc: Global, generation: u64, first: &[u8]) -> Result<Vec<u8>, AllocError>
-    requires { 26 + length first.now ≤ 2 ^ 62 }
-    ensures { IfOk result (λ bytes. bytes.items ≡ gate_file generation (first.now ∷ []) 0) }
+    requires { header_length + 1 + frame_length + length first.now ≤ longest_journal }
+    ensures { IfOk result (λ bytes. bytes.items ≡ gate_file (heading_of generation) (first.now ∷ []) 0) }
 {
     let mut bytes = Vec::with_capacity(alloc, HEADER + FRAME + 1 + first.len())?;
     bytes.extend_from_slice(&header(generation))?;

@@ -2,7 +2,7 @@ ghost use Rattle.std.specs.Prelude.{◌≡◌, ◌≢◌, ◌<◌, ◌≤◌, �
 ghost use Rattle.std.specs.Int.{to_be_bytes, w64};
 ghost use Rattle.edge_traits.specs.Count.{Rose};
 ghost use Rattle.edge_traits.specs.Disk.{Image};
-ghost use Rattle.disk_journal.specs.GateFile.{header, IsDamagedAt};
+ghost use Rattle.disk_journal.specs.GateFile.{Heading, heading_of, header, header_length, open_records, gate_file, IsDamagedAt};
 ghost use Rattle.disk_journal.specs.Journal.{IsFaultOf};
 ghost use Rattle.disk_journal.specs.Reads.{OnlyReads, IsReadTo, IsCutShort, IsClosed, IsOpen};
 
@@ -19,10 +19,11 @@ pub(crate) fn read_bodies<D: Disk>(
     file: u64,
     generation: u64,
 ) -> Result<(BlobList, u64), JournalFault>
-    ensures place { IfOk result (λ found. (16 ≤ found.1) × (found.1 + 1 < 2 ^ 64)) }
+    ensures place { IfOk result (λ found. found.1 + 1 < 2 ^ 64) }
+    ensures length { IfOk result (λ found. found.1 + 1 ≡ length (gate_file (heading_of generation) found.0 0)) }
     ensures bodies { (files : Image) → (D.disk disk.old).told ≡ Some files
-        → IfOk result (λ found. IsReadTo generation found.0 found.1 (drop found.1 (files file)) (files file) × IsClosed (drop found.1 (files file))) }
-    ensures fault { (files : Image) → (D.disk disk.old).told ≡ Some files → IfErr result (IsFaultOf generation (files file)) }
+        → IfOk result (λ found. IsReadTo (heading_of generation) found.0 found.1 (drop found.1 (files file)) (files file) × IsClosed (drop found.1 (files file))) }
+    ensures fault { (files : Image) → (D.disk disk.old).told ≡ Some files → IfErr result (IsFaultOf (heading_of generation) (files file)) }
     ensures reads { OnlyReads D.disk D.may_leave D.left_since disk.old disk.new }
     ensures failed { IsErrOf result JournalFault.Disk → Rose (D.disk disk.old).faults (D.disk disk.new).faults }
 {
@@ -41,12 +42,13 @@ fn read_records<D: Disk>(
     file: u64,
     end: u64,
 ) -> Result<(BlobList, u64), JournalFault>
-    requires { 16 < end }
-    ensures place { IfOk result (λ found. (16 ≤ found.1) × (found.1 + 1 < 2 ^ 64)) }
-    ensures bodies { (files : Image) (generation : ℕ) → (D.disk disk.old).told ≡ Some files → end ≡ length (files file) → take 16 (files file) ≡ header generation
-        → IfOk result (λ found. IsReadTo generation found.0 found.1 (drop found.1 (files file)) (files file) × IsClosed (drop found.1 (files file))) }
-    ensures damaged { (files : Image) (generation : ℕ) → (D.disk disk.old).told ≡ Some files → end ≡ length (files file) → take 16 (files file) ≡ header generation
-        → IfErr result (IsFaultOf generation (files file)) }
+    requires { header_length < end }
+    ensures place { IfOk result (λ found. found.1 + 1 < 2 ^ 64) }
+    ensures length { IfOk result (λ found. found.1 ≡ header_length + length (open_records found.0)) }
+    ensures bodies { (files : Image) (heading : Heading) → (D.disk disk.old).told ≡ Some files → end ≡ length (files file) → take header_length (files file) ≡ header heading
+        → IfOk result (λ found. IsReadTo heading found.0 found.1 (drop found.1 (files file)) (files file) × IsClosed (drop found.1 (files file))) }
+    ensures damaged { (files : Image) (heading : Heading) → (D.disk disk.old).told ≡ Some files → end ≡ length (files file) → take header_length (files file) ≡ header heading
+        → IfErr result (IsFaultOf heading (files file)) }
     ensures reads { OnlyReads D.disk D.may_leave D.left_since disk.old disk.new }
     ensures failed { IsErrOf result JournalFault.Disk → Rose (D.disk disk.old).faults (D.disk disk.new).faults }
 {
@@ -65,8 +67,8 @@ fn read_records<D: Disk>(
 }
 
 fn check_header<D: Disk>(disk: &mut D, file: u64, generation: u64) -> Result<(), JournalFault>
-    ensures header { (files : Image) → (D.disk disk.old).told ≡ Some files → OnOk result (take 16 (files file) ≡ header generation) }
-    ensures fault { (files : Image) → (D.disk disk.old).told ≡ Some files → IfErr result (IsFaultOf generation (files file)) }
+    ensures header { (files : Image) → (D.disk disk.old).told ≡ Some files → OnOk result (take header_length (files file) ≡ header (heading_of generation)) }
+    ensures fault { (files : Image) → (D.disk disk.old).told ≡ Some files → IfErr result (IsFaultOf (heading_of generation) (files file)) }
     ensures reads { OnlyReads D.disk D.may_leave D.left_since disk.old disk.new }
     ensures failed { IsErrOf result JournalFault.Disk → Rose (D.disk disk.old).faults (D.disk disk.new).faults }
 {
@@ -96,6 +98,10 @@ fn read_gate<D: Disk>(
 {
     let mut frame = [0; FRAME];
     let count = disk.read_at(file, at, &mut frame)?;
+    // A disk that tells nothing may read short: what wasn't read is no closed gate.
+    if count == 0 {
+        return Err(JournalFault::Damaged { at });
+    }
     if frame[0] != OPEN {
         return Ok(None);
     }
@@ -126,6 +132,7 @@ fn read_body<D: Disk>(
     requires { at + 9 + size < 2 ^ 64 }
     ensures body { (files : Image) → (D.disk disk.old).told ≡ Some files → at + 9 + size ≤ length (files file)
         → IfOk result (λ body. body ≡ take size (drop (at + 9) (files file))) }
+    ensures size { IfOk result (λ body. length body ≡ size) }
     ensures whole { (files : Image) (place : ℕ) → (D.disk disk.old).told ≡ Some files → at + 9 + size ≤ length (files file)
         → IsErrOf result (JournalFault.Damaged place) → ⊥ }
     ensures reads { OnlyReads D.disk D.may_leave D.left_since disk.old disk.new }
