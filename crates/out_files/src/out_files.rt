@@ -1,4 +1,4 @@
-ghost use Rattle.std.specs.Prelude.{◌≡◌, ◌≢◌, ◌<◌, ◌≤◌, ◌+◌, ◌++◌, [], ◌∷◌, ℕ, List, length, take, Some, IfOk, IfErr, OnOk, IsErr, IsErrOf};
+ghost use Rattle.std.specs.Prelude.{◌≡◌, ◌≢◌, ◌<◌, ◌≤◌, ◌+◌, ◌++◌, [], ◌∷◌, ℕ, List, length, take, Some, None, IfOk, IfErr, OnOk, IsErr, IsErrOf};
 ghost use Rattle.edge_traits.specs.Count.{Rose};
 ghost use Rattle.edge_traits.specs.Disk.{Image, longest_file, ChangesOnly, Adds, Only, Leaves};
 ghost use Rattle.out_files.specs.Output.{lines_text, completed, KeepsFront, IsFaultOf};
@@ -63,6 +63,7 @@ pub fn bring_up<D: Disk>(
     ensures long { (files : Image) → (D.disk disk.old).told ≡ Some files → OnOk result (sealed ≤ length (files file)) }
     ensures short { (have : ℕ) → IsErrOf result (OutFault.Short have) → (D.disk disk.new).told ≡ (D.disk disk.old).told }
     ensures elsewhere { (files : Image) → (D.disk disk.old).told ≡ Some files → ChangesOnly files (D.disk disk.new).told file }
+    ensures untold { (D.disk disk.old).told ≡ None → (D.disk disk.new).told ≡ None }
     ensures crash_elsewhere { Adds D.may_leave disk.old disk.new (λ other. other ≢ file) }
 
     // Sealed bytes that every image has at the start are kept by a crash at any moment.
