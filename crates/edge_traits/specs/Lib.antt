@@ -1,7 +1,10 @@
+-- what public contracts cite
 pub mod Count
 pub mod Disk
 pub mod Named
-pub mod NoFiles
 pub mod Shelf
 pub mod Sink
 pub mod Source
+
+-- what only proofs use
+pub mod NoFiles
