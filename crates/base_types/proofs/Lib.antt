@@ -1,3 +1,4 @@
 pub mod Names
 pub mod Numerals
 pub mod Padding
+pub mod Positions

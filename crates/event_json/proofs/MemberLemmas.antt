@@ -16,10 +16,10 @@ use Rattle.event_json.specs.declared.field.FieldType.{FieldType}
 use Rattle.serde_json.specs.Data.{Data}
 use Rattle.serde_json.specs.Find.{as_str}
 use Rattle.std.specs.Str.{bytes_eq}
-use Rattle.event_json.specs.Fields.{FieldMap, is_above_all, IsAboveAll}
+use Rattle.event_json.specs.Fields.{FieldMap, is_above_all}
 use Rattle.event_json.specs.Reading.{any_unbuilt, is_single, is_unbuilt, first_bad, pairs_of, part_of, part_of_text, part_of_str, value_or_bad, bad_or, add_part, is_dropped, type_key}
 use Rattle.event_json.specs.declared.reading.Part.{Part}
-use Rattle.event_json.specs.declared.reading.Part.TheVariants.{Nothing, Value as Set, Bad}
+use Rattle.event_json.specs.declared.reading.Part.TheVariants.{Nothing, Value as Set}
 use Rattle.event_json.proofs.FieldsLemmas.{Key, Pairs, order, entries-from_entries, entries-empty, put_last, sorted_entries}
 
 abbrev pub Entry : Type 0
@@ -93,13 +93,6 @@ pub skipped : (all left rest : List Entry) (entry : Entry) (fields : FieldMap) (
 skipped all left rest entry fields key so_far step name is =
     let at = at_member all left rest entry fields key Nothing so_far step name is in
     record { pairs = at.pairs; bad = at.bad; below = at.below; sorted = at.sorted }
-
-pub bad_member : (all left rest : List Entry) (entry : Entry) (fields : FieldMap) (key : Key) → FieldsSoFar all left fields → left ≡ entry ∷ rest → key ≡ string_bytes entry.0 → Bad ≡ part_of key (view entry.1) → first_bad (members_view all) ≡ Some key
-bad_member all left rest entry fields key so_far step name is = (at_member all left rest entry fields key Bad so_far step name is).bad
-
-pub above_so_far : (all left rest : List Entry) (entry : Entry) (fields : FieldMap) (key : Key) → FieldsSoFar all left fields → left ≡ entry ∷ rest → key ≡ string_bytes entry.0 → IsAboveAll key (entries fields)
-above_so_far all left rest entry fields key so_far step name =
-    record { above = (at_member all left rest entry fields key _ so_far step name refl).here }
 
 above_push : (key value later : Key) (pairs : Pairs) → is_above_all later pairs ≡ true → slice_cmp nat_cmp key later ≡ Less → is_above_all later (pairs ++ (key, value) ∷ []) ≡ true
 above_push key value later [] above less = ap (λ r. is_lt r && true) less

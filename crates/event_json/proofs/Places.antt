@@ -1,10 +1,11 @@
 -- The scan for a digit outside the strings, by its stops.
-use Rattle.std.proofs.Common.{◌≡◌, ◌<◌, ◌≤◌, ◌+◌, ℕ, zero, suc, List, [], ◌∷◌, ◌||◌, ◌==◌, Bool, true, false, cond, Some, None, length, position, get_or, drop, nat_lt, if◌then◌else◌, refl, sym, ◌∙◌, ap, arith, add-one}
+use Rattle.std.proofs.Common.{◌≡◌, ◌<◌, ◌≤◌, ◌+◌, ℕ, zero, suc, List, [], ◌∷◌, ◌||◌, ◌==◌, Bool, true, false, Some, None, length, position, get_or, drop, if◌then◌else◌, refl, sym, ◌∙◌, ap, arith, add-one}
 use Rattle.std.proofs.Math.Seq.{drop-cons}
 use Rattle.std.specs.List.{position_or_len}
-use Rattle.std.proofs.lemmas.Bool.{ltb-false, eqb-true}
+use Rattle.std.proofs.lemmas.Bool.{eqb-true}
 use Rattle.std.proofs.lemmas.List.Quantifiers.{position-Some}
 use Rattle.std.proofs.lemmas.List.Sums.{fails_before_first}
+use Rattle.base_types.proofs.Positions.{place_missing}
 use Rattle.memchr.specs.Find.{IsFirstByte, is_byte2}
 use Rattle.scalar_text.specs.Quote.{is_digit}
 use Rattle.event_json.specs.Quote.{digit_outside, digit_behind_string, digit_behind_escape}
@@ -34,10 +35,6 @@ stop_found bs i found =
     let at = position-Some stops bs i 0 found in
     let within : i ≤ length bs = omega (arith, at.0) in
     (at.0, at.1, skip_outside bs i within at.2 ∙ ap digit_outside (drop-cons bs i 0 at.0 ∙ ap (λ k. get_or bs i 0 ∷ drop k bs) (sym (add-one i))))
-
-place_missing : (b : Bool) (k n : ℕ) → nat_lt k n ≡ b → cond b (Some k) None ≡ None → n ≤ k
-place_missing true k n test e = cc
-place_missing false k n test e = ltb-false k n test
 
 none_outside : (bs : List ℕ) → ((k : ℕ) → k < length bs → stops (get_or bs k 0) ≡ false) → digit_outside bs ≡ false
 none_outside [] fails = refl

@@ -1,12 +1,12 @@
 -- Looking up and changing the count of a name.
-use Rattle.std.proofs.Common.{◌≡◌, ◌≢◌, ◌<◌, ◌≤◌, ℕ, zero, suc, List, [], ◌∷◌, ◌++◌, Bool, true, false, cond, Option, Some, None, IsSome, is_some, unwrap_or, length, position, get_or, nat_lt, refl, sym, ◌∙◌, ap, arith}
+use Rattle.std.proofs.Common.{◌≡◌, ◌≢◌, ◌<◌, ℕ, zero, suc, List, [], ◌∷◌, ◌++◌, Bool, true, false, cond, Option, Some, None, IsSome, is_some, unwrap_or, length, position, get_or, refl, sym, ◌∙◌, ap, arith}
 use Rattle.std.proofs.Math.ListN.{set}
 use Rattle.std.specs.Str.{bytes_eq}
 use Rattle.std.specs.List.{position_or_len}
-use Rattle.std.proofs.lemmas.Bool.{ltb-true, ltb-false}
 use Rattle.std.proofs.lemmas.List.Quantifiers.{position-Some}
 use Rattle.std.proofs.lemmas.List.Sums.{fails_before_first}
 use Rattle.std.proofs.lemmas.Slice.Eq.{bytes_eq-Decides}
+use Rattle.base_types.proofs.Positions.{place_missing}
 use Rattle.edge_traits.specs.Named.{find_named}
 
 abbrev Pairs : Type 0
@@ -26,10 +26,6 @@ none_named name [] d others = refl
 none_named name (pair ∷ pairs) d others =
     ap (λ b. cond b (Some pair.1) (find_named name pairs)) (others 0 (omega arith))
     ∙ none_named name pairs d (λ k below. others (suc k) (omega arith))
-
-place_missing : (b : Bool) (k n : ℕ) → nat_lt k n ≡ b → cond b (Some k) None ≡ None → n ≤ k
-place_missing true k n test e = cc
-place_missing false k n test e = ltb-false k n test
 
 pub missing : (name : List ℕ) (pairs : Pairs) → position (λ pair. bytes_eq name pair.0) pairs ≡ None → find_named name pairs ≡ None
 missing name pairs none =
@@ -93,10 +89,6 @@ is_listed name [] = ap (λ b. is_some {T = ℕ} (cond b (Some 0) None)) ((bytes_
 is_listed name (pair ∷ pairs) = some_or (bytes_eq name pair.0) pair.1 (find_named name (pairs ++ (name, 0) ∷ [])) (is_listed name pairs)
 
 -- ---- the changes, in the words of a shelf
-
-place_found : (b : Bool) (k n i : ℕ) → nat_lt k n ≡ b → cond b (Some k) None ≡ Some i → (k < n) × (k ≡ i)
-place_found true k n i test e = (ltb-true k n test, cc)
-place_found false k n i test e = cc
 
 -- the name is listed first at this place
 pub record IsPlace (name : List ℕ) (pairs : Pairs) (i : ℕ) (d : List ℕ × ℕ) : Type 0 where

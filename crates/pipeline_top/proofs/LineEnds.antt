@@ -7,7 +7,7 @@ use Rattle.event_json.specs.declared.event_model.Message.{Message}
 use Rattle.pipeline_top.specs.Convert.{Line, empty, text, bad, unbuilt, line_of, line_of_reading, put_line, converted, end_at, end_from}
 use Rattle.edge_traits.specs.Sink.{SinkView}
 use Rattle.pipeline_top.specs.Output.{Moved}
-use Rattle.pipeline_top.specs.Line.{refused_at, refused_line, PutLine}
+use Rattle.pipeline_top.specs.Line.{refused_line, PutLine}
 use Rattle.pipeline_top.specs.declared.line.Refusal.{Refusal}
 use Rattle.pipeline_top.specs.declared.line.Refusal.TheVariants as refusal
 use Rattle.pipeline_top.specs.declared.status.Status.{Status}
@@ -34,14 +34,6 @@ refused bad refusal.Bad old new later put = append-nil old ∙ sym put
 refused bad refusal.Unbuilt old new later put = absurd put
 refused unbuilt refusal.Bad old new later put = absurd put
 refused unbuilt refusal.Unbuilt old new later put = append-nil old ∙ sym put
-
-pub refused_end : (line : Line) (why : Refusal) (old new : List ℕ) (number : ℕ) (later : Status) → PutLine line old new (Some why) → end_at line number later ≡ refused_at why number
-refused_end empty why old new number later put = absurd put
-refused_end (text t) why old new number later put = absurd put
-refused_end bad refusal.Bad old new number later put = refl
-refused_end bad refusal.Unbuilt old new number later put = absurd put
-refused_end unbuilt refusal.Bad old new number later put = absurd put
-refused_end unbuilt refusal.Unbuilt old new number later put = refl
 
 -- ---- what a line comes to
 

@@ -4,17 +4,9 @@ use Rattle.std.specs.List.{All, slice_split, position_or_len}
 use Rattle.std.proofs.lemmas.Grind.{common_steps}
 use Rattle.std.proofs.lemmas.List.Splits.{slice_split_first, slice_split_none}
 use Rattle.std.proofs.lemmas.List.Sums.{fails_before_first, position_or_len_is}
+use Rattle.base_types.proofs.Positions.{place_found, place_missing}
 use Rattle.memchr.specs.Find.{IsFirstByte}
-use Rattle.std.proofs.lemmas.Bool.{ltb-true, ltb-false, lt-ltb, le-ltb}
-
--- what the first place says of its length
-place_found : (b : Bool) (k n i : ℕ) → nat_lt k n ≡ b → cond b (Some k) None ≡ Some i → (k < n) × (k ≡ i)
-place_found true k n i test e = (ltb-true k n test, cc)
-place_found false k n i test e = cc
-
-place_missing : (b : Bool) (k n : ℕ) → nat_lt k n ≡ b → cond b (Some k) None ≡ None → n ≤ k
-place_missing true k n test e = cc
-place_missing false k n test e = ltb-false k n test
+use Rattle.std.proofs.lemmas.Bool.{lt-ltb, le-ltb}
 
 module _ (p : ℕ → Bool) where
   -- no byte of such a list passes

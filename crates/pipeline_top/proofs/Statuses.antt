@@ -1,8 +1,8 @@
 -- The status of a conversion, from how it ended.
-use Rattle.std.proofs.Common.{◌≡◌, ◌<◌, ◌⊎◌, ℕ, zero, suc, List, length, take, Result, Ok, Err, IfOk, OnOk, OnErr, IsErrOf, refl, sym, ◌∙◌, ap, subst, arith, inl, inr}
+use Rattle.std.proofs.Common.{◌≡◌, ◌<◌, ℕ, zero, suc, List, length, take, Result, Ok, Err, IfOk, OnOk, OnErr, IsErrOf, refl, sym, ◌∙◌, ap, subst, arith}
 use Rattle.std.proofs.Math.Seq.{take-append_seam}
 use Rattle.edge_traits.specs.Sink.{SinkView, Took}
-use Rattle.pipeline_top.specs.Convert.{end_from, IsOutside, Wrote}
+use Rattle.pipeline_top.specs.Convert.{end_from, Wrote}
 use Rattle.pipeline_top.specs.Halt.{status_of}
 use Rattle.pipeline_top.specs.Output.{TookFront}
 use Rattle.pipeline_top.specs.declared.convert.Halt.{Halt}
@@ -36,11 +36,6 @@ pub sink_end : (r : Result Status Halt) (ls : List (List ℕ)) → IfOk r (λ s.
 sink_end (Ok s) ls is e = absurd (subst IsLineEnd (sym is ∙ e) (line_end ls))
 sink_end (Err halt.OutOfMemory) ls is e = cc
 sink_end (Err halt.Sink) ls is e = refl
-
-pub outside_end : (r : Result Status Halt) (ls : List (List ℕ)) → IfOk r (λ s. s ≡ end_from 1 ls) → IsOutside (status_of r) ⊎ (status_of r ≡ end_from 1 ls)
-outside_end (Ok s) ls is = inr is
-outside_end (Err halt.OutOfMemory) ls is = inl tt
-outside_end (Err halt.Sink) ls is = inl tt
 
 -- ---- what is written
 

@@ -43,9 +43,6 @@ split_fed front lines taken =
 pub length_front : (front lines : List ℕ) (taken start : ℕ) → taken ≤ length lines → length front ≡ start → length (front ++ take taken lines) ≡ start + taken
 length_front front lines taken start within e = omega (arith, length-append front (take taken lines), length-take-le taken lines within)
 
-pub cutting_none : (rule : CutRule) (header : List ℕ) (at : ℕ) (lines : List ℕ) → IsCutting rule header at lines [] 0
-cutting_none rule header at lines = record { pieces = λ front more e. tt; finished = λ front e. tt; none = λ e. refl; some = λ less. absurd (omega arith); any = λ less. absurd (omega arith); within = omega arith }
-
 -- the piece that is cut behind the others
 abbrev pub next_cut : CutRule → List ℕ → ℕ → List ℕ → ℕ → ℕ → Cut
 next_cut rule header at lines taken len = record { piece = header ++ take ((taken + len) - taken) (drop taken lines); upto = start_of rule header at + (taken + len) }

@@ -42,10 +42,6 @@ header_found p before i g is e =
       read = subst (λ n. IsRead (room_of p.rule (before + i + 1)) (drop (before + i + 1) p.bytes.items) n (before - (before + i + 1))) (sym h.in_header.whole) (subst (λ n. IsRead (room_of p.rule (before + i + 1)) (drop (before + i + 1) p.bytes.items) 0 n) (omega arith) (read_none (room_of p.rule (before + i + 1)) (drop (before + i + 1) p.bytes.items)));
     }
 
-pub header_known : (p : Pending) (before : ℕ) → IsGrown p before → p.in_header ≡ false → IsHeaderEnd p before p.head
-header_known p before g is =
-    let b : IsGrownBehind p before = grown_behind p before g is in record { header = b.header; placed = inr refl; short = inl b.short; read = b.read }
-
 pub header_none : (p : Pending) (before : ℕ) → IsGrown p before → p.in_header ≡ true → IsOneLine (drop before p.bytes.items) → IsOneLine p.bytes.items
 header_none p before g is one =
     subst IsOneLine (take-append-drop before p.bytes.items) (one_line_append (take before p.bytes.items) (drop before p.bytes.items) (grown_header p before g is).partial one)

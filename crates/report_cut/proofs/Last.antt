@@ -17,10 +17,6 @@ use Rattle.report_cut.proofs.Growing.{sound_open, sound_behind}
 end_at : (rule : CutRule) (header feed : List ℕ) (at : ℕ) → length feed ≤ at → next_under rule header feed at ≡ End
 end_at rule header feed at past = cond-true (nat_le (length feed) at) End _ (le-leb (length feed) at past)
 
-pub last_none : (p : Pending) → length (held_of p) ≡ 0 → CutsAll (cutting_of p false) []
-last_none p none = λ before at.
-    record { pieces = tt; behind = end_at p.rule (header_in (cutting_of p false) (before ++ held_of p)) (before ++ held_of p) p.at (omega (arith, none, at, length-append before (held_of p))) }
-
 -- the piece at the feed's end
 abbrev pub last_cut : Pending → Cut
 last_cut p = record { piece = take p.head p.bytes.items ++ drop p.head p.bytes.items; upto = p.at + length (held_of p) }
