@@ -1,5 +1,5 @@
 -- Lists without repeats, and lists of numbers in order.
-use Rattle.std.proofs.Common.{◌≡◌, ℕ, zero, suc, ◌+◌, ◌<◌, ◌≤◌, ◌==◌, ◌&&◌, ◌||◌, eqb, Bor, Bool, true, false, not, nat_le, nat_lt, List, [], ◌∷◌, length, map, get_or, refl, sym, ◌∙◌, ap, subst, arith}
+use Rattle.std.proofs.Common.{◌≡◌, ℕ, zero, suc, ◌+◌, ◌<◌, ◌≤◌, ◌==◌, ◌&&◌, ◌||◌, eqb, Bor, Bool, true, false, not, nat_le, nat_lt, List, [], ◌∷◌, drop, length, map, get_or, refl, sym, ◌∙◌, ap, subst, arith}
 use Rattle.std.specs.Bool.{Decides}
 use Rattle.std.specs.Cmp.{IsTotalOrder, on_total, unsigned_ties}
 use Rattle.std.specs.Cmp.Lexicographic.{slice_cmp, nat_list_cmp_total, nat_list_eq_equiv}
@@ -9,11 +9,14 @@ use Rattle.std.specs.declared.cmp.Ordering.{Ordering}
 use Rattle.std.specs.declared.cmp.Ordering.TheVariants.{Less, Equal, Greater}
 use Rattle.std.specs.Ordering.{eq_by_cmp, is_lt, is_eq, nat_cmp, ordering_reverse}
 use Rattle.std.specs.Str.{bytes_eq}
-use Rattle.std.proofs.lemmas.Bool.Decides.{Decides-and, Decides-like, Decides-ltb, same_from_decides, nat_tests}
+use Rattle.std.proofs.lemmas.Bool.Decides.{Decides-and, Decides-eqb, Decides-like, Decides-ltb, same_from_decides, nat_tests}
 use Rattle.std.proofs.lemmas.List.Sorted.{All-permutation, IsNonDecreasingBy-from_sort, IsPermutation-sym}
 use Rattle.std.proofs.lemmas.Map.Keys.{apart_from_distinct, IsDistinct-from_sorted, IsDistinct-IsPermutation, IsStrictlyIncreasing-from_distinct, sorted_from_all_adjacent, sorted_from_strictly_increasing}
 use Rattle.std.proofs.lemmas.Map.Text.{is_eq-slice_cmp}
-use Rattle.journal_book.specs.SoundTests.{are_distinct, do_not_fall, rise}
+use Rattle.journal_book.specs.SoundTests.{are_distinct, do_not_fall, hand_key, rise}
+use Rattle.step_code.specs.Sound.{is_same_hand}
+use Rattle.step_code.specs.declared.base.Hand.{Hand}
+use Rattle.std.proofs.lemmas.Slice.Eq.{bytes_eq-Decides}
 
 clash : {P : Type 0} → true ≡ false → P
 clash e = absurd (cc)
@@ -192,3 +195,22 @@ names_Decides xs ys r moved sorted answer =
 
     forth : IsDistinct same xs → IsDistinct (eq_by_cmp R) ys
     forth differ = subst (λ e. IsDistinct e ys) (sym alike) (IsDistinct-IsPermutation same turns xs ys moved differ)
+
+-- hands are one instance's exactly if their keys are the same
+key_Decides : (x y : Hand) → Decides (bytes_eq (hand_key x) (hand_key y)) ((x.instance ≡ y.instance) × (x.bot ≡ y.bot))
+key_Decides x y = Decides-like (bytes_eq (hand_key x) (hand_key y)) (λ e. (ap (head 0) e, ap (drop 1) e)) (λ both. λ i. both.0 i ∷ both.1 i) (bytes_eq-Decides (hand_key x) (hand_key y))
+  where
+    head : ℕ → List ℕ → ℕ
+    head d [] = d
+    head d (n ∷ ns) = n
+
+hand_Decides : (x y : Hand) → Decides (is_same_hand x y) ((x.instance ≡ y.instance) × (x.bot ≡ y.bot))
+hand_Decides x y =
+    Decides-like (is_same_hand x y) (λ both. (sym both.1, sym both.0)) (λ both. (sym both.1, sym both.0))
+    (Decides-and (bytes_eq y.bot x.bot) (y.instance == x.instance) (bytes_eq-Decides y.bot x.bot) (Decides-eqb y.instance x.instance))
+
+same_key : (x y : Hand) → bytes_eq (hand_key x) (hand_key y) ≡ is_same_hand x y
+same_key x y = same_from_decides (bytes_eq (hand_key x) (hand_key y)) (is_same_hand x y) (key_Decides x y) (hand_Decides x y)
+
+pub keys_as : (hands : List Hand) → are_distinct bytes_eq (map hand_key hands) ≡ are_distinct is_same_hand hands
+keys_as hands = distinct_map hand_key bytes_eq hands ∙ (λ i. are_distinct (λ x y. same_key x y i) hands)

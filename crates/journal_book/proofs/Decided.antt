@@ -17,11 +17,10 @@ use Rattle.step_code.specs.declared.base.Output.{Output}
 use Rattle.step_code.specs.declared.base.Queue.{Queue}
 use Rattle.step_code.specs.declared.rules.Facts.{Facts}
 use Rattle.step_code.specs.Code.{code_of_base}
-use Rattle.step_code.specs.Content.{last_moment}
 use Rattle.step_code.specs.Lists.{IsIn}
 use Rattle.step_code.specs.Places.{standing}
-use Rattle.step_code.specs.Rules.{Meaning, collects, writes}
-use Rattle.step_code.specs.Sound.{is_same_hand, IsSound, IsSoundCache, IsSoundHand, last_number, longest_base, numbers_of}
+use Rattle.step_code.specs.Rules.{Meaning, collects, writes, last_moment}
+use Rattle.step_code.specs.Sound.{IsSoundState, is_same_hand, IsSound, IsSoundCache, IsSoundHand, last_number, longest_base, most_tries, numbers_of}
 use Rattle.step_code.specs.State.{is_instance, is_feed, is_out, queue_name}
 use Rattle.journal_book.specs.SoundTests.{are_apart_below, are_distinct, bots_have_places, counts_are_within, dumps_are_sound, hands_are_sound, is_short, is_sound_but_length, is_sound_under, is_sound_cache, is_sound_hand, is_within, names_differ, parts_are_within}
 use Rattle.journal_book.proofs.Apart.{all_above, Decides-le, distinct_Decides, each_weaker, order_Decides, rise_Decides}
@@ -169,7 +168,7 @@ record Hands (bots : List Facts) (b : Base) : Type 0 where
 hand_Decides : (bots : List Facts) (queues : List Queue) (h : Hand) → Decides (is_sound_hand bots queues h) (IsSoundHand bots (map (λ q. q.name) queues) h)
 hand_Decides bots queues h =
     Decides-like (is_sound_hand bots queues h) (λ ((l, q), t). record { live = l; queue = q; tries = t }) (λ s. ((s.live, s.queue), s.tries))
-    (Decides-and _ _ (Decides-and _ _ live (named_Decides (λ (q : Queue). q.name) (queue_name h.bot) queues)) (Decides-le h.tries 100))
+    (Decides-and _ _ (Decides-and _ _ live (named_Decides (λ (q : Queue). q.name) (queue_name h.bot) queues)) (Decides-le h.tries most_tries))
   where
     live : Decides (is_instance bots h.bot h.instance) (is_instance bots h.bot h.instance ≡ true)
     live = (λ e. e, λ e. e)
@@ -340,52 +339,54 @@ facts_Decides bots b =
 
 -- the facts and the length of the code make a sound state
 to_sound : (m : Meaning) (bots : List Facts) (b : Base) → m.facts b.bundle ≡ Some bots → AreSoundParts bots b → length (code_of_base b) ≤ longest_base → IsSound m b
-to_sound m bots b plan facts short = record {
-  bots = bots;
-  loads = plan;
-  short = short;
-  queues = facts.names.queues;
-  caches = facts.names.caches;
-  outs = facts.names.outs;
-  feeds = facts.names.feeds;
-  halted = facts.names.halted;
-  hands = facts.hands.differ;
-  each_hand = facts.hands.each;
-  each_cache = facts.caches;
-  next_message = facts.counts.next_message;
-  next_dump = facts.counts.next_dump;
-  messages = facts.messages.differ;
-  numbered = facts.messages.numbered;
-  dumps = facts.dumps.rise;
-  each_dump = facts.dumps.each;
-  latest = facts.counts.latest;
-  collectors = facts.places.collectors;
-  outputs = facts.places.outputs;
-  numbers = numbers_within b facts.counts facts.parts facts.caches facts.messages facts.dumps;
-}
+to_sound m bots b plan facts short = record { state = sound_state; short = short }
+  where
+    sound_state : IsSoundState m b
+    sound_state = record {
+      bots = bots;
+      loads = plan;
+      queues = facts.names.queues;
+      caches = facts.names.caches;
+      outs = facts.names.outs;
+      feeds = facts.names.feeds;
+      halted = facts.names.halted;
+      hands = facts.hands.differ;
+      each_hand = facts.hands.each;
+      each_cache = facts.caches;
+      next_message = facts.counts.next_message;
+      next_dump = facts.counts.next_dump;
+      messages = facts.messages.differ;
+      numbered = facts.messages.numbered;
+      dumps = facts.dumps.rise;
+      each_dump = facts.dumps.each;
+      latest = facts.counts.latest;
+      collectors = facts.places.collectors;
+      outputs = facts.places.outputs;
+      numbers = numbers_within b facts.counts facts.parts facts.caches facts.messages facts.dumps;
+    }
 
 from_sound : (m : Meaning) (bots : List Facts) (b : Base) → m.facts b.bundle ≡ Some bots → IsSound m b → AreSoundParts bots b × (length (code_of_base b) ≤ longest_base)
-from_sound m bots b plan s = (
+from_sound m bots b plan sound = (
   record {
-    counts = counts_from b s.next_message s.next_dump s.latest s.numbers;
-    parts = parts_from b s.numbers;
-    names = record { queues = s.queues; caches = s.caches; outs = s.outs; feeds = s.feeds; halted = s.halted };
-    hands = record { differ = s.hands; each = subst (λ l. AllByRecursion (IsSoundHand l (map (λ q. q.name) b.queues)) b.hands) same s.each_hand };
-    caches = s.each_cache;
-    messages = record { differ = s.messages; numbered = s.numbered };
-    dumps = record { rise = s.dumps; each = s.each_dump };
+    counts = counts_from b sound.state.next_message sound.state.next_dump sound.state.latest sound.state.numbers;
+    parts = parts_from b sound.state.numbers;
+    names = record { queues = sound.state.queues; caches = sound.state.caches; outs = sound.state.outs; feeds = sound.state.feeds; halted = sound.state.halted };
+    hands = record { differ = sound.state.hands; each = subst (λ l. AllByRecursion (IsSoundHand l (map (λ q. q.name) b.queues)) b.hands) same sound.state.each_hand };
+    caches = sound.state.each_cache;
+    messages = record { differ = sound.state.messages; numbered = sound.state.numbered };
+    dumps = record { rise = sound.state.dumps; each = sound.state.each_dump };
     places = record {
-      collectors = subst (λ l. AllByRecursion (λ f. IsIn f.bot (map (λ feed. feed.bot) b.feeds)) (filter collects l)) same s.collectors;
-      outputs = subst (λ l. AllByRecursion (λ f. IsIn f.bot (map (λ o. o.bot) b.outs)) (filter writes l)) same s.outputs;
+      collectors = subst (λ l. AllByRecursion (λ f. IsIn f.bot (map (λ feed. feed.bot) b.feeds)) (filter collects l)) same sound.state.collectors;
+      outputs = subst (λ l. AllByRecursion (λ f. IsIn f.bot (map (λ o. o.bot) b.outs)) (filter writes l)) same sound.state.outputs;
     };
   },
-  s.short,
+  sound.short,
 )
   where
-    one : Some s.bots ≡ Some bots
-    one = sym s.loads ∙ plan
+    one : Some sound.state.bots ≡ Some bots
+    one = sym sound.state.loads ∙ plan
 
-    same : s.bots ≡ bots
+    same : sound.state.bots ≡ bots
     same = cc (one)
 
 pub sound_Decides : (m : Meaning) (bots : List Facts) (b : Base) → m.facts b.bundle ≡ Some bots → (r : Bool) → r ≡ is_sound_under bots b → Decides r (IsSound m b)

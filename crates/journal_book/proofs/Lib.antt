@@ -1,3 +1,4 @@
+mod Brought
 mod Apart
 mod Counted
 mod Decided

@@ -1,7 +1,8 @@
 -- Items of a vector that stand for entries of a list: the first entry that passes, by the place of its item.
-use Rattle.std.proofs.Common.{◌≡◌, ◌<◌, ℕ, Bool, List, [], ◌∷◌, ◌++◌, length, get_or, set, map, Some, None, sym, ◌∙◌, ap, arith, find, position, Result, Ok, Err, OnOk, OnErr}
+use Rattle.std.proofs.Common.{◌≡◌, ◌<◌, ℕ, zero, suc, subst, Bool, List, [], ◌∷◌, ◌++◌, length, get_or, set, map, Some, None, sym, ◌∙◌, ap, arith, find, position, Result, Ok, Err, OnOk, OnErr}
 use Rattle.std.proofs.lemmas.List.{get_or-map, length-map, map-set}
 use Rattle.std.proofs.Math.Seq.{map-set_same}
+use Rattle.std.specs.List.{AllByRecursion}
 use Rattle.step_code.specs.Lists.{changed, changed_or_added}
 use Rattle.step_code.proofs.Found.{IsFirst, IsNowhere, first_at, nowhere, find_first, find_nowhere, changed_first, changed_nowhere, added_first, added_nowhere}
 
@@ -62,3 +63,9 @@ ok_follows (Err e) follows holds = tt
 pub err_follows : {A B P Q : Type 0} (result : Result A B) → (P → Q) → OnErr result P → OnErr result Q
 err_follows (Ok x) follows holds = tt
 err_follows (Err e) follows holds = follows holds
+
+-- what holds of each item holds where one of them is replaced by one of which it holds
+pub all_set : {A : Type 0} (P : A → Type 0) (xs : List A) (i : ℕ) (x new : A) → x ≡ get_or xs i x → (P x → P new) → AllByRecursion P xs → AllByRecursion P (set xs i new)
+all_set P [] i x new is keeps all = tt
+all_set P (y ∷ ys) zero x new is keeps all = (keeps (subst P (sym is) all.0), all.1)
+all_set P (y ∷ ys) (suc i) x new is keeps all = (all.0, all_set P ys i x new is keeps all.1)

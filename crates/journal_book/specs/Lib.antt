@@ -4,4 +4,5 @@ pub mod Core
 pub mod Outputs
 pub mod Room
 pub mod SoundTests
+pub mod Spent
 pub mod State

@@ -1,8 +1,10 @@
 -- Outputs in vectors, as the lists that they stand for, and room for lines that come.
-use Rattle.std.specs.Prelude.{◌≡◌, ◌<◌, ℕ, Bool, List, map, get_or, position, Some}
+use Rattle.std.specs.Prelude.{◌≡◌, ◌<◌, ℕ, Bool, List, map, get_or, min, position, Some}
+use Rattle.std.specs.List.{AllByRecursion}
 use Rattle.std.specs.Str.{bytes_eq}
 use Rattle.std.specs.Vec.{vec_len, vec_capacity}
 use Rattle.step_code.specs.declared.base.Output.{Output}
+use Rattle.step_code.specs.Spent.{last_u64, out_length}
 use Rattle.journal_book.specs.declared.outputs.Written.{Written}
 
 abbrev pub out_of : Written → Output
@@ -13,6 +15,13 @@ outs_of ws = map out_of ws
 
 abbrev pub is_written_by : List ℕ → Written → Bool
 is_written_by bot w = bytes_eq w.bot bot
+
+-- the length that stands beside an output is its length, or the greatest number of 64 bits
+abbrev pub HasLength : Written → Type 0
+HasLength w = w.length ≡ min (out_length (out_of w)) last_u64
+
+abbrev pub HaveLengths : List Written → Type 0
+HaveLengths ws = AllByRecursion HasLength ws
 
 -- the first output of this bot, if it has one, has room for one more line
 abbrev pub HasLineRoom : List ℕ → List Written → Type 0

@@ -10,10 +10,9 @@ use Rattle.step_code.specs.declared.base.Hand.{Hand}
 use Rattle.step_code.specs.declared.base.Output.{Output}
 use Rattle.step_code.specs.declared.base.Queue.{Queue}
 use Rattle.step_code.specs.declared.rules.Facts.{Facts}
-use Rattle.step_code.specs.Content.{last_moment}
 use Rattle.step_code.specs.Places.{standing}
-use Rattle.step_code.specs.Rules.{collects, writes}
-use Rattle.step_code.specs.Sound.{is_same_hand, last_number, longest_base}
+use Rattle.step_code.specs.Rules.{collects, writes, last_moment}
+use Rattle.step_code.specs.Sound.{is_same_hand, last_number, longest_base, most_tries}
 use Rattle.step_code.specs.State.{is_instance, is_feed, is_out, is_queue, queue_name}
 use Rattle.journal_book.specs.CodeLength.{base_length}
 
@@ -37,8 +36,12 @@ names_differ b =
     are_distinct bytes_eq (map (λ q. q.name) b.queues) && are_distinct bytes_eq (map (λ c. c.bot) b.caches) && are_distinct bytes_eq (map (λ o. o.bot) b.outs)
     && are_distinct bytes_eq (map (λ f. f.bot) b.feeds) && are_distinct bytes_eq b.halted
 
+-- the bytes that tell an instance's hand from another's
+abbrev pub hand_key : Hand → List ℕ
+hand_key h = h.instance ∷ h.bot
+
 abbrev pub is_sound_hand : List Facts → List Queue → Hand → Bool
-is_sound_hand bots queues h = is_instance bots h.bot h.instance && list_any (is_queue (queue_name h.bot)) queues && nat_le h.tries 100
+is_sound_hand bots queues h = is_instance bots h.bot h.instance && list_any (is_queue (queue_name h.bot)) queues && nat_le h.tries most_tries
 
 abbrev pub hands_are_sound : List Facts → Base → Bool
 hands_are_sound bots b = are_distinct is_same_hand b.hands && list_all (is_sound_hand bots b.queues) b.hands

@@ -3,6 +3,7 @@ ghost use Rattle.std.specs.Prelude.{◌≡◌, ◌+◌, ◌≤◌, ◌^◌, [], 
 ghost use Rattle.step_code.specs.After.{reports, sent, taken_first};
 ghost use Rattle.step_code.specs.Lists.{changed};
 ghost use Rattle.step_code.specs.Rules.{Meaning, IsPlanOf, is_collector};
+ghost use Rattle.step_code.specs.Spent.{last_given};
 ghost use Rattle.step_code.specs.State.{is_feed, queued, queue_name, waiting};
 ghost use Rattle.journal_book.specs.State.{state_of};
 
@@ -16,22 +17,25 @@ use std::alloc::Global;
 use step_code::{Facts, Hand, Rules};
 
 pub fn start(state: &mut State)
-    ensures { state_of state.new ≡ record (state_of state.old) { halted = [] } }
+    ensures start { state_of state.new ≡ record (state_of state.old) { halted = [] } }
+    ensures outs { state.new.outs ≡ state.old.outs }
 {
     state.halted.clear();
 }
 
 pub fn end_feed(state: &mut State, bot: &BotName)
-    ensures { state_of state.new ≡ record (state_of state.old) { feeds = changed (is_feed bot.now) (λ f. record f { finished = true }) (state_of state.old).feeds } }
+    ensures end { state_of state.new ≡ record (state_of state.old) { feeds = changed (is_feed bot.now) (λ f. record f { finished = true }) (state_of state.old).feeds } }
+    ensures outs { state.new.outs ≡ state.old.outs }
 {
     finish(&mut state.feeds, bot);
 }
 
 // Puts bodies on queues as new messages. Want of memory changes nothing.
 fn send(state: &mut State, alloc: Global, sends: Vec<(QueueName, Blob)>) -> Result<(), OutOfMemory>
-    requires { state.old.next_message + length sends.items ≤ 2 ^ 62 + 1 }
+    requires { state.old.next_message + length sends.items ≤ last_given + 1 }
     ensures ok { OnOk result (state_of state.new ≡ sent sends.items (state_of state.old)) }
     ensures err { OnErr result (state_of state.new ≡ state_of state.old) }
+    ensures outs { state.new.outs ≡ state.old.outs }
 {
     let count = sends.len() as u64;
     make_all_room(&mut state.queues, alloc, &sends)?;
@@ -48,9 +52,10 @@ pub fn collect(
     upto: u64,
     sends: Vec<(QueueName, Blob)>,
 ) -> Result<(), OutOfMemory>
-    requires { state.old.next_message + length sends.items ≤ 2 ^ 62 + 1 }
+    requires { state.old.next_message + length sends.items ≤ last_given + 1 }
     ensures ok { OnOk result (state_of state.new ≡ sent sends.items (record (state_of state.old) { feeds = changed (is_feed bot.now) (λ f. record f { position = upto }) (state_of state.old).feeds })) }
     ensures err { OnErr result (state_of state.new ≡ state_of state.old) }
+    ensures outs { state.new.outs ≡ state.old.outs }
 {
     send(state, alloc, sends)?;
     go_to(&mut state.feeds, bot, upto);
@@ -61,6 +66,7 @@ pub fn collect(
 pub fn take(state: &mut State, bot: &BotName, instance: u8, now: Moment) -> Result<(), OutOfMemory>
     ensures ok { OnOk result (state_of state.new ≡ taken_first bot.now instance now (waiting (queue_name bot.now) (state_of state.old)) (state_of state.old)) }
     ensures err { OnErr result (state_of state.new ≡ state_of state.old) }
+    ensures outs { state.new.outs ≡ state.old.outs }
 {
     state.hands.reserve(1)?;
     if let Some(message) = take_front(&mut state.queues, &queue_of(bot)) {

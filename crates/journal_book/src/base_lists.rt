@@ -1,5 +1,6 @@
 //! The state as a base, and back.
 ghost use Rattle.std.specs.Prelude.{◌≡◌, List, take, IfOk};
+ghost use Rattle.journal_book.specs.Outputs.{HaveLengths};
 ghost use Rattle.journal_book.specs.State.{state_of};
 
 use crate::copies::copy_of_message;
@@ -11,7 +12,8 @@ use step_code::{Base, BotList, Feed, FeedList, Hand, HandList};
 
 /// The state of a base, whose items move.
 pub fn from_base(alloc: Global, base: Base) -> Result<State, OutOfMemory>
-    ensures { IfOk result (λ state. state_of state ≡ base) }
+    ensures same { IfOk result (λ state. state_of state ≡ base) }
+    ensures lengths { IfOk result (λ state. HaveLengths state.outs.items) }
 {
     Ok(State {
         steps: base.steps,

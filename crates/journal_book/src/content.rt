@@ -2,7 +2,7 @@
 ghost use Rattle.std.specs.Prelude.{◌≡◌, ◌↔◌, ◌≤◌, ◌&&◌, option_and_then, true, false, List, ℕ, Bool, Option, Some, None, IsSome, IsTrue, unwrap_or};
 ghost use Rattle.step_code.specs.declared.rules.CacheRule.{CacheRule};
 ghost use Rattle.step_code.specs.Content.{IsFront, IsInTime, IsMarkAndLine, IsPiece, Shows, is_duplicate, live_marks};
-ghost use Rattle.step_code.specs.Rules.{Meaning, bot_named, passes, writes};
+ghost use Rattle.step_code.specs.Rules.{Meaning, bot_named, last_moment, passes, writes};
 ghost use Rattle.step_code.specs.State.{is_marked, queue_name, waiting};
 ghost use Rattle.step_code.specs.After.{cache_rule};
 ghost use Rattle.journal_book.specs.State.{state_of};
@@ -22,7 +22,7 @@ const LONGEST_FEED: u64 = 1_073_741_824;
 
 /// Whether the moment isn't before the latest, and can be written as a date.
 pub fn is_in_time(latest: Moment, moment: Moment) -> bool
-    ensures { (result ≡ true) ↔ ((latest.0 ≤ moment.0) × (moment.0 ≤ 253_402_300_799)) }
+    ensures { (result ≡ true) ↔ ((latest.0 ≤ moment.0) × (moment.0 ≤ last_moment)) }
 {
     latest.0 <= moment.0 && moment.0 <= LAST_MOMENT
 }

@@ -4,11 +4,12 @@ ghost use Rattle.std.specs.Str.{bytes_eq};
 ghost use Rattle.std.specs.List.{IsAllAdjacentAnswer, list_all};
 ghost use Rattle.std.specs.Cmp.Lexicographic.{slice_cmp};
 ghost use Rattle.std.specs.Ordering.{nat_cmp, is_lt};
-ghost use Rattle.journal_book.specs.SoundTests.{are_apart_below, are_distinct, names_differ, rise};
+ghost use Rattle.journal_book.specs.SoundTests.{are_apart_below, are_distinct, hand_key, names_differ, rise};
+ghost use Rattle.step_code.specs.Sound.{is_same_hand};
 
-use base_types::{BotName, OutOfMemory};
+use base_types::{Blob, BotName, OutOfMemory};
 use std::alloc::Global;
-use step_code::{Base, BotCache, Feed, Mark, Output, Queue};
+use step_code::{Base, BotCache, Feed, Hand, Mark, Output, Queue};
 
 // Whether each number is above the one before it, and the first above 0.
 fn rise(numbers: &[u64]) -> bool
@@ -53,6 +54,44 @@ fn are_distinct(mut names: Vec<&[u8]>) -> bool
 {
     names.sort_unstable();
     ascend(&names)
+}
+
+// The bytes that tell an instance's hand from another's.
+fn hand_key(alloc: Global, hand: &Hand) -> Result<Blob, OutOfMemory>
+    ensures { IfOk result (λ key. key ≡ hand_key hand.now) }
+{
+    let mut key = Blob::new(alloc, &[hand.instance])?;
+    key.append(hand.bot.bytes())?;
+    Ok(key)
+}
+
+fn hand_keys(alloc: Global, hands: &[Hand]) -> Result<Vec<Blob>, OutOfMemory>
+    ensures { IfOk result (λ keys. keys.items ≡ map hand_key hands.now) }
+{
+    let mut keys = Vec::with_capacity(alloc, hands.len())?;
+    'hands: for hand in hands {
+        keys.push(hand_key(alloc, hand)?)?;
+    }
+    Ok(keys)
+}
+
+fn blobs_differ(alloc: Global, blobs: &[Blob]) -> Result<bool, OutOfMemory>
+    ensures { IfOk result (λ differ. differ ≡ are_distinct bytes_eq blobs.now) }
+{
+    let mut names = Vec::new(alloc);
+    'blobs: for blob in blobs {
+        names.push(blob.bytes())?;
+    }
+    Ok(are_distinct(names))
+}
+
+/// Whether no instance has two hands.
+#[tactic(auto, using(crate::proofs::Apart::keys_as))]
+pub fn hands_differ(alloc: Global, hands: &[Hand]) -> Result<bool, OutOfMemory>
+    ensures { IfOk result (λ differ. differ ≡ are_distinct is_same_hand hands.now) }
+{
+    let keys = hand_keys(alloc, hands)?;
+    blobs_differ(alloc, &keys)
 }
 
 fn queues_differ(alloc: Global, queues: &[Queue]) -> Result<bool, OutOfMemory>

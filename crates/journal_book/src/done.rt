@@ -2,9 +2,10 @@
 ghost use Rattle.std.specs.Prelude.{◌≡◌, ◌+◌, ◌≤◌, ◌<◌, ◌^◌, ◌++◌, [], List, ℕ, Option, true, length, OnOk, OnErr, Some, None, find, unwrap_or, option_map, vec_len, vec_capacity};
 ghost use Rattle.step_code.specs.After.{body_in_hand, cached, dumped, sent, written};
 ghost use Rattle.step_code.specs.Lists.{without};
+ghost use Rattle.step_code.specs.Spent.{last_given};
 ghost use Rattle.step_code.specs.State.{is_hand};
 ghost use Rattle.journal_book.specs.Caches.{caches_of};
-ghost use Rattle.journal_book.specs.Outputs.{HasLineRoom, outs_of};
+ghost use Rattle.journal_book.specs.Outputs.{HasLineRoom, HaveLengths, outs_of};
 ghost use Rattle.journal_book.specs.State.{state_of};
 
 use crate::caches::mark;
@@ -27,7 +28,7 @@ fn send_and_mark(
     now: Moment,
     key: Option<Blob>,
 ) -> Result<(), OutOfMemory>
-    requires { state.old.next_message + length sends.items ≤ 2 ^ 62 + 1 }
+    requires { state.old.next_message + length sends.items ≤ last_given + 1 }
     ensures ok { OnOk result (state_of state.new ≡ record (sent sends.items (state_of state.old)) { caches = cached rule bot.now now key (state_of state.old).caches }) }
     ensures err { OnErr result (state_of state.new ≡ state_of state.old) }
     ensures same { state.new ≡ record state.old { queues = state.new.queues; caches = state.new.caches; next_message = state.new.next_message } }
@@ -51,8 +52,8 @@ fn send_and_mark(
 // Puts dumps behind those that are there, without memory.
 fn put_aside(state: &mut State, dumps: Vec<Dump>)
     requires room { vec_len state.old.dumps + length dumps.items ≤ vec_capacity state.old.dumps }
-    requires messages { state.old.next_message + length dumps.items ≤ 2 ^ 62 + 1 }
-    requires dumps { state.old.next_dump + length dumps.items ≤ 2 ^ 62 + 1 }
+    requires messages { state.old.next_message + length dumps.items ≤ last_given + 1 }
+    requires dumps { state.old.next_dump + length dumps.items ≤ last_given + 1 }
     ensures put { state_of state.new ≡ record (state_of state.old) {
       dumps = state.old.dumps.items ++ dumps.items;
       next_message = state.old.next_message + length dumps.items;
@@ -71,10 +72,11 @@ fn put_aside(state: &mut State, dumps: Vec<Dump>)
 fn acknowledge(state: &mut State, bot: &BotName, instance: u8, line: bool)
     requires full { find (is_hand bot.now instance) state.old.hands.items ≡ None → ⊥ }
     requires room { HasLineRoom bot.now state.old.outs.items }
-    ensures { state_of state.new ≡ record (state_of state.old) {
+    ensures done { state_of state.new ≡ record (state_of state.old) {
       outs = written line bot.now (body_in_hand bot.now instance (state_of state.old)) (state_of state.old).outs;
       hands = without (is_hand bot.now instance) state.old.hands.items;
     } }
+    ensures lengths { HaveLengths state.old.outs.items → HaveLengths state.new.outs.items }
 {
     if let Some(hand) = take_out(&mut state.hands, bot, instance) {
         if line {
@@ -97,14 +99,15 @@ pub fn done(
     line: bool,
 ) -> Result<(), OutOfMemory>
     requires full { find (is_hand bot.now instance) state.old.hands.items ≡ None → ⊥ }
-    requires messages { state.old.next_message + length sends.now + length dumps.now ≤ 2 ^ 62 + 1 }
-    requires dumps { state.old.next_dump + length dumps.now ≤ 2 ^ 62 + 1 }
+    requires messages { state.old.next_message + length sends.now + length dumps.now ≤ last_given + 1 }
+    requires dumps { state.old.next_dump + length dumps.now ≤ last_given + 1 }
     ensures ok { OnOk result (state_of state.new ≡ dumped bot.now now dumps.now (sent sends.now (record (state_of state.old) {
       caches = cached rule bot.now now key.now (state_of state.old).caches;
       outs = written line bot.now (body_in_hand bot.now instance (state_of state.old)) (state_of state.old).outs;
       hands = without (is_hand bot.now instance) state.old.hands.items;
     }))) }
     ensures err { OnErr result (state_of state.new ≡ state_of state.old) }
+    ensures lengths { HaveLengths state.old.outs.items → HaveLengths state.new.outs.items }
 {
     let count = sends.len() as u64;
     let sends = copy_sends(alloc, sends)?;

@@ -18,6 +18,7 @@ mod queue_lists;
 mod queues;
 mod refusal;
 mod soundness;
+mod spent;
 mod standing;
 mod state;
 

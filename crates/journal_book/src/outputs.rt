@@ -1,7 +1,8 @@
 //! What bots have written: so much that is sealed, and the lines behind it.
-ghost use Rattle.std.specs.Prelude.{◌≡◌, true, position, IfOk, OnOk};
+ghost use Rattle.std.specs.Prelude.{◌≡◌, ◌+◌, ◌<◌, ◌++◌, ◌∷◌, [], true, length, min, sum_by, position, vec_len, vec_capacity, IfOk, OnOk};
+ghost use Rattle.step_code.specs.Spent.{last_u64};
 ghost use Rattle.step_code.specs.After.{written};
-ghost use Rattle.journal_book.specs.Outputs.{HasLineRoom, is_written_by, out_of, outs_of};
+ghost use Rattle.journal_book.specs.Outputs.{HasLength, HasLineRoom, HaveLengths, is_written_by, out_of, outs_of};
 
 use base_types::{Blob, BotName, LineList};
 use std::alloc::{AllocError, Global};
@@ -14,9 +15,11 @@ pub struct Written {
     pub sealed_bytes: u64,
     pub sealed_lines: u64,
     pub lines: Vec<Blob>,
+    /// Of all of it, in bytes, each line with its newline. Where it passes the greatest number, that number stands for it.
+    pub length: u64,
 }
 
-fn place_of_output(outs: &[Written], bot: &BotName) -> Option<usize>
+pub fn place_of_output(outs: &[Written], bot: &BotName) -> Option<usize>
     ensures { result ≡ position (is_written_by bot.now) outs.now }
 {
     outs.iter().position(|written| written.bot == *bot)
@@ -25,6 +28,7 @@ fn place_of_output(outs: &[Written], bot: &BotName) -> Option<usize>
 /// Makes room for a line of a bot, if it has an output. The outputs stay.
 pub fn make_room(outs: &mut Vec<Written>, bot: &BotName) -> Result<(), AllocError>
     ensures same { outs_of outs.new.items ≡ outs_of outs.old.items }
+    ensures lengths { HaveLengths outs.old.items → HaveLengths outs.new.items }
     ensures room { OnOk result (HasLineRoom bot.now outs.new.items) }
 {
     match place_of_output(outs, bot) {
@@ -33,13 +37,23 @@ pub fn make_room(outs: &mut Vec<Written>, bot: &BotName) -> Result<(), AllocErro
     }
 }
 
+fn add_line(written: &mut Written, line: Blob)
+    requires { vec_len written.old.lines < vec_capacity written.old.lines }
+    ensures added { out_of written.new ≡ record (out_of written.old) { lines = written.old.lines.items ++ line ∷ [] } }
+    ensures length { HasLength written.old → HasLength written.new }
+{
+    written.length = written.length.saturating_add(line_length(&line));
+    written.lines.push_reserved(line);
+}
+
 /// Puts a line at the end of the bot's output, if it has one, without memory.
 pub fn write_line(outs: &mut Vec<Written>, bot: &BotName, line: Blob)
     requires { HasLineRoom bot.now outs.old.items }
-    ensures { outs_of outs.new.items ≡ written true bot.now line (outs_of outs.old.items) }
+    ensures written { outs_of outs.new.items ≡ written true bot.now line (outs_of outs.old.items) }
+    ensures lengths { HaveLengths outs.old.items → HaveLengths outs.new.items }
 {
     if let Some(i) = place_of_output(outs, bot) {
-        outs[i].lines.push_reserved(line);
+        add_line(&mut outs[i], line);
     }
 }
 
@@ -72,21 +86,42 @@ pub fn copies(outs: &[Written], alloc: Global) -> Result<OutList, AllocError>
     Ok(OutList::from(list))
 }
 
+// With its newline.
+fn line_length(line: &Blob) -> u64
+    ensures { result ≡ min (length line.now + 1) last_u64 }
+{
+    (line.bytes().len() as u64).saturating_add(1)
+}
+
+fn lines_length(lines: &[Blob]) -> u64
+    ensures { result ≡ min (sum_by (λ line. length line + 1) lines.now) last_u64 }
+{
+    let mut length: u64 = 0;
+    'lines: for line in lines {
+        length = length.saturating_add(line_length(line));
+    }
+    length
+}
+
 // It takes no memory.
 fn from_list(out: Output) -> Written
-    ensures { out_of result ≡ out }
+    ensures same { out_of result ≡ out }
+    ensures length { HasLength result }
 {
+    let length = lines_length(out.lines.as_slice()).saturating_add(out.sealed_bytes);
     Written {
         bot: out.bot,
         sealed_bytes: out.sealed_bytes,
         sealed_lines: out.sealed_lines,
         lines: out.lines.into_vec(),
+        length,
     }
 }
 
 /// The outputs of these lists.
 pub fn from_lists(list: OutList, alloc: Global) -> Result<Vec<Written>, AllocError>
-    ensures { IfOk result (λ outs. outs_of outs.items ≡ list) }
+    ensures same { IfOk result (λ outs. outs_of outs.items ≡ list) }
+    ensures lengths { IfOk result (λ outs. HaveLengths outs.items) }
 {
     let mut outs = Vec::with_capacity(alloc, list.len())?;
     'outs: for out in list.into_vec() {

@@ -3,9 +3,11 @@ ghost use Rattle.step_code.specs.declared.step.StepKind.TheVariants as kind;
 ghost use Rattle.step_code.specs.After.{acted, after, reports};
 ghost use Rattle.step_code.specs.Content.{IsInTime, MayReplay};
 ghost use Rattle.step_code.specs.Fits.{Fits, first_failing, parts};
-ghost use Rattle.step_code.specs.Rules.{IsPlanOf, is_collector};
+ghost use Rattle.step_code.specs.Rules.{IsPlanOf, is_collector, last_moment};
 ghost use Rattle.step_code.specs.Sound.{IsSound};
-ghost use Rattle.journal_book.specs.Core.{IsRefusal, StaysSmall};
+ghost use Rattle.journal_book.specs.Core.{HasSmallNumbers, IsRefusal};
+ghost use Rattle.journal_book.specs.Outputs.{HaveLengths};
+ghost use Rattle.step_code.specs.Spent.{last_given, spent, StaysSmall};
 ghost use Rattle.journal_book.specs.State.{state_of};
 
 use crate::acts;
@@ -16,6 +18,7 @@ use crate::done::done;
 use crate::facts::bot_named;
 use crate::refusal::refusal;
 use crate::soundness::is_sound;
+use crate::spent::first_spent;
 use crate::state::State;
 use base_types::{Blob, BotName, Moment, OutOfMemory};
 use std::alloc::Global;
@@ -52,23 +55,22 @@ impl<R: Rules> Model for Core<R> {
     ghost use Rattle.step_code.specs.Rules.{IsPlanOf};
     ghost use Rattle.std.specs.Prelude.{◌≡◌};
     ghost use Rattle.journal_book.specs.Core.{CoreView};
+    ghost use Rattle.journal_book.specs.Outputs.{HaveLengths};
     ghost use Rattle.journal_book.specs.State.{state_of};
 
     ghost Value = { CoreView R };
 
     ghost view = { λ c. record { rules = c.rules; state = state_of c.state } };
 
-    ghost invariant = { λ c. (R.bundle_of c.plan ≡ c.state.bundle) × IsPlanOf (R.meaning c.rules) c.state.bundle (R.bots_of c.plan) };
+    ghost invariant = { λ c. (R.bundle_of c.plan ≡ c.state.bundle) × IsPlanOf R.meaning c.state.bundle (R.bots_of c.plan) × HaveLengths c.state.outs.items };
 }
 
 // The plan of the state's bundle, where a store may hold the state.
 fn sound_plan<R: Rules>(alloc: Global, rules: &R, base: &Base) -> Result<R::Plan, CoreFault>
-where
-    R::Plan: Drop,
     ensures bundle { IfOk result (λ plan. R.bundle_of plan ≡ base.now.bundle) }
-    ensures plan { IfOk result (λ plan. IsPlanOf (R.meaning rules.now) base.now.bundle (R.bots_of plan)) }
-    ensures sound { OnOk result (IsSound (R.meaning rules.now) base.now) }
-    ensures refused { IsErrOf result CoreFault.Refused → IsSound (R.meaning rules.now) base.now → ⊥ }
+    ensures plan { IfOk result (λ plan. IsPlanOf R.meaning base.now.bundle (R.bots_of plan)) }
+    ensures sound { OnOk result (IsSound R.meaning base.now) }
+    ensures refused { IsErrOf result CoreFault.Refused → IsSound R.meaning base.now → ⊥ }
 {
     match rules.plan(alloc, &base.bundle) {
         Ok(plan) => {
@@ -95,12 +97,13 @@ fn collect<R: Rules>(
     now: Moment,
 ) -> Result<(), OutOfMemory>
     requires bundle { R.bundle_of plan.now ≡ state.old.bundle }
-    requires plan { IsPlanOf (R.meaning rules.now) state.old.bundle (R.bots_of plan.now) }
+    requires plan { IsPlanOf R.meaning state.old.bundle (R.bots_of plan.now) }
     requires collector { is_collector (R.bots_of plan.now) bot.now ≡ true }
-    requires time { now.0 ≤ 253_402_300_799 }
-    requires small { state.old.next_message + length (reports (R.meaning rules.now) (state_of state.old) bot.now piece.now now) ≤ 2 ^ 62 + 1 }
-    ensures ok { (from : ℕ) → OnOk result (state_of state.new ≡ acted (R.meaning rules.now) now (state_of state.old) (kind.Collect bot.now from upto piece.now)) }
+    requires time { now.0 ≤ last_moment }
+    requires small { state.old.next_message + length (reports R.meaning (state_of state.old) bot.now piece.now now) ≤ last_given + 1 }
+    ensures ok { (from : ℕ) → OnOk result (state_of state.new ≡ acted R.meaning now (state_of state.old) (kind.Collect bot.now from upto piece.now)) }
     ensures err { OnErr result (state_of state.new ≡ state_of state.old) }
+    ensures outs { state.new.outs ≡ state.old.outs }
 {
     match bot_named(rules.facts(plan).as_slice(), bot) {
         Some(facts) => {
@@ -121,12 +124,13 @@ fn act<R: Rules>(
     step: &Step,
 ) -> Result<(), OutOfMemory>
     requires bundle { R.bundle_of plan.now ≡ state.old.bundle }
-    requires plan { IsPlanOf (R.meaning rules.now) state.old.bundle (R.bots_of plan.now) }
-    requires fits { Fits (R.meaning rules.now) (state_of state.old) step.now }
-    requires time { step.now.moment.0 ≤ 253_402_300_799 }
-    requires small { StaysSmall (R.meaning rules.now) (state_of state.old) step.now }
-    ensures ok { OnOk result (state_of state.new ≡ acted (R.meaning rules.now) step.now.moment (state_of state.old) step.now.what) }
+    requires plan { IsPlanOf R.meaning state.old.bundle (R.bots_of plan.now) }
+    requires fits { Fits R.meaning (state_of state.old) step.now }
+    requires time { step.now.moment.0 ≤ last_moment }
+    requires small { HasSmallNumbers (after R.meaning (state_of state.old) step.now) }
+    ensures ok { OnOk result (state_of state.new ≡ acted R.meaning step.now.moment (state_of state.old) step.now.what) }
     ensures err { OnErr result (state_of state.new ≡ state_of state.old) }
+    ensures lengths { HaveLengths state.old.outs.items → HaveLengths state.new.outs.items }
 {
     let now = step.moment;
     match &step.what {
@@ -185,13 +189,14 @@ fn act_and_count<R: Rules>(
     step: &Step,
 ) -> Result<(), OutOfMemory>
     requires bundle { R.bundle_of plan.now ≡ state.old.bundle }
-    requires plan { IsPlanOf (R.meaning rules.now) state.old.bundle (R.bots_of plan.now) }
-    requires fits { Fits (R.meaning rules.now) (state_of state.old) step.now }
-    requires time { step.now.moment.0 ≤ 253_402_300_799 }
-    requires small { StaysSmall (R.meaning rules.now) (state_of state.old) step.now }
-    ensures ok { OnOk result (state_of state.new ≡ after (R.meaning rules.now) (state_of state.old) step.now) }
+    requires plan { IsPlanOf R.meaning state.old.bundle (R.bots_of plan.now) }
+    requires fits { Fits R.meaning (state_of state.old) step.now }
+    requires time { step.now.moment.0 ≤ last_moment }
+    requires small { HasSmallNumbers (after R.meaning (state_of state.old) step.now) }
+    ensures ok { OnOk result (state_of state.new ≡ after R.meaning (state_of state.old) step.now) }
     ensures err { OnErr result (state_of state.new ≡ state_of state.old) }
     ensures bundle { state.new.bundle ≡ state.old.bundle }
+    ensures lengths { HaveLengths state.old.outs.items → HaveLengths state.new.outs.items }
 {
     act(rules, plan, state, alloc, step)?;
     state.steps += 1;
@@ -206,12 +211,9 @@ impl<R: Rules> Core<R> {
     ///
     /// `Refused` where no store may hold the state under these rules. `OutOfMemory`.
     pub fn new(alloc: Global, rules: R, base: Base) -> Result<Core<R>, CoreFault>
-    where
-        R: Drop,
-        R::Plan: Drop,
         ensures core { IfOk result (λ core. core ≡ record { rules = rules; state = base }) }
-        ensures sound { OnOk result (IsSound (R.meaning rules) base) }
-        ensures refused { IsErrOf result CoreFault.Refused → IsSound (R.meaning rules) base → ⊥ }
+        ensures sound { OnOk result (IsSound R.meaning base) }
+        ensures refused { IsErrOf result CoreFault.Refused → IsSound R.meaning base → ⊥ }
     {
         let plan = sound_plan(alloc, &rules, &base)?;
         Ok(Core {
@@ -232,7 +234,7 @@ impl<R: Rules> Core<R> {
     /// The plan of the bundle in force.
     pub fn plan(&self) -> &R::Plan
         ensures bundle { R.bundle_of result.now ≡ self.now.state.bundle }
-        ensures plan { IsPlanOf (R.meaning self.now.rules) self.now.state.bundle (R.bots_of result.now) }
+        ensures plan { IsPlanOf R.meaning self.now.state.bundle (R.bots_of result.now) }
     {
         &self.plan
     }
@@ -243,11 +245,11 @@ impl<R: Rules> Core<R> {
     ///
     /// What refuses it: the lowest part of the table of steps that fails. Then want of memory.
     pub fn apply(&mut self, step: &Step) -> Result<(), StepRefusal>
-        requires replay { Fits (R.meaning self.old.rules) self.old.state step.now → MayReplay (R.meaning self.old.rules) self.old.state step.now }
-        requires small { Fits (R.meaning self.old.rules) self.old.state step.now → StaysSmall (R.meaning self.old.rules) self.old.state step.now }
-        ensures fits { OnOk result (Fits (R.meaning self.old.rules) self.old.state step.now) }
-        ensures after { OnOk result (self.new ≡ record self.old { state = after (R.meaning self.old.rules) self.old.state step.now }) }
-        ensures refused { IfErr result (IsRefusal (first_failing (parts (R.meaning self.old.rules) self.old.state step.now.what))) }
+        requires replay { Fits R.meaning self.old.state step.now → MayReplay R.meaning self.old.state step.now }
+        requires small { Fits R.meaning self.old.state step.now → StaysSmall R.meaning self.old.state step.now }
+        ensures fits { OnOk result (Fits R.meaning self.old.state step.now) }
+        ensures after { OnOk result (self.new ≡ record self.old { state = after R.meaning self.old.state step.now }) }
+        ensures refused { IfErr result (IsRefusal (first_failing (parts R.meaning self.old.state step.now.what))) }
         ensures err { OnErr result (self.new ≡ self.old) }
     {
         let bots = self.rules.facts(&self.plan).as_slice();
@@ -269,7 +271,7 @@ impl<R: Rules> Core<R> {
 
     /// What refuses the step, if it doesn't fit.
     pub fn refusal(&self, step: &Step) -> Result<Option<StepRefusal>, OutOfMemory>
-        ensures { IfOk result (λ refusal. refusal ≡ first_failing (parts (R.meaning self.now.rules) self.now.state step.now.what)) }
+        ensures { IfOk result (λ refusal. refusal ≡ first_failing (parts R.meaning self.now.state step.now.what)) }
     {
         refusal(
             &self.state,
@@ -281,7 +283,7 @@ impl<R: Rules> Core<R> {
     /// Whether a stored step may be replayed: it fits, its moment is in order, and what shows of its content is right.
     /// It doesn't ask the rules what they give.
     pub fn fits(&self, step: &Step) -> Result<bool, OutOfMemory>
-        ensures { IfOk result (λ fits. (fits ≡ true) ↔ MayReplay (R.meaning self.now.rules) self.now.state step.now) }
+        ensures { IfOk result (λ fits. (fits ≡ true) ↔ MayReplay R.meaning self.now.state step.now) }
     {
         let bots = self.rules.facts(&self.plan).as_slice();
         match refusal(&self.state, bots, &step.what)? {
@@ -291,6 +293,15 @@ impl<R: Rules> Core<R> {
                     && shows(&self.state, bots, step.moment, &step.what),
             ),
         }
+    }
+
+    /// The first number that the step would bring past the last one that may be given, if it brings one: of the step, of its
+    /// last message, its last dump, the bundle or the last output, or the length of an output in bytes.
+    pub fn spent(&self, step: &Step) -> Option<u64>
+        ensures { result ≡ spent R.meaning self.now.state step.now }
+    {
+        let bots = self.rules.facts(&self.plan).as_slice();
+        first_spent(&self.state, bots, &step.what)
     }
 
     /// A copy of the state.

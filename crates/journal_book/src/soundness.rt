@@ -2,13 +2,13 @@
 ghost use Rattle.std.specs.Prelude.{◌≡◌, ◌&&◌, ◌↔◌, true, nat_le, nat_lt, map, Some, IfOk};
 ghost use Rattle.std.specs.List.{list_all, list_any};
 ghost use Rattle.step_code.specs.Rules.{Meaning};
-ghost use Rattle.step_code.specs.Sound.{is_same_hand, IsSound};
+ghost use Rattle.step_code.specs.Sound.{IsSound};
 ghost use Rattle.step_code.specs.State.{is_feed, is_out, is_queue};
-ghost use Rattle.journal_book.specs.SoundTests.{are_distinct, bots_have_places, counts_are_within, do_not_fall, dumps_are_sound, hands_are_sound, has_feed, has_output, is_sound_cache, is_short, is_sound_hand, is_sound_under, is_within, parts_are_within, rise};
+ghost use Rattle.journal_book.specs.SoundTests.{bots_have_places, counts_are_within, do_not_fall, dumps_are_sound, hands_are_sound, has_feed, has_output, is_sound_cache, is_short, is_sound_hand, is_sound_under, is_within, parts_are_within, rise};
 
 use crate::code_length::base_length;
 use crate::content::LAST_MOMENT;
-use crate::distinct::{are_apart_below, keys_differ, names_differ};
+use crate::distinct::{are_apart_below, hands_differ, keys_differ, names_differ};
 use crate::facts::{collects, is_instance, writes};
 use crate::standing::standing;
 use base_types::{BotName, Dump, Moment, OutOfMemory, QueueName, queue_of};
@@ -78,30 +78,6 @@ fn parts_are_within(base: &Base) -> bool
         && feeds_are_within(base.feeds.as_slice())
 }
 
-fn is_same_hand(hand: &Hand, other: &Hand) -> bool
-    ensures { result ≡ is_same_hand hand.now other.now }
-{
-    other.bot == hand.bot && other.instance == hand.instance
-}
-
-fn stands_in(hand: &Hand, others: &[Hand]) -> bool
-    ensures { result ≡ list_any (is_same_hand hand.now) others.now }
-{
-    others.iter().any(|other| is_same_hand(hand, other))
-}
-
-// Hands are few: no more than bots have instances.
-fn hands_differ(hands: &[Hand]) -> bool
-    ensures { result ≡ are_distinct is_same_hand hands.now }
-{
-    'hands: for i in 0..hands.len() {
-        if stands_in(&hands[i], &hands[i + 1..]) {
-            return false;
-        }
-    }
-    true
-}
-
 fn is_queue_there(queues: &[Queue], name: &QueueName) -> bool
     ensures { result ≡ list_any (is_queue name.now) queues.now }
 {
@@ -122,11 +98,12 @@ fn each_hand_is_sound(bots: &[Facts], queues: &[Queue], hands: &[Hand]) -> bool
     hands.iter().all(|hand| is_sound_hand(bots, queues, hand))
 }
 
-fn hands_are_sound(bots: &[Facts], base: &Base) -> bool
-    ensures { result ≡ hands_are_sound bots.now base.now }
+fn hands_are_sound(alloc: Global, bots: &[Facts], base: &Base) -> Result<bool, OutOfMemory>
+    ensures { IfOk result (λ sound. sound ≡ hands_are_sound bots.now base.now) }
 {
     let hands = base.hands.as_slice();
-    hands_differ(hands) && each_hand_is_sound(bots, base.queues.as_slice(), hands)
+    let differ = hands_differ(alloc, hands)?;
+    Ok(differ && each_hand_is_sound(bots, base.queues.as_slice(), hands))
 }
 
 // Whether no moment is before the one in front of it.
@@ -254,13 +231,14 @@ fn is_sound_under(alloc: Global, bots: &[Facts], base: &Base) -> Result<bool, Ou
     ensures { IfOk result (λ sound. sound ≡ is_sound_under bots.now base.now) }
 {
     let differ = names_differ(alloc, base)?;
+    let hands = hands_are_sound(alloc, bots, base)?;
     let caches = each_cache_is_sound(alloc, base.latest, base.caches.as_slice())?;
     let numbers = standing(alloc, base)?;
     Ok(
         counts_are_within(base)
             && parts_are_within(base)
             && differ
-            && hands_are_sound(bots, base)
+            && hands
             && caches
             && are_apart_below(numbers, base.next_message)
             && dumps_are_sound(base.dumps.as_slice(), base.next_dump)

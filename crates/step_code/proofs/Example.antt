@@ -1,6 +1,6 @@
 -- An example: a piece of a feed is collected, taken, written as a line, and the feed ends. The definitions give by
 -- computing what was worked out by hand.
-use Rattle.std.proofs.Common.{◌≤◌, arith, take, ◌≡◌, true, false, List, [], ◌∷◌, refl, Some, None, codes}
+use Rattle.std.proofs.Common.{zero, suc, ◌≤◌, arith, take, ◌≡◌, true, false, List, [], ◌∷◌, refl, Some, None, codes}
 use Rattle.step_code.specs.declared.base.Base.{Base}
 use Rattle.step_code.specs.declared.rules.Facts.{Facts}
 use Rattle.step_code.specs.declared.rules.Given.TheVariants as given
@@ -8,6 +8,7 @@ use Rattle.step_code.specs.declared.rules.Role.TheVariants as role
 use Rattle.step_code.specs.declared.step.Step.{Step}
 use Rattle.step_code.specs.declared.step.StepKind.TheVariants as kind
 use Rattle.step_code.specs.declared.step.StepRefusal.TheVariants as refusal
+use Rattle.step_code.specs.Lists.{AreBytes}
 use Rattle.step_code.specs.Rules.{Meaning}
 use Rattle.step_code.specs.Fits.{parts, first_failing}
 use Rattle.step_code.specs.Content.{IsInTime, May}
@@ -23,7 +24,7 @@ abbrev writer : Facts
 writer = record { bot = codes "write"; role = role.Output; instances = 1; retries = 3; delay = 0; stop = false; defaults = []; on_error = []; cache = None; feed = None }
 
 abbrev m : Meaning
-m = record { facts = λ bundle. Some (collector ∷ writer ∷ []); report = λ task piece now. 82 ∷ piece; give = λ task body since. given.Pass [] [] None true }
+m = record { facts = λ bundle. Some (collector ∷ writer ∷ []); report = λ task piece now. 82 ∷ piece; give = λ task body since. given.Pass [] [] None true; is_lawful = λ body. true }
 
 abbrev steps : List Step
 steps =
@@ -100,8 +101,13 @@ in_time s what order = record { order = order; limit = omega arith }
 start_may : May m start (record { moment = record { 0 = 100 }; what = kind.Start })
 start_may = record { fits = refl; content = record { time = in_time start kind.Start (omega arith); what = tt } }
 
+piece_bytes : AreBytes (97 ∷ 10 ∷ [])
+piece_bytes zero = omega arith
+piece_bytes (suc zero) = omega arith
+piece_bytes (suc (suc i)) = omega arith
+
 collect_may : May m (replay m start (take 1 steps)) (record { moment = record { 0 = 100 }; what = kind.Collect (codes "collect") 0 2 (97 ∷ 10 ∷ []) })
-collect_may = record { fits = refl; content = record { time = record { order = omega arith; limit = omega arith }; what = record { some = omega arith; limit = omega arith } } }
+collect_may = record { fits = refl; content = record { time = record { order = omega arith; limit = omega arith }; what = (record { some = omega arith; limit = omega arith }, piece_bytes) } }
 
 take_may : May m (replay m start (take 2 steps)) (record { moment = record { 0 = 100 }; what = kind.Take (codes "write") 1 1 })
 take_may = record { fits = refl; content = record { time = record { order = omega arith; limit = omega arith }; what = refl } }

@@ -16,7 +16,7 @@ use Rattle.step_code.specs.Rules.{Meaning}
 use Rattle.step_code.specs.State.{queue_name, waiting}
 use Rattle.step_code.specs.After.{after, taken_first}
 use Rattle.step_code.specs.History.{Legal, replay}
-use Rattle.step_code.specs.Places.{acknowledged, acknowledged_by, dumps_of, places, standing, IsMade}
+use Rattle.step_code.specs.Places.{settled, settled_by, dumps_of, places, standing, IsMade}
 use Rattle.step_code.proofs.Everywhere.{all-append, all_in, all_wider}
 use Rattle.step_code.proofs.Counts.{times, times-append, times-cons, numbers_from, numbers_from-append}
 use Rattle.step_code.proofs.Steps.{conserves, made, next_after, stands}
@@ -34,7 +34,7 @@ next_replay m s (step ∷ steps) legal =
 
 -- a history loses no message, and each one that it makes gets one of the next numbers
 counted : (n : ℕ) (m : Meaning) (s : Base) (steps : List Step) → Legal m s steps
-    → stands n (replay m s steps) + times n (acknowledged steps) ≡ stands n s + times n (numbers_from s.next_message (made_all m s steps))
+    → stands n (replay m s steps) + times n (settled m s steps) ≡ stands n s + times n (numbers_from s.next_message (made_all m s steps))
 unfolding made_all
 counted n m s [] legal = omega arith
 counted n m s (step ∷ steps) legal =
@@ -44,7 +44,7 @@ counted n m s (step ∷ steps) legal =
       arith,
       counted n m s1 steps legal.1,
       conserves n m s step.moment step.what legal.0.fits legal.0.content.what,
-      times-append n (acknowledged_by step.what) (acknowledged steps),
+      times-append n (settled_by s step.what) (settled m s1 steps),
       ap (λ x. times n (numbers_from x (made_all m s1 steps))) next,
       ap (times n) (numbers_from-append s.next_message (made m s step) (made_all m s1 steps)),
       times-append n (numbers_from s.next_message (made m s step)) (numbers_from (s.next_message + made m s step) (made_all m s1 steps)),
@@ -85,7 +85,7 @@ module _ (m : Meaning) (first : Base) (new : first.next_message ≡ 1) (none : s
   given n steps legal =
       omega (
         arith,
-        times-append n (standing (replay m first steps)) (acknowledged steps),
+        times-append n (standing (replay m first steps)) (settled m first steps),
         counted n m first steps legal,
         ap (times n) none,
         ap (λ x. times n (numbers_from x (made_all m first steps))) new,

@@ -1,5 +1,5 @@
 -- Bodies stay lawful.
-use Rattle.std.proofs.Common.{suc, ◌+◌, unwrap_or, option_map, ◌≡◌, ℕ, Bool, true, false, List, [], ◌∷◌, ◌++◌, map, drop, Option, Some, None, find, refl, sym, ◌∙◌, ap, subst}
+use Rattle.std.proofs.Common.{suc, ◌+◌, ◌≤◌, unwrap_or, option_map, ◌≡◌, ℕ, Bool, true, false, List, [], ◌∷◌, ◌++◌, map, drop, Option, Some, None, find, refl, sym, ◌∙◌, ap, subst}
 use Rattle.std.specs.List.{AllByRecursion}
 use Rattle.base_types.specs.declared.message.Msg.{Msg}
 use Rattle.base_types.specs.declared.message.Moment.{Moment}
@@ -12,8 +12,8 @@ use Rattle.step_code.specs.declared.rules.Facts.{Facts}
 use Rattle.step_code.specs.declared.step.Step.{Step}
 use Rattle.step_code.specs.declared.step.StepKind.{StepKind}
 use Rattle.step_code.specs.declared.step.StepKind.TheVariants as kind
-use Rattle.step_code.specs.Lists.{changed, without}
-use Rattle.step_code.specs.Rules.{Meaning, Task, FitsBot, bot_named, is_collector}
+use Rattle.step_code.specs.Lists.{AreBytes, changed, without}
+use Rattle.step_code.specs.Rules.{Meaning, Task, FitsBot, IsLawful, bot_named, is_collector, last_moment}
 use Rattle.step_code.specs.State.{is_instance, bots_in_force, queue_name, waiting, is_queue, is_feed, is_hand, is_out, hand_of}
 use Rattle.step_code.specs.After.{cached, cache_rule, body_in_hand, after, put, put_all, numbered, sent, dumped, reports, taken_first, written}
 use Rattle.step_code.specs.Content.{Carries, May, is_duplicate}
@@ -22,7 +22,10 @@ use Rattle.step_code.specs.Places.{AreLawful}
 use Rattle.step_code.proofs.Everywhere.{all-append, all_changed, all_changed_or_added, all_without, all_found}
 use Rattle.step_code.proofs.Parts.{done_fits, collect_fits, passes_there}
 
-module _ (lawful : List ℕ → Type 0) where
+module _ (m : Meaning) where
+  abbrev lawful : List ℕ → Type 0
+  lawful body = IsLawful m body
+
   abbrev IsFine : Queue → Type 0
   IsFine q = AllByRecursion (λ message. lawful message.body) q.messages
 
@@ -42,10 +45,10 @@ module _ (lawful : List ℕ → Type 0) where
   numbered_keeps next dump bot now [] fine = tt
   numbered_keeps next dump bot now (item ∷ items) fine = (fine.0, numbered_keeps (suc next) (suc dump) bot now items fine.1)
 
-  sent_keeps : (sends : List (List ℕ × List ℕ)) (s : Base) → AllByRecursion (λ send. lawful send.1) sends → AreLawful lawful s → AreLawful lawful (sent sends s)
+  sent_keeps : (sends : List (List ℕ × List ℕ)) (s : Base) → AllByRecursion (λ send. lawful send.1) sends → AreLawful m s → AreLawful m (sent sends s)
   sent_keeps sends s fine all = record { queues = put_all_keeps s.next_message sends s.queues fine all.queues; hands = all.hands; dumps = all.dumps; outs = all.outs }
 
-  dumped_keeps : (bot : List ℕ) (now : Moment) (items : List (List ℕ × FaultNote)) (s : Base) → AllByRecursion (λ item. lawful item.0) items → AreLawful lawful s → AreLawful lawful (dumped bot now items s)
+  dumped_keeps : (bot : List ℕ) (now : Moment) (items : List (List ℕ × FaultNote)) (s : Base) → AllByRecursion (λ item. lawful item.0) items → AreLawful m s → AreLawful m (dumped bot now items s)
   dumped_keeps bot now items s fine all = record {
     queues = all.queues;
     hands = all.hands;
@@ -66,7 +69,7 @@ module _ (lawful : List ℕ → Type 0) where
   queued_fine name None messages fine is = subst (AllByRecursion (λ message. lawful message.body)) is tt
   queued_fine name (Some q) messages fine is = subst (AllByRecursion (λ message. lawful message.body)) is (fine q refl)
 
-  taken_keeps : (bot : List ℕ) (instance : ℕ) (now : Moment) (s : Base) (messages : List Msg) → waiting (queue_name bot) s ≡ messages → AreLawful lawful s → AreLawful lawful (taken_first bot instance now messages s)
+  taken_keeps : (bot : List ℕ) (instance : ℕ) (now : Moment) (s : Base) (messages : List Msg) → waiting (queue_name bot) s ≡ messages → AreLawful m s → AreLawful m (taken_first bot instance now messages s)
   taken_keeps bot instance now s [] is all = all
   taken_keeps bot instance now s (m ∷ others) is all =
       let fine = queued_fine (queue_name bot) (find (is_queue (queue_name bot)) s.queues) (m ∷ others) (λ q. all_found IsFine (is_queue (queue_name bot)) s.queues q all.queues) is in
@@ -90,19 +93,19 @@ module _ (lawful : List ℕ → Type 0) where
   body_fine : (found : Option Hand) (h : Hand) → found ≡ Some h → lawful h.message.body → lawful (unwrap_or (option_map (λ h. h.message.body) found) [])
   body_fine found h is fine = subst (λ o. lawful (unwrap_or (option_map (λ (h : Hand). h.message.body) o) [])) (sym is) fine
 
-  module _ (m : Meaning) (bots : List Facts)
-      (reports_are_lawful : (task : Task) (piece : List ℕ) (now : ℕ) → m.facts task.bundle ≡ Some bots → is_collector bots task.bot ≡ true → lawful (m.report task piece now))
-      (given_fits : (facts : Facts) (task : Task) (body : List ℕ) (since : ℕ) → m.facts task.bundle ≡ Some bots → bot_named task.bot bots ≡ Some facts → FitsBot lawful facts (m.give task body since)) where
+  module _ (bots : List Facts)
+      (reports_are_lawful : (task : Task) (piece : List ℕ) (now : ℕ) → m.facts task.bundle ≡ Some bots → is_collector bots task.bot ≡ true → AreBytes piece → now ≤ last_moment → lawful (m.report task piece now))
+      (given_fits : (facts : Facts) (task : Task) (body : List ℕ) (since : ℕ) → m.facts task.bundle ≡ Some bots → bot_named task.bot bots ≡ Some facts → FitsBot m facts (m.give task body since)) where
     in_force : (s : Base) → m.facts s.bundle ≡ Some bots → bots_in_force m s ≡ bots
     in_force s plan = ap (λ o. unwrap_or o []) plan
 
-    step_keeps : (s : Base) (now : Moment) (what : StepKind) → m.facts s.bundle ≡ Some bots → May m s (record { moment = now; what = what }) → AreLawful lawful s → AreLawful lawful (after m s (record { moment = now; what = what }))
+    step_keeps : (s : Base) (now : Moment) (what : StepKind) → m.facts s.bundle ≡ Some bots → May m s (record { moment = now; what = what }) → AreLawful m s → AreLawful m (after m s (record { moment = now; what = what }))
     step_keeps s now kind.Start plan may all = record { queues = all.queues; hands = all.hands; dumps = all.dumps; outs = all.outs }
     step_keeps s now (kind.Collect bot from upto piece) plan may all =
         let t : Base = record s { steps = s.steps + 1; latest = now; feeds = changed (is_feed bot) (λ f. record f { position = upto }) s.feeds } in
         let collects = subst (λ b. is_collector b bot ≡ true) (in_force s plan) (collect_fits m s now bot from upto piece may.fits) in
         let task : Task = record { bundle = s.bundle; bot = bot } in
-        sent_keeps (reports m s bot piece now) t (same_body _ (m.report task piece now.0) (reports_are_lawful task piece now.0 plan collects))
+        sent_keeps (reports m s bot piece now) t (same_body _ (m.report task piece now.0) (reports_are_lawful task piece now.0 plan collects may.content.what.1 may.content.time.limit))
         (record { queues = all.queues; hands = all.hands; dumps = all.dumps; outs = all.outs })
     step_keeps s now (kind.FeedEnd bot position) plan may all = record { queues = all.queues; hands = all.hands; dumps = all.dumps; outs = all.outs }
     step_keeps s now (kind.Take bot instance message) plan may all =
@@ -114,7 +117,7 @@ module _ (lawful : List ℕ → Type 0) where
         let named = passes_there _ (bot_named bot bots) live in
         let task : Task = record { bundle = s.bundle; bot = bot } in
         let body = all_found (λ h. lawful h.message.body) (is_hand bot instance) s.hands result.hand all.hands result.holds in
-        let fits = subst (FitsBot lawful named.0) result.gives (given_fits named.0 task result.hand.message.body result.hand.since.0 plan named.1) in
+        let fits = subst (FitsBot m named.0) result.gives (given_fits named.0 task result.hand.message.body result.hand.since.0 plan named.1) in
         let t : Base = record s {
           steps = s.steps + 1;
           latest = now;
@@ -142,7 +145,7 @@ module _ (lawful : List ℕ → Type 0) where
         go (x ∷ xs) = refl
     same_bundle s now (kind.Done bot instance message bundle sends dumps key line) = refl
 
-    pub stay_lawful : (s : Base) (steps : List Step) → m.facts s.bundle ≡ Some bots → Legal m s steps → AreLawful lawful s → AreLawful lawful (replay m s steps)
+    pub stay_lawful : (s : Base) (steps : List Step) → m.facts s.bundle ≡ Some bots → Legal m s steps → AreLawful m s → AreLawful m (replay m s steps)
     stay_lawful s [] plan legal all = all
     stay_lawful s (step ∷ steps) plan legal all =
         stay_lawful (after m s step) steps (ap m.facts (same_bundle s step.moment step.what) ∙ plan) legal.1 (step_keeps s step.moment step.what plan legal.0 all)

@@ -32,21 +32,21 @@ none_is_there (Some x) is there = clash (ap is_some is)
     clash : true ≡ false → ⊥
     clash e = cc
 
-module _ (m : Meaning) (lawful : List ℕ → Type 0) (bots : List Facts)
-    (given_fits : (facts : Facts) (task : Task) (body : List ℕ) (since : ℕ) → m.facts task.bundle ≡ Some bots → bot_named task.bot bots ≡ Some facts → FitsBot lawful facts (m.give task body since)) where
+module _ (m : Meaning) (bots : List Facts)
+    (given_fits : (facts : Facts) (task : Task) (body : List ℕ) (since : ℕ) → m.facts task.bundle ≡ Some bots → bot_named task.bot bots ≡ Some facts → FitsBot m facts (m.give task body since)) where
   in_force : (s : Base) → m.facts s.bundle ≡ Some bots → bots_in_force m s ≡ bots
   in_force s plan = ap (λ o. unwrap_or o []) plan
 
   shows : (s : Base) (now : Moment) (what : StepKind) → m.facts s.bundle ≡ Some bots → May m s (record { moment = now; what = what }) → Shows m s now.0 what
   shows s now kind.Start plan may = tt
-  shows s now (kind.Collect bot from upto piece) plan may = may.content.what
+  shows s now (kind.Collect bot from upto piece) plan may = may.content.what.0
   shows s now (kind.FeedEnd bot position) plan may = tt
   shows s now (kind.Take bot instance message) plan may = may.content.what
   shows s now (kind.Done bot instance message bundle sends dumps key line) plan may =
       let result = may.content.what in
       let live = subst (λ b. is_instance b bot instance ≡ true) (in_force s plan) (done_fits m s now bot instance message bundle sends dumps key line may.fits).0 in
       let named = passes_there _ (bot_named bot bots) live in
-      let fits = subst (FitsBot lawful named.0) result.gives (given_fits named.0 (record { bundle = s.bundle; bot = bot }) result.hand.message.body result.hand.since.0 plan named.1) in
+      let fits = subst (FitsBot m named.0) result.gives (given_fits named.0 (record { bundle = s.bundle; bot = bot }) result.hand.message.body result.hand.since.0 plan named.1) in
       let here : bot_named bot (bots_in_force m s) ≡ Some named.0 = ap (bot_named bot) (in_force s plan) ∙ named.1 in
       record {
         rule = λ there. subst (λ o. IsSome (option_and_then (λ f. f.cache) o)) (sym here) (⊎_elim (λ none. absurd (none_is_there key none there)) (λ given. fits.2 (subst IsSome given there))

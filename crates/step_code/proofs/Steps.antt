@@ -17,7 +17,7 @@ use Rattle.step_code.specs.After.{cached, cache_rule, written, body_in_hand}
 use Rattle.step_code.proofs.Parts.{done_fits, passes_number}
 use Rattle.step_code.specs.After.{taken, after, reports, sent, dumped, numbered, taken_first}
 use Rattle.step_code.specs.Content.{Matches, IsFront}
-use Rattle.step_code.specs.Places.{standing, acknowledged_by, waiting_numbers}
+use Rattle.step_code.specs.Places.{standing, settled_by, waiting_numbers}
 use Rattle.step_code.proofs.Counts.{times, times-append, numbers_from, numbers_from-append, waits-put_all, waits-taken, numbers-numbered, holds-without}
 
 -- how many messages a step makes
@@ -25,9 +25,11 @@ abbrev pub made : Meaning → Base → Step → ℕ
 made m s step = made_by step.what
   where
     made_by : StepKind → ℕ
+    made_by kind.Start = 0
     made_by (kind.Collect bot from upto piece) = length (reports m s bot piece step.moment)
+    made_by (kind.FeedEnd bot position) = 0
+    made_by (kind.Take bot instance message) = 0
     made_by (kind.Done bot instance message bundle sends dumps key line) = length sends + length dumps
-    made_by _ = 0
 
 -- all numbers of a state
 abbrev pub stands : ℕ → Base → ℕ
@@ -89,7 +91,7 @@ next_after m s now (kind.Done bot instance message bundle sends dumps key line) 
 -- a step loses no message, and each one that it makes gets one of the next numbers
 pub conserves : (n : ℕ) (m : Meaning) (s : Base) (now : Moment) (what : StepKind) → (let step : Step = record { moment = now; what = what } in
     Fits m s step → Matches m s now.0 what
-    → stands n (after m s step) + times n (acknowledged_by what) ≡ stands n s + times n (numbers_from s.next_message (made m s step)))
+    → stands n (after m s step) + times n (settled_by s what) ≡ stands n s + times n (numbers_from s.next_message (made m s step)))
 conserves n m s now kind.Start fits matches = omega (arith, stands_in n s, stands_in n (after m s (record { moment = now; what = kind.Start })))
 conserves n m s now (kind.Collect bot from upto piece) fits matches =
     let t : Base = record s { steps = s.steps + 1; latest = now; feeds = changed (is_feed bot) (λ f. record f { position = upto }) s.feeds } in

@@ -10,14 +10,11 @@ use Rattle.step_code.specs.declared.rules.Given.TheVariants as given
 use Rattle.step_code.specs.declared.step.Step.{Step}
 use Rattle.step_code.specs.declared.step.StepKind.{StepKind}
 use Rattle.step_code.specs.declared.step.StepKind.TheVariants as kind
-use Rattle.step_code.specs.Rules.{Meaning, bot_named, writes, passes}
+use Rattle.step_code.specs.Lists.{AreBytes}
+use Rattle.step_code.specs.Rules.{Meaning, bot_named, last_moment, writes, passes}
 use Rattle.step_code.specs.State.{bots_in_force, queue_name, waiting, hand_of, marks_of, fresh, is_marked}
 use Rattle.step_code.specs.After.{cache_rule}
 use Rattle.step_code.specs.Fits.{Fits}
-
--- the last second of the year 9999
-abbrev pub last_moment : ℕ
-last_moment = 253_402_300_799
 
 -- no feed is read behind this offset
 abbrev pub longest_feed : ℕ
@@ -64,7 +61,7 @@ IsFront number (message ∷ others) = number ≡ message.no
 -- what a step carries besides is what the rules give
 abbrev pub Matches : Meaning → Base → ℕ → StepKind → Type 0
 Matches m s now kind.Start = Unit {0}
-Matches m s now (kind.Collect bot from upto piece) = IsPiece from upto
+Matches m s now (kind.Collect bot from upto piece) = IsPiece from upto × AreBytes piece
 Matches m s now (kind.FeedEnd bot position) = Unit {0}
 Matches m s now (kind.Take bot instance message) = IsFront message (waiting (queue_name bot) s)
 Matches m s now (kind.Done bot instance message bundle sends dumps key line) = IsResult m s bot instance now sends dumps key line

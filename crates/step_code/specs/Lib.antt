@@ -8,5 +8,6 @@ pub mod Places
 pub mod Reading
 pub mod Rules
 pub mod Sound
+pub mod Spent
 pub mod State
 pub mod StateReading

@@ -1,5 +1,5 @@
 -- Entries of lists.
-use Rattle.std.specs.Prelude.{◌≡◌, ◌⊎◌, Bool, List, [], ◌∷◌, if◌then◌else◌}
+use Rattle.std.specs.Prelude.{◌≡◌, ◌<◌, ◌⊎◌, ℕ, Bool, List, [], ◌∷◌, get_or, if◌then◌else◌}
 
 -- the first entry that passes is changed
 abbrev pub changed : {A : Type 0} → (A → Bool) → (A → A) → List A → List A
@@ -15,6 +15,10 @@ changed_or_added is change new (x ∷ xs) = if is x then change x ∷ xs else x 
 abbrev pub without : {A : Type 0} → (A → Bool) → List A → List A
 without is [] = []
 without is (x ∷ xs) = if is x then xs else x ∷ without is xs
+
+-- each of them is a byte
+abbrev pub AreBytes : List ℕ → Type 0
+AreBytes numbers = (i : ℕ) → get_or numbers i 0 < 256
 
 -- the item stands in the list
 abbrev pub IsIn : {A : Type 0} → A → List A → Type 0

@@ -16,12 +16,21 @@ pub record Task : Type 0 where
   pub bundle : List ℕ
   pub bot : List ℕ
 
--- the bots of a bundle, if it is one; the body that a collector of a bundle reports of a piece at a moment; and what a
--- bot makes of a body that it took at a moment
+-- the last second of the year 9999
+abbrev pub last_moment : ℕ
+last_moment = 253_402_300_799
+
+-- the bots of a bundle, if it is one; the body that a collector of a bundle reports of a piece at a moment; what a bot
+-- makes of a body that it took at a moment; and the bodies that messages may have
 pub record Meaning : Type 0 where
   pub facts : List ℕ → Option (List Facts)
   pub report : Task → List ℕ → ℕ → List ℕ
   pub give : Task → List ℕ → ℕ → Given
+  pub is_lawful : List ℕ → Bool
+
+-- a message may have this body
+abbrev pub IsLawful : Meaning → List ℕ → Type 0
+IsLawful m body = IsTrue (m.is_lawful body)
 
 -- the bot of this name
 abbrev pub bot_named : List ℕ → List Facts → Option Facts
@@ -75,7 +84,7 @@ pub record AreSound (bots : List Facts) : Type 0 where
 
 -- what a bot gives fits it: each body is lawful, a key comes only of a bot that drops duplicates, and a line only of one
 -- that writes
-abbrev pub FitsBot : (List ℕ → Type 0) → Facts → Given → Type 0
-FitsBot lawful f (given.Pass sends dumps key line) =
-    AllByRecursion (λ send. lawful send.1) sends × AllByRecursion (λ dump. lawful dump.0) dumps × (IsSome key → IsSome f.cache) × (IsTrue line → IsTrue (writes f))
-FitsBot lawful f (given.Fault note) = Unit {0}
+abbrev pub FitsBot : Meaning → Facts → Given → Type 0
+FitsBot m f (given.Pass sends dumps key line) =
+    AllByRecursion (λ send. IsLawful m send.1) sends × AllByRecursion (λ dump. IsLawful m dump.0) dumps × (IsSome key → IsSome f.cache) × (IsTrue line → IsTrue (writes f))
+FitsBot m f (given.Fault note) = Unit {0}

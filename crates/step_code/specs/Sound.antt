@@ -9,10 +9,9 @@ use Rattle.step_code.specs.declared.base.BotCache.{BotCache}
 use Rattle.step_code.specs.declared.base.Hand.{Hand}
 use Rattle.step_code.specs.declared.rules.Facts.{Facts}
 use Rattle.step_code.specs.Code.{code_of_base}
-use Rattle.step_code.specs.Content.{last_moment}
 use Rattle.step_code.specs.Lists.{IsIn}
 use Rattle.step_code.specs.Places.{standing}
-use Rattle.step_code.specs.Rules.{Meaning, collects, writes}
+use Rattle.step_code.specs.Rules.{Meaning, collects, last_moment, writes}
 use Rattle.step_code.specs.State.{is_hand, is_instance, queue_name}
 
 -- the longest code of a state
@@ -23,6 +22,10 @@ longest_base = 268_435_456
 abbrev pub last_number : ℕ
 last_number = 2 ^ 62 + 1
 
+-- no message is tried again more often
+abbrev pub most_tries : ℕ
+most_tries = 100
+
 -- the hand of one instance
 abbrev pub is_same_hand : Hand → Hand → Bool
 is_same_hand a b = is_hand a.bot a.instance b
@@ -30,7 +33,7 @@ is_same_hand a b = is_hand a.bot a.instance b
 pub record IsSoundHand (bots : List Facts) (queues : List (List ℕ)) (h : Hand) : Type 0 where
   pub live : is_instance bots h.bot h.instance ≡ true
   pub queue : IsIn (queue_name h.bot) queues
-  pub tries : h.tries ≤ 100
+  pub tries : h.tries ≤ most_tries
 
 -- no key twice, and moments that don't fall and aren't above the latest
 pub record IsSoundCache (latest : ℕ) (c : BotCache) : Type 0 where
@@ -48,11 +51,10 @@ numbers_of b =
     ++ flat_map (λ o. o.sealed_bytes ∷ o.sealed_lines ∷ []) b.outs
     ++ flat_map (λ f. f.round ∷ f.position ∷ []) b.feeds
 
--- a state that the core takes in
-pub record IsSound (m : Meaning) (b : Base) : Type 0 where
+-- a state that a store may hold, whatever the length of its code
+pub record IsSoundState (m : Meaning) (b : Base) : Type 0 where
   pub bots : List Facts
   pub loads : m.facts b.bundle ≡ Some bots
-  pub short : length (code_of_base b) ≤ longest_base
   pub queues : IsDistinct bytes_eq (map (λ q. q.name) b.queues)
   pub caches : IsDistinct bytes_eq (map (λ c. c.bot) b.caches)
   pub outs : IsDistinct bytes_eq (map (λ o. o.bot) b.outs)
@@ -71,3 +73,8 @@ pub record IsSound (m : Meaning) (b : Base) : Type 0 where
   pub collectors : AllByRecursion (λ f. IsIn f.bot (map (λ feed. feed.bot) b.feeds)) (filter collects bots)
   pub outputs : AllByRecursion (λ f. IsIn f.bot (map (λ o. o.bot) b.outs)) (filter writes bots)
   pub numbers : AllByRecursion (λ n. n ≤ last_number) (numbers_of b)
+
+-- a state that the core takes in: its code has a length that a store may hold
+pub record IsSound (m : Meaning) (b : Base) : Type 0 where
+  pub state : IsSoundState m b
+  pub short : length (code_of_base b) ≤ longest_base

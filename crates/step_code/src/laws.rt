@@ -8,13 +8,13 @@ use crate::{Base, Facts, Rules, Step};
 /// In every legal history of a new store nothing is lost and nothing is invented: each message stands in one place, each
 /// dump is as it was made, and each body is lawful.
 pub fn each_message_stands_in_one_place<R: Rules>()
-    ensures { (rules : R) (bots : List Facts) (bundle : List ℕ) (steps : List Step) → (R.meaning rules).facts bundle ≡ Some bots
-        → Legal (R.meaning rules) (first bots bundle) steps
-        → IsAccounted (R.meaning rules) (R.lawful rules) (first bots bundle) steps }
+    ensures { (bots : List Facts) (bundle : List ℕ) (steps : List Step) → R.meaning.facts bundle ≡ Some bots
+        → Legal R.meaning (first bots bundle) steps
+        → IsAccounted R.meaning (first bots bundle) steps }
 {}
 
 /// A step that may be taken may be replayed once it is stored: what a replay tests holds of it.
 pub fn what_may_be_taken_may_be_replayed<R: Rules>()
-    ensures { (rules : R) (bots : List Facts) (s : Base) (step : Step) → (R.meaning rules).facts s.bundle ≡ Some bots
-        → May (R.meaning rules) s step → MayReplay (R.meaning rules) s step }
+    ensures { (bots : List Facts) (s : Base) (step : Step) → R.meaning.facts s.bundle ≡ Some bots
+        → May R.meaning s step → MayReplay R.meaning s step }
 {}

@@ -1,5 +1,6 @@
 ghost use Rattle.std.specs.Prelude.{◌≡◌, ◌≤◌, ℕ, List, true, Some, None, IfOk, IsErrOf};
-ghost use Rattle.step_code.specs.Rules.{Meaning, Task, IsPlanOf, is_collector, is_worker, bot_named, AreSound, FitsBot};
+ghost use Rattle.step_code.specs.Lists.{AreBytes};
+ghost use Rattle.step_code.specs.Rules.{Meaning, Task, IsLawful, IsPlanOf, is_collector, is_worker, bot_named, last_moment, AreSound, FitsBot};
 
 use base_types::{
     Blob, BotName, FaultNote, ListOf, Moment, NoteList, OutOfMemory, QueueList, SendList, Text,
@@ -78,18 +79,16 @@ pub enum PlanFault {
 }
 
 /// The modules of a pipeline: what a bundle's bots are, and what they do with messages.
-pub trait Rules {
+pub trait Rules: Drop {
     ghost use Rattle.step_code.specs.declared.rules.Facts.{Facts};
 
     /// A bundle that is ready for use.
-    type Plan;
+    type Plan: Drop;
     /// A bot of a plan that is ready for work.
-    type Work;
+    type Work: Drop;
 
-    ghost meaning: { Self → Meaning };
-
-    /// The bodies that messages may have.
-    ghost lawful: { Self → List ℕ → Type 0 };
+    /// What the rules mean. It is the same for each value of the type.
+    ghost meaning: { Meaning };
 
     /// The bundle of a plan, and its bots.
     ghost bundle_of: { Self.Plan → List ℕ };
@@ -100,8 +99,8 @@ pub trait Rules {
 
     /// Makes a bundle ready for use.
     fn plan(&self, alloc: Global, bundle: &Blob) -> Result<Self::Plan, PlanFault>
-        ensures plan { IfOk result (λ plan. (bundle_of plan ≡ bundle.now) × IsPlanOf (meaning self.now) (bundle_of plan) (bots_of plan)) }
-        ensures refused { IsErrOf result PlanFault.Refused → (meaning self.now).facts bundle.now ≡ None };
+        ensures plan { IfOk result (λ plan. (bundle_of plan ≡ bundle.now) × IsPlanOf meaning (bundle_of plan) (bots_of plan)) }
+        ensures refused { IsErrOf result PlanFault.Refused → meaning.facts bundle.now ≡ None };
 
     /// The bots of the plan, in byte order of their names.
     fn facts<'p>(&self, plan: &'p Self::Plan) -> &'p FactsList
@@ -116,10 +115,10 @@ pub trait Rules {
         piece: &Blob,
         now: Moment,
     ) -> Result<Blob, OutOfMemory>
-        requires plan { IsPlanOf (meaning self.now) (bundle_of plan.now) (bots_of plan.now) }
+        requires plan { IsPlanOf meaning (bundle_of plan.now) (bots_of plan.now) }
         requires collector { is_collector (bots_of plan.now) bot.now ≡ true }
-        requires moment { now.0 ≤ 253_402_300_799 }
-        ensures { IfOk result (λ body. body ≡ (meaning self.now).report (record { bundle = bundle_of plan.now; bot = bot.now }) piece.now now.0) };
+        requires moment { now.0 ≤ last_moment }
+        ensures { IfOk result (λ body. body ≡ meaning.report (record { bundle = bundle_of plan.now; bot = bot.now }) piece.now now.0) };
 
     /// Makes a bot ready for work.
     fn work(
@@ -128,7 +127,7 @@ pub trait Rules {
         plan: &Self::Plan,
         bot: &BotName,
     ) -> Result<Self::Work, OutOfMemory>
-        requires plan { IsPlanOf (meaning self.now) (bundle_of plan.now) (bots_of plan.now) }
+        requires plan { IsPlanOf meaning (bundle_of plan.now) (bots_of plan.now) }
         requires worker { is_worker (bots_of plan.now) bot.now ≡ true }
         ensures { IfOk result (λ work. task_of work ≡ record { bundle = bundle_of plan.now; bot = bot.now }) };
 
@@ -140,19 +139,19 @@ pub trait Rules {
         body: &Blob,
         since: Moment,
     ) -> Result<Given, OutOfMemory>
-        ensures given { IfOk result (λ given. given ≡ (meaning self.now).give (task_of work.old) body.now since.0) }
+        ensures given { IfOk result (λ given. given ≡ meaning.give (task_of work.old) body.now since.0) }
         ensures task { task_of work.new ≡ task_of work.old };
 
     /// Each bundle has bots within the limits.
-    ghost bots_are_sound: { (rules : Self) (bundle : List ℕ) (bots : List Facts) → (meaning rules).facts bundle ≡ Some bots → AreSound bots };
+    ghost bots_are_sound: { (bundle : List ℕ) (bots : List Facts) → meaning.facts bundle ≡ Some bots → AreSound bots };
 
-    /// Reports are lawful.
-    ghost reports_are_lawful: { (rules : Self) (bots : List Facts) (task : Task) (piece : List ℕ) (now : ℕ)
-        → (meaning rules).facts task.bundle ≡ Some bots → is_collector bots task.bot ≡ true
-        → lawful rules ((meaning rules).report task piece now) };
+    /// Reports of bytes are lawful.
+    ghost reports_are_lawful: { (bots : List Facts) (task : Task) (piece : List ℕ) (now : ℕ)
+        → meaning.facts task.bundle ≡ Some bots → is_collector bots task.bot ≡ true → AreBytes piece → now ≤ last_moment
+        → IsLawful meaning (meaning.report task piece now) };
 
     /// What a bot gives fits it.
-    ghost given_fits: { (rules : Self) (bots : List Facts) (facts : Facts) (task : Task) (body : List ℕ) (since : ℕ)
-        → (meaning rules).facts task.bundle ≡ Some bots → bot_named task.bot bots ≡ Some facts
-        → FitsBot (lawful rules) facts ((meaning rules).give task body since) };
+    ghost given_fits: { (bots : List Facts) (facts : Facts) (task : Task) (body : List ℕ) (since : ℕ)
+        → meaning.facts task.bundle ≡ Some bots → bot_named task.bot bots ≡ Some facts
+        → FitsBot meaning facts (meaning.give task body since) };
 }

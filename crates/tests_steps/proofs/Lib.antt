@@ -1,2 +1,1 @@
 pub mod Tiny
-pub mod Few

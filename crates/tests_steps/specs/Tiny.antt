@@ -1,5 +1,5 @@
 -- What the rules of the tests mean: two bundles, their bots, and what these make of messages.
-use Rattle.std.specs.Prelude.{◌≤◌, ◌==◌, ℕ, Bool, true, false, List, [], ◌∷◌, length, Option, Some, None, option_and_then, if◌then◌else◌, codes}
+use Rattle.std.specs.Prelude.{◌==◌, ℕ, Bool, true, false, List, [], ◌∷◌, Option, Some, None, option_and_then, if◌then◌else◌, codes}
 use Rattle.std.specs.Str.{bytes_eq}
 use Rattle.base_types.specs.declared.message.FaultNote.{FaultNote}
 use Rattle.step_code.specs.declared.rules.CacheRule.{CacheRule}
@@ -77,9 +77,10 @@ given_as (Some f) body = given_by f.role body
 abbrev pub bot_of : Task → Option Facts
 bot_of task = option_and_then (bot_named task.bot) (bots_of_bundle task.bundle)
 
-abbrev pub meaning : Meaning
-meaning = record { facts = bots_of_bundle; report = λ task piece now. report piece; give = λ task body since. given_as (bot_of task) body }
-
 -- bodies have a byte
-abbrev pub IsBody : List ℕ → Type 0
-IsBody body = 1 ≤ length body
+abbrev pub is_body : List ℕ → Bool
+is_body [] = false
+is_body (b ∷ bs) = true
+
+abbrev pub meaning : Meaning
+meaning = record { facts = bots_of_bundle; report = λ task piece now. report piece; give = λ task body since. given_as (bot_of task) body; is_lawful = is_body }

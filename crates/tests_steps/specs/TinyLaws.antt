@@ -5,8 +5,8 @@ use Rattle.std.specs.List.{AllByRecursion}
 use Rattle.std.specs.List.Sorted.{IsStrictlySortedBy}
 use Rattle.base_types.specs.declared.message.FaultNote.{FaultNote}
 use Rattle.step_code.specs.declared.rules.Facts.{Facts}
-use Rattle.step_code.specs.Rules.{Task, AreSound, FitsBot, IsSoundBot, bot_named}
-use Rattle.tests_steps.specs.Tiny.{IsBody, bot_of, bots_of_bundle, collector, deduplicator, given_as, given_by, is_bad, note, parser, report, thin_bots, tiny_bots, writer}
+use Rattle.step_code.specs.Rules.{Task, AreSound, FitsBot, IsSoundBot, IsLawful, bot_named}
+use Rattle.tests_steps.specs.Tiny.{meaning, bot_of, bots_of_bundle, collector, deduplicator, given_as, given_by, is_bad, note, parser, report, thin_bots, tiny_bots, writer}
 
 -- what holds of the bots of both bundles holds of those of any
 of_each : (P : List Facts → Type 0) → P thin_bots → P tiny_bots → (a b : Bool) (bots : List Facts) → cond a (Some thin_bots) (cond b (Some tiny_bots) None) ≡ Some bots → P bots
@@ -42,12 +42,12 @@ tiny_sound = record {
 pub bots_are_sound : (bundle : List ℕ) (bots : List Facts) → bots_of_bundle bundle ≡ Some bots → AreSound bots
 bots_are_sound bundle bots loads = of_each AreSound thin_sound tiny_sound (bytes_eq bundle (codes "thin")) (bytes_eq bundle (codes "tiny")) bots loads
 
-pub reports_are_lawful : (piece : List ℕ) → IsBody (report piece)
-reports_are_lawful piece = omega arith
+pub reports_are_lawful : (piece : List ℕ) → IsLawful meaning (report piece)
+reports_are_lawful piece = refl
 
 -- what a bot gives of this body fits it
 abbrev Fine : List ℕ → Facts → Type 0
-Fine body f = FitsBot IsBody f (given_by f.role body)
+Fine body f = FitsBot meaning f (given_by f.role body)
 
 here : (P : Facts → Type 0) (f x : Facts) (rest : Option Facts) → P x → (rest ≡ Some f → P f) → (b : Bool) → cond b (Some x) rest ≡ Some f → P f
 here P f x rest holds others true is = subst P (ap (λ o. unwrap_or o x) is) holds
@@ -57,19 +57,19 @@ found_fine : (P : Facts → Type 0) (p : Facts → Bool) (f : Facts) (bots : Lis
 found_fine P p f [] all is = absurd (cc)
 found_fine P p f (x ∷ xs) all is = here P f x (find p xs) all.0 (found_fine P p f xs all.1) (p x) is
 
-bad_fine : (body : List ℕ) (b : Bool) → is_bad body ≡ b → AllByRecursion (λ (dump : List ℕ × FaultNote). IsBody dump.0) (cond b ((body, note) ∷ []) [])
+bad_fine : (body : List ℕ) (b : Bool) → is_bad body ≡ b → AllByRecursion (λ (dump : List ℕ × FaultNote). IsLawful meaning dump.0) (cond b ((body, note) ∷ []) [])
 bad_fine [] true bad = absurd (cc)
-bad_fine (x ∷ xs) true bad = (omega arith, tt)
+bad_fine (x ∷ xs) true bad = (refl, tt)
 bad_fine body false bad = tt
 
 collector_fine : (body : List ℕ) (defaults : List (List ℕ)) → Fine body (collector defaults)
 collector_fine body defaults = tt
 
 deduplicator_fine : (body : List ℕ) → Fine body deduplicator
-deduplicator_fine body = ((omega arith, tt), tt, λ is. is, λ is. is)
+deduplicator_fine body = ((refl, tt), tt, λ is. is, λ is. is)
 
 parser_fine : (body : List ℕ) → Fine body parser
-parser_fine body = ((omega arith, tt), bad_fine body (is_bad body) refl, λ is. is, λ is. is)
+parser_fine body = ((refl, tt), bad_fine body (is_bad body) refl, λ is. is, λ is. is)
 
 writer_fine : (body : List ℕ) → Fine body writer
 writer_fine body = (tt, tt, λ is. is, λ is. is)
@@ -81,8 +81,8 @@ tiny_fine : (body : List ℕ) → AllByRecursion (Fine body) tiny_bots
 tiny_fine body = (collector_fine body (codes "parse-queue" ∷ codes "write-queue" ∷ []), (deduplicator_fine body, (parser_fine body, (writer_fine body, tt))))
 
 pub given_fits : (bots : List Facts) (facts : Facts) (task : Task) (body : List ℕ) → bots_of_bundle task.bundle ≡ Some bots → bot_named task.bot bots ≡ Some facts
-    → FitsBot IsBody facts (given_as (bot_of task) body)
+    → FitsBot meaning facts (given_as (bot_of task) body)
 given_fits bots facts task body loads named =
     let all : AllByRecursion (Fine body) bots = of_each (AllByRecursion (Fine body)) (thin_fine body) (tiny_fine body) (bytes_eq task.bundle (codes "thin")) (bytes_eq task.bundle (codes "tiny")) bots loads in
     let bot : bot_of task ≡ Some facts = ap (option_and_then (bot_named task.bot)) loads ∙ named in
-    subst (λ o. FitsBot IsBody facts (given_as o body)) (sym bot) (found_fine (Fine body) (λ f. bytes_eq f.bot task.bot) facts bots all named)
+    subst (λ o. FitsBot meaning facts (given_as o body)) (sym bot) (found_fine (Fine body) (λ f. bytes_eq f.bot task.bot) facts bots all named)

@@ -4,8 +4,6 @@ ghost use Rattle.step_code.specs.Content.{IsFront, IsInTime, MayReplay, Shows};
 ghost use Rattle.step_code.specs.Fits.{Fits};
 ghost use Rattle.step_code.specs.Rules.{bot_named, is_worker, passes, writes};
 ghost use Rattle.step_code.specs.State.{bots_in_force, is_queue, queue_name, queued};
-ghost use Rattle.journal_book.specs.Core.{StaysSmall};
-ghost use Rattle.tests_steps.specs.Few.{MakesFew};
 
 use crate::rules::bot_named;
 use crate::text::text_of;
@@ -15,49 +13,9 @@ use std::alloc::Global;
 use std::test::Fail;
 use step_code::{Base, Given, Queue, Role, Rules, Step, StepKind, StepRefusal};
 
-const FEW: u64 = 1 << 60;
-
 const LAST_MOMENT: u64 = 253_402_300_799;
 
 const LONGEST_FEED: u64 = 1_073_741_824;
-
-fn makes_few<R: Rules>(core: &Core<R>, what: &StepKind) -> bool
-    ensures { result ≡ true → MakesFew (R.meaning core.now.rules) core.now.state what.now }
-{
-    match what {
-        StepKind::Collect {
-            bot,
-            from: _,
-            upto: _,
-            piece: _,
-        } => match bot_named(core.rules().facts(core.plan()).as_slice(), bot) {
-            Some(facts) => facts.defaults.len() as u64 <= FEW,
-            None => true,
-        },
-        StepKind::Done {
-            bot: _,
-            instance: _,
-            message: _,
-            bundle: _,
-            sends,
-            dumps,
-            key: _,
-            line: _,
-        } => sends.len() as u64 <= FEW && dumps.len() as u64 <= FEW,
-        _ => true,
-    }
-}
-
-#[tactic(auto, using(crate::proofs::Few::stays_small))]
-fn stays_small<R: Rules>(core: &Core<R>, base: &Base, step: &Step) -> bool
-    requires { base.now ≡ core.now.state }
-    ensures { result ≡ true → StaysSmall (R.meaning core.now.rules) core.now.state step.now }
-{
-    base.steps <= FEW
-        && base.next_message <= FEW
-        && base.next_dump <= FEW
-        && makes_few(core, &step.what)
-}
 
 fn is_in_time(base: &Base, step: &Step) -> bool
     ensures { result ≡ true → IsInTime base.now step.now }
@@ -104,7 +62,7 @@ fn is_front_or_none(queues: &[Queue], bot: &BotName, message: u64) -> bool
 
 // Whether the bot is an output of the plan.
 fn is_output<R: Rules>(core: &Core<R>, bot: &BotName) -> bool
-    ensures { result ≡ passes writes (bot_named bot.now (bots_in_force (R.meaning core.now.rules) core.now.state)) }
+    ensures { result ≡ passes writes (bot_named bot.now (bots_in_force R.meaning core.now.state)) }
 {
     match bot_named(core.rules().facts(core.plan()).as_slice(), bot) {
         Some(facts) => matches!(facts.role, Role::Output),
@@ -115,7 +73,7 @@ fn is_output<R: Rules>(core: &Core<R>, bot: &BotName) -> bool
 // Whether what shows of the step's content is right, as far as it is easily told, or the step doesn't fit.
 fn shows<R: Rules>(core: &Core<R>, base: &Base, step: &Step) -> bool
     requires { base.now ≡ core.now.state }
-    ensures { result ≡ true → Fits (R.meaning core.now.rules) core.now.state step.now → Shows (R.meaning core.now.rules) core.now.state step.now.moment.0 step.now.what }
+    ensures { result ≡ true → Fits R.meaning core.now.state step.now → Shows R.meaning core.now.state step.now.moment.0 step.now.what }
 {
     match &step.what {
         StepKind::Start => true,
@@ -150,7 +108,7 @@ fn shows<R: Rules>(core: &Core<R>, base: &Base, step: &Step) -> bool
 // Whether the core may be asked to take the step: its content is right, or it doesn't fit.
 fn may_be_asked<R: Rules>(core: &Core<R>, base: &Base, step: &Step) -> Result<bool, OutOfMemory>
     requires { base.now ≡ core.now.state }
-    ensures { IfOk result (λ may. may ≡ true → Fits (R.meaning core.now.rules) core.now.state step.now → MayReplay (R.meaning core.now.rules) core.now.state step.now) }
+    ensures { IfOk result (λ may. may ≡ true → Fits R.meaning core.now.state step.now → MayReplay R.meaning core.now.state step.now) }
 {
     if core.fits(step)? {
         return Ok(true);
@@ -161,7 +119,7 @@ fn may_be_asked<R: Rules>(core: &Core<R>, base: &Base, step: &Step) -> Result<bo
 /// What the core answers to the step.
 pub fn attempt<R: Rules>(core: &mut Core<R>, step: &Step) -> Result<Result<(), StepRefusal>, Fail> {
     let base = core.base()?;
-    if !stays_small(core, &base, step) || !may_be_asked(core, &base, step)? {
+    if core.spent(step).is_some() || !may_be_asked(core, &base, step)? {
         return Err(Fail::from("a step that no core may be asked to take"));
     }
     Ok(core.apply(step))
@@ -189,7 +147,7 @@ pub fn bot_names<R: Rules>(core: &Core<R>, alloc: Global) -> Result<Vec<u8>, Fai
 }
 
 fn is_worker<R: Rules>(core: &Core<R>, bot: &BotName) -> bool
-    ensures { result ≡ is_worker (bots_in_force (R.meaning core.now.rules) core.now.state) bot.now }
+    ensures { result ≡ is_worker (bots_in_force R.meaning core.now.state) bot.now }
 {
     match bot_named(core.rules().facts(core.plan()).as_slice(), bot) {
         Some(facts) => !matches!(facts.role, Role::Collector),
@@ -203,10 +161,7 @@ pub fn given<R: Rules>(
     core: &Core<R>,
     bot: &BotName,
     body: &Blob,
-) -> Result<Given, Fail>
-where
-    R::Work: Drop,
-{
+) -> Result<Given, Fail> {
     if !is_worker(core, bot) {
         return Err(Fail::from("no worker"));
     }

@@ -261,16 +261,14 @@ fn given_by(alloc: Global, role: Role, body: &Blob) -> Result<Given, OutOfMemory
 
 impl Rules for TinyRules {
     ghost use Rattle.step_code.specs.Rules.{Task};
-    ghost use Rattle.tests_steps.specs.Tiny.{meaning, IsBody};
+    ghost use Rattle.tests_steps.specs.Tiny.{meaning};
     ghost use Rattle.tests_steps.specs.TinyLaws.{bots_are_sound, reports_are_lawful, given_fits};
 
     type Plan = TinyPlan;
 
     type Work = TinyWork;
 
-    ghost meaning = { λ _. meaning };
-
-    ghost lawful = { λ _. IsBody };
+    ghost meaning = { meaning };
 
     ghost bundle_of = { λ plan. plan.bundle };
 
@@ -326,9 +324,9 @@ impl Rules for TinyRules {
         given_by(alloc, work.role, body)
     }
 
-    ghost bots_are_sound = { λ rules bundle bots. bots_are_sound bundle bots };
+    ghost bots_are_sound = { bots_are_sound };
 
-    ghost reports_are_lawful = { λ rules bots task piece now loads collects. reports_are_lawful piece };
+    ghost reports_are_lawful = { λ bots task piece now loads collects bytes limit. reports_are_lawful piece };
 
-    ghost given_fits = { λ rules bots facts task body since. given_fits bots facts task body };
+    ghost given_fits = { λ bots facts task body since. given_fits bots facts task body };
 }

@@ -39,5 +39,5 @@ returns-clause-ok c =
     let first : state_of c.send_and_mark.new.state ≡ sent_and_marked c.args.sends.now c.args.rule bot c.args.now c.args.key.now b =
     c.in_ok-send_and_mark.ensures.ok ∙ (λ i. sent_and_marked (c.in_ok-sends.ensures i) c.args.rule bot c.args.now (c.in_ok-key.ensures i) (same i)) in
     let second : state_of c.put_aside.new.state ≡ put_aside c.in_ok-dumps.dumps.items (state_of c.send_and_mark.new.state) = c.put_aside.ensures.put in
-    c.acknowledge.ensures ∙ ap (acknowledged bot c.args.instance c.args.line) (second ∙ (λ i. put_aside (c.in_ok-dumps.ensures i) (first i)))
+    c.acknowledge.ensures.done ∙ ap (acknowledged bot c.args.instance c.args.line) (second ∙ (λ i. put_aside (c.in_ok-dumps.ensures i) (first i)))
     ∙ whole bot c.args.instance c.args.now c.args.rule c.args.sends.now c.args.dumps.now c.args.key.now c.args.line b

@@ -1,9 +1,10 @@
 use Rattle.std.proofs.Common.{◌≡◌, ◌++◌}
-use Rattle.journal_book.specs.Outputs.{outs_of}
+use Rattle.journal_book.specs.Outputs.{HaveLengths, outs_of}
 use Rattle.journal_book.proofs.outputs.from_lists.Given as goal
 
 abbrev pub invariant-outs : goal.invariant-outs
 invariant-outs l =
     (goal.iterator-outs).can_next l.out-iterator
     × (goal.iterator-outs).is_finite l.out-iterator
+    × HaveLengths l.outs.items
     × (outs_of l.outs.items ++ l.out-iterator.rest.items ≡ l.fn.list)

@@ -6,14 +6,14 @@ use Rattle.step_code.proofs.Lawful.{no_lines, stay_lawful}
 use Rattle.step_code.proofs.laws.each_message_stands_in_one_place.Goals as goal
 
 pub returns : goal.returns
-returns g c rules bots bundle steps plan legal =
+returns g c bots bundle steps plan legal =
     let start = first bots bundle in
-    let m = g.R.Rules.meaning rules in
+    let m = g.R.Rules.meaning in
     record {
       one_place = λ number low high. in_one_place m start refl refl number steps legal low high;
       no_other = λ number low high. in_no_place m start refl refl number steps legal high;
       no_zero = no_zero m start refl refl steps legal;
       dumps = dumps_are_made m start steps refl;
-      bodies = stay_lawful (g.R.Rules.lawful rules) m bots (g.met.R.Rules.reports_are_lawful rules bots) (g.met.R.Rules.given_fits rules bots) start steps plan legal
-          (record { queues = tt; hands = tt; dumps = tt; outs = no_lines (g.R.Rules.lawful rules) (filter writes bots) });
+      bodies = stay_lawful m bots (g.met.R.Rules.reports_are_lawful bots) (g.met.R.Rules.given_fits bots) start steps plan legal
+          (record { queues = tt; hands = tt; dumps = tt; outs = no_lines m (filter writes bots) });
     }
