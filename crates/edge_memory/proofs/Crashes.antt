@@ -11,7 +11,7 @@ use Rattle.edge_memory.specs.declared.change.Change.TheVariants as did
 use Rattle.edge_memory.specs.declared.change.Entry.{Entry}
 use Rattle.edge_memory.specs.Torn.{cut_same, cut_take}
 use Rattle.edge_memory.specs.Entries.{content, left, left_by}
-use Rattle.edge_memory.specs.Crashed.{lengthened, filled, enlarged, torn, shortened, crashed_by, crashed, image, pending_by, is_pending}
+use Rattle.edge_memory.specs.Crashed.{lengthened, filled, enlarged, torn, shortened, crashed_by, crashed, image, pending_by, is_pending, durable_by, durable}
 use Rattle.edge_memory.specs.Moments.{content_left}
 
 length_lengthened : (end filler : ℕ) (old : List ℕ) → length (lengthened end filler old) ≡ max (length old) end
@@ -212,6 +212,63 @@ crashed_filled choice file (entry ∷ earlier) = by_test (entry.file == file) (c
   where
     by_test : (here : Bool) → IsFilled (is_pending file earlier) choice.filler (crashed choice file earlier) → IsFilled (λ k. if here then pending_by entry.change (is_pending file earlier k) k else is_pending file earlier k) choice.filler (if here then crashed_by choice entry.change (content file earlier) (crashed choice file earlier) else crashed choice file earlier)
     by_test true was = filled_step choice entry.change (content file earlier) (is_pending file earlier) (crashed choice file earlier) was
+    by_test false was = was
+
+-- the rest
+
+-- each byte is the filler, or stood there in what was durable
+abbrev IsRest : List ℕ → ℕ → List ℕ → Type 0
+IsRest whole filler bytes = (k : ℕ) → k < length bytes → (get_or bytes k 0 ≡ filler) ⊎ ((k < length whole) × (get_or bytes k 0 ≡ get_or whole k 0))
+
+-- so does each byte of which the same is known
+rest_as : (whole : List ℕ) (filler b c k : ℕ) → b ≡ c → (c ≡ filler) ⊎ ((k < length whole) × (c ≡ get_or whole k 0)) → (b ≡ filler) ⊎ ((k < length whole) × (b ≡ get_or whole k 0))
+rest_as whole filler b c k same (inl is) = inl (same ∙ is)
+rest_as whole filler b c k same (inr is) = inr (is.0, same ∙ is.1)
+
+rest_lengthened : (whole : List ℕ) (end filler : ℕ) (old : List ℕ) → IsRest whole filler old → IsRest whole filler (lengthened end filler old)
+rest_lengthened whole end filler old was k within =
+    ⊎_elim (λ inside. rest_as whole filler _ _ k (get_or-append old (replicate (end - length old) filler) 0 k inside) (was k inside)) (λ outside. inl (get_lengthened end filler old k outside (omega (arith, length_lengthened end filler old)))) (cases_lt k (length old))
+
+rest_enlarged : (longest : Bool) (whole : List ℕ) (end filler : ℕ) (old : List ℕ) → IsRest whole filler old → IsRest whole filler (if longest then lengthened end filler old else old)
+rest_enlarged true whole end filler old was = rest_lengthened whole end filler old was
+rest_enlarged false whole end filler old was = was
+
+rest_torn : (choice : Choice) (at n : ℕ) (whole old : List ℕ) → IsRest whole choice.filler old → IsRest whole choice.filler (torn choice at n old)
+rest_torn choice at n whole old was k within =
+    ⊎_elim (λ before. rest_as whole choice.filler _ _ k (get_filled_before at n choice.filler b k before inside) (base k inside)) (λ from. ⊎_elim (λ upto. inl (get_filled_in at n choice.filler b k from upto inside)) (λ behind. rest_as whole choice.filler _ _ k (get_filled_behind at n choice.filler b k behind inside) (base k inside)) (cases_lt k (at + n))) (cases_lt k at)
+  where
+    b : List ℕ
+    b = enlarged choice at n old
+
+    base : IsRest whole choice.filler (enlarged choice at n old)
+    base = rest_enlarged choice.longest whole (at + n) choice.filler old was
+
+    inside : k < length (enlarged choice at n old)
+    inside = omega (arith, length_filled at n choice.filler (enlarged choice at n old))
+
+rest_shortened : (choice : Choice) (len : ℕ) (whole old : List ℕ) → IsRest whole choice.filler old → IsRest whole choice.filler (shortened choice len old)
+rest_shortened choice len whole old was = by_test choice.longest
+  where
+    by_test : (longest : Bool) → IsRest whole choice.filler (if longest then old else take len old)
+    by_test true = was
+    by_test false = λ k within.
+        let inside : k < min len (length old) = omega (arith, length-take len old) in
+        rest_as whole choice.filler _ _ k (get_or-take len old k 0 (omega arith)) (was k (omega arith))
+
+rest_step : (choice : Choice) (change : Change) (seen whole old : List ℕ) → IsRest whole choice.filler old → IsRest (durable_by change seen whole) choice.filler (crashed_by choice change seen old)
+rest_step choice (did.Write at bytes) seen whole old was = rest_torn choice at (length bytes.items) whole old was
+rest_step choice (did.FailedWrite at len) seen whole old was = rest_torn choice at len whole old was
+rest_step choice (did.Cut len) seen whole old was = rest_shortened choice len whole old was
+rest_step choice (did.FailedCut len) seen whole old was = rest_shortened choice len whole old was
+rest_step choice did.Sync seen whole old was = λ k within. inr (within, refl)
+rest_step choice (did.Found bytes) seen whole old was = λ k within. inr (within, refl)
+
+pub crashed_rest : (choice : Choice) (file : ℕ) (entries : List Entry) → IsRest (durable file entries) choice.filler (crashed choice file entries)
+crashed_rest choice file [] = λ k within. absurd (omega (arith, within))
+crashed_rest choice file (entry ∷ earlier) = by_test (entry.file == file) (crashed_rest choice file earlier)
+  where
+    by_test : (here : Bool) → IsRest (durable file earlier) choice.filler (crashed choice file earlier) → IsRest (if here then durable_by entry.change (content file earlier) (durable file earlier) else durable file earlier) choice.filler (if here then crashed_by choice entry.change (content file earlier) (crashed choice file earlier) else crashed choice file earlier)
+    by_test true was = rest_step choice entry.change (content file earlier) (durable file earlier) (crashed choice file earlier) was
     by_test false was = was
 
 -- the same of what the crash leaves by choice

@@ -4,3 +4,4 @@ pub mod Numbers
 pub mod Outcomes
 pub mod Restored
 pub mod Steps
+pub mod Presents

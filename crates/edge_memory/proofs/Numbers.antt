@@ -1,26 +1,20 @@
 -- The numbers of the calls in a log.
-use Rattle.std.proofs.Common.{◌≡◌, ◌≤◌, length, take, ap, ◌∙◌, ◌+◌, ◌&&◌, ℕ, Bool, true, false, IsTrue, nat_le, List, [], ◌∷◌, refl, arith}
-use Rattle.std.specs.List.{list_all, take_while, prefix_len}
+use Rattle.std.proofs.Common.{◌≡◌, ◌≤◌, length, take, ap, ◌∙◌, ◌&&◌, ℕ, Bool, true, nat_le, List, [], ◌∷◌, refl, arith}
+use Rattle.std.specs.List.{take_while, prefix_len}
 use Rattle.std.proofs.lemmas.Bool.{leb-true, le-leb}
 use Rattle.std.proofs.lemmas.List.Folds.{length-prefix_len}
 use Rattle.edge_memory.specs.declared.change.Entry.{Entry}
+use Rattle.edge_memory.specs.Moments.{numbered_to, first_of_both, second_of_both}
 
-first_of_both : (a b : Bool) → (a && b) ≡ true → a ≡ true
-first_of_both true b e = refl
-first_of_both false b e = e
-
-second_of_both : (a b : Bool) → (a && b) ≡ true → b ≡ true
-second_of_both true b e = e
-second_of_both false b e = absurd (cc)
-
-both : (a b : Bool) → a ≡ true → b ≡ true → (a && b) ≡ true
+pub both : (a b : Bool) → a ≡ true → b ≡ true → (a && b) ≡ true
 both a b p q = rw (p, q)
 
-pub all_numbered_more : (entries : List Entry) (calls : ℕ) → IsTrue (list_all (λ e. nat_le e.number calls) entries) → IsTrue (list_all (λ e. nat_le e.number (calls + 1)) entries)
-all_numbered_more [] calls all = all
-all_numbered_more (e ∷ entries) calls all =
-    let below : e.number ≤ calls = leb-true _ _ (first_of_both _ _ all) in
-    both _ _ (le-leb _ _ (omega arith)) (all_numbered_more entries calls (second_of_both _ _ all))
+pub numbered_up : (a b : ℕ) (entries : List Entry) → a ≤ b → numbered_to a entries ≡ true → numbered_to b entries ≡ true
+numbered_up a b [] le all = refl
+numbered_up a b (e ∷ entries) le all =
+    let below : e.number ≤ a = leb-true _ _ (first_of_both _ _ all) in
+    let here : nat_le e.number b ≡ true = le-leb _ _ (omega arith) in
+    both _ _ here (numbered_up a b entries le (second_of_both _ _ all))
 
 -- as many as pass in front, taken from the front, are those
 pub take_counted : (p : Entry → Bool) (entries counted cut : List Entry) (n : ℕ) → counted ≡ entries → cut ≡ entries → n ≡ length (take_while p counted) → take n cut ≡ take_while p entries

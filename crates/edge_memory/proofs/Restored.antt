@@ -1,5 +1,6 @@
 -- The files of a disk that a crash left.
 use Rattle.std.proofs.Common.{◌≡◌, ◌==◌, ℕ, Bool, true, false, if◌then◌else◌, ◌||◌, List, [], ◌∷◌, ◌++◌, reverse, Result, Ok, Err, OnOk, Vec, Global, refl, sym, ap, ◌∙◌, subst, MatchBool}
+use Rattle.std.proofs.Math.Bool.{or-false, or_comm}
 use Rattle.std.proofs.lemmas.Bool.Decides.{Decides-eqb}
 use Rattle.std.proofs.lemmas.List.{reverse-append}
 use Rattle.std.proofs.lemmas.List.Folds.{list_any-append}
@@ -34,12 +35,6 @@ or_second false b e = e
 or_left : (a b : Bool) → (a || b) ≡ true → a ≡ false → b ≡ true
 or_left true b e f = absurd (cc)
 or_left false b e f = e
-
-or_both : (a b : Bool) → (a || b) ≡ (b || a)
-or_both true true = refl
-or_both true false = refl
-or_both false true = refl
-or_both false false = refl
 
 -- what a read gives after one entry more, by whether that is of the file
 content_by : (here : Bool) (e : Entry) (file : ℕ) (found : List Entry) → here ≡ (e.file == file) → content file (e ∷ found) ≡ (if here then changed e.change (content file found) else content file found)
@@ -88,10 +83,6 @@ image_not_there choice file entries none = by_test choice.keep
     by_test true = (not_there file entries none).0
     by_test false = crashed_not_there choice file entries none
 
-or_none : (a : Bool) → (a || false) ≡ a
-or_none true = refl
-or_none false = refl
-
 has_reverse : (file : ℕ) (entries : List Entry) → has_file file (reverse entries) ≡ has_file file entries
 has_reverse file [] = refl
 has_reverse file (e ∷ entries) =
@@ -99,8 +90,8 @@ has_reverse file (e ∷ entries) =
     ap (has_file file) (reverse-append (e ∷ []) entries)
     ∙ list_any-append (λ x. x.file == file) (reverse entries) (e ∷ [])
     ∙ ap (λ b. b || (here || false)) (has_reverse file entries)
-    ∙ ap (λ b. has_file file entries || b) (or_none here)
-    ∙ or_both (has_file file entries) here
+    ∙ ap (λ b. has_file file entries || b) (or-false here)
+    ∙ or_comm (has_file file entries) here
 
 -- each file of the disk is as the crash left it, and nothing of it is pending
 pub restored : (choice : Choice) (past found : List Entry) → AllFound choice (reverse past) (reverse found) → ((file : ℕ) → has_file file past ≡ true → has_file file found ≡ true) → (file : ℕ) → IsRestored choice (reverse past) (reverse found) file

@@ -1,28 +1,18 @@
 -- A call of a disk, as a step from one moment to the next.
-use Rattle.std.proofs.Common.{◌≡◌, ◌≤◌, ◌<◌, ◌+◌, ◌⊎◌, ◌&&◌, ⊎_elim, inl, inr, ℕ, Bool, true, false, nat_le, Option, Some, Result, Ok, Err, OnOk, OnErr, List, [], ◌∷◌, ◌++◌, reverse, refl, sym, ap, ◌∙◌, subst, cond, arith}
+use Rattle.std.proofs.Common.{◌≡◌, ◌≤◌, ◌<◌, ◌+◌, ◌⊎◌, ⊎_elim, inl, inr, ℕ, Bool, true, false, nat_le, Option, Some, Result, Ok, Err, OnOk, OnErr, List, [], ◌∷◌, ◌++◌, reverse, refl, sym, ap, ◌∙◌, subst, cond, arith}
 use Rattle.std.specs.List.{take_while}
 use Rattle.std.proofs.lemmas.Bool.{leb-true, le-leb, cases_lt}
 use Rattle.std.proofs.lemmas.List.Sums.{take_while-cons}
 use Rattle.std.proofs.lemmas.List.Folds.{list_all-append}
 use Rattle.edge_traits.specs.Disk.{Elapses}
-use Rattle.edge_traits.specs.declared.source.Failed.{Failed}
 use Rattle.edge_memory.specs.declared.change.Change.{Change}
 use Rattle.edge_memory.specs.declared.change.Entry.{Entry}
 use Rattle.edge_memory.specs.declared.disk.MemDisk.{MemDisk}
-use Rattle.edge_memory.specs.Disk.{disk_view, may_leave, left_since}
-use Rattle.edge_memory.specs.Entries.{left, made}
+use Rattle.edge_memory.specs.Disk.{disk_view, may_leave, left_since, KeepsPast}
+use Rattle.edge_memory.specs.Crashed.{durable, is_pending}
+use Rattle.edge_memory.specs.Entries.{content, left, made}
 use Rattle.edge_memory.specs.Moments.{numbered_to, made_all, IsStep}
-
-first_of_both : (a b : Bool) → (a && b) ≡ true → a ≡ true
-first_of_both true b e = refl
-first_of_both false b e = e
-
-second_of_both : (a b : Bool) → (a && b) ≡ true → b ≡ true
-second_of_both true b e = e
-second_of_both false b e = absurd (cc)
-
-both : (a b : Bool) → a ≡ true → b ≡ true → (a && b) ≡ true
-both a b p q = rw (p, q)
+use Rattle.edge_memory.proofs.Numbers.{both, numbered_up}
 
 -- a crash in the time of a step leaves what one before it might have left, or what one may leave now
 pub elapses : (old new : MemDisk) → IsStep old.log.entries.items old.log.calls new.log.entries.items new.log.calls → Elapses disk_view may_leave left_since old new
@@ -32,12 +22,14 @@ elapses old new step = record {
   keeps = λ t image le past. (past.0, past.1, omega (arith, step.later, past.2), λ file. subst (λ (es : List Entry). left file es (image file)) (sym (step.same past.0 past.2)) (past.3 file));
 }
 
-pub numbered_up : (a b : ℕ) (entries : List Entry) → a ≤ b → numbered_to a entries ≡ true → numbered_to b entries ≡ true
-numbered_up a b [] le all = refl
-numbered_up a b (e ∷ entries) le all =
-    let below : e.number ≤ a = leb-true _ _ (first_of_both _ _ all) in
-    let here : nat_le e.number b ≡ true = le-leb _ _ (omega arith) in
-    both _ _ here (numbered_up a b entries le (second_of_both _ _ all))
+-- what earlier calls left stays as it was
+pub keeps_past : (old new : MemDisk) → IsStep old.log.entries.items old.log.calls new.log.entries.items new.log.calls → KeepsPast old new
+keeps_past old new step = record {
+  files = λ call le file. ap (content file) (step.same call le);
+  durable = λ call le file. ap (durable file) (step.same call le);
+  left = λ call le file c. (λ was. subst (λ (es : List Entry). left file es c) (step.same call le) was, λ was. subst (λ (es : List Entry). left file es c) (sym (step.same call le)) was);
+  pending = λ call le file k. ap (λ es. is_pending file es k) (step.same call le);
+}
 
 not_le : (a b : ℕ) → b < a → nat_le a b ≡ false
 not_le a b lt = by_test (nat_le a b) refl
@@ -53,9 +45,6 @@ made_before k [] e lt =
     take_while-cons (λ x. nat_le x.number k) e [] ∙ ap (λ b. cond b (e ∷ take_while (λ x. nat_le x.number k) []) []) later
 made_before k (x ∷ old) e lt =
     take_while-cons (λ y. nat_le y.number k) x (old ++ e ∷ []) ∙ ap (λ es. cond (nat_le x.number k) (x ∷ es) []) (made_before k old e lt) ∙ sym (take_while-cons (λ y. nat_le y.number k) x old)
-
-pub step_still : (old new : List Entry) (before now : ℕ) → new ≡ old → now ≡ before → IsStep old before new now
-step_still old new before now same still = record { later = omega arith; same = λ k le. ap (made k) same; last = λ k lt le. absurd (omega arith) }
 
 -- a call that changed nothing
 pub step_idle : (old new : List Entry) (before now : ℕ) → numbered_to before old ≡ true → new ≡ old → now ≡ before + 1 → IsStep old before new now
@@ -77,7 +66,7 @@ step_noted old new before now e all number noted counted = record {
 }
 
 -- the call was counted, and it noted what it changed, or failed at that
-pub step_of_note : (r : Result (Unit {0}) Failed) (old mid new : List Entry) (before counted now file : ℕ) (change : Option Change) → numbered_to before old ≡ true → mid ≡ old → counted ≡ before + 1 → now ≡ counted → OnOk r ((done : Change) × (change ≡ Some done) × (new ≡ mid ++ record { number = counted; file = file; change = done } ∷ [])) → OnErr r (new ≡ mid) → IsStep old before new now
+pub step_of_note : {E : Type 0} (r : Result (Unit {0}) E) (old mid new : List Entry) (before counted now file : ℕ) (change : Option Change) → numbered_to before old ≡ true → mid ≡ old → counted ≡ before + 1 → now ≡ counted → OnOk r ((done : Change) × (change ≡ Some done) × (new ≡ mid ++ record { number = counted; file = file; change = done } ∷ [])) → OnErr r (new ≡ mid) → IsStep old before new now
 step_of_note (Ok u) old mid new before counted now file change all same more still ok err =
     step_noted old new before now (record { number = counted; file = file; change = ok.0 }) all (sym still) (ok.2 ∙ ap (λ es. es ++ record { number = counted; file = file; change = ok.0 } ∷ []) same) (still ∙ more)
 step_of_note (Err e) old mid new before counted now file change all same more still ok err = step_idle old new before now all (err ∙ same) (still ∙ more)

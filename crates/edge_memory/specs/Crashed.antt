@@ -60,3 +60,16 @@ pending_by (did.Found bytes) before k = false
 abbrev pub is_pending : ℕ → List Entry → ℕ → Bool
 is_pending file [] k = false
 is_pending file (entry ∷ earlier) k = if entry.file == file then pending_by entry.change (is_pending file earlier k) k else is_pending file earlier k
+
+-- what a read gave when the file was made durable last
+abbrev pub durable_by : Change → List ℕ → List ℕ → List ℕ
+durable_by (did.Write at bytes) seen before = before
+durable_by (did.FailedWrite at len) seen before = before
+durable_by (did.Cut len) seen before = before
+durable_by (did.FailedCut len) seen before = before
+durable_by did.Sync seen before = seen
+durable_by (did.Found bytes) seen before = bytes.items
+
+abbrev pub durable : ℕ → List Entry → List ℕ
+durable file [] = []
+durable file (entry ∷ earlier) = if entry.file == file then durable_by entry.change (content file earlier) (durable file earlier) else durable file earlier

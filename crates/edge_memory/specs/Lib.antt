@@ -1,14 +1,17 @@
+-- what public contracts cite
 pub mod CallCount
 pub mod Calls
-pub mod Course
 pub mod Crashed
 pub mod Disk
-pub mod Moments
 pub mod Entries
 pub mod FailPlan
-pub mod Found
+pub mod Moments
 pub mod Plan
-pub mod Torn
 pub mod Shelf
 pub mod Sink
 pub mod Source
+-- what only proofs and private contracts use
+pub mod Course
+pub mod Files
+pub mod Found
+pub mod Torn

@@ -36,11 +36,11 @@ pub content_left : (file : ℕ) (entries : List Entry) → left file entries (co
 content_left file [] = refl
 content_left file (e ∷ earlier) = step_left (e.file == file) e.change (content file earlier) (left file earlier) (content_left file earlier)
 
-second_of_both : (a b : Bool) → (a && b) ≡ true → b ≡ true
+pub second_of_both : (a b : Bool) → (a && b) ≡ true → b ≡ true
 second_of_both true b e = e
 second_of_both false b e = absurd (cc)
 
-first_of_both : (a b : Bool) → (a && b) ≡ true → a ≡ true
+pub first_of_both : (a b : Bool) → (a && b) ≡ true → a ≡ true
 first_of_both true b e = refl
 first_of_both false b e = e
 

@@ -55,6 +55,7 @@ fn shorten(bytes: &mut Vec<u8>, len: u64, choice: &Choice)
 }
 
 fn crash_by(
+    alloc: Global,
     bytes: &mut Vec<u8>,
     change: &Change,
     seen: &[u8],
@@ -69,12 +70,13 @@ fn crash_by(
             shorten(bytes, *len, choice);
             Ok(())
         }
-        Change::Sync => replace(bytes, seen),
-        Change::Found { bytes: found } => replace(bytes, found),
+        Change::Sync => replace(alloc, bytes, seen),
+        Change::Found { bytes: found } => replace(alloc, bytes, found),
     }
 }
 
 fn crash_if_of(
+    alloc: Global,
     bytes: &mut Vec<u8>,
     entry: &Entry,
     file: u64,
@@ -84,7 +86,7 @@ fn crash_if_of(
     ensures { OnOk result (bytes.new.items ≡ crashed_after choice.now file entry.now seen.now bytes.old.items) }
 {
     if entry.file == file {
-        crash_by(bytes, &entry.change, seen, choice)
+        crash_by(alloc, bytes, &entry.change, seen, choice)
     } else {
         Ok(())
     }
@@ -101,8 +103,8 @@ fn crashed(
     let mut seen = Vec::new(alloc);
     let mut bytes = Vec::new(alloc);
     'entries: for entry in entries {
-        crash_if_of(&mut bytes, entry, file, &seen, choice)?;
-        change_if_of(&mut seen, entry, file)?;
+        crash_if_of(alloc, &mut bytes, entry, file, &seen, choice)?;
+        change_if_of(alloc, &mut seen, entry, file)?;
     }
     Ok(bytes)
 }

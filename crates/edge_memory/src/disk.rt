@@ -1,5 +1,5 @@
 ghost use Rattle.std.specs.Prelude.{◌≡◌, ◌≢◌, ◌<◌, ◌≤◌, ◌↔◌, ◌+◌, ◌-◌, ◌^◌, ◌⊎◌, ◌||◌, ◌&&◌, ◌∷◌, ◌++◌, [], List, ℕ, Bool, min, length, take, drop, not, true, false, is_err, reverse, Some, None, Option, IfOk, OnOk, OnErr, IsErr, IsTrue, ⊤};
-ghost use Rattle.edge_traits.specs.Count.{Rose, last_count};
+ghost use Rattle.edge_traits.specs.Count.{Rose, count_sum, last_count};
 ghost use Rattle.edge_traits.specs.Disk.{Image, longest_file, overwritten, ChangesOnly, Torn, Cut, LeavesAfter, Adds, Only, IsImage, Elapses};
 ghost use Rattle.edge_memory.specs.Entries.{content};
 ghost use Rattle.edge_memory.specs.Moments.{IsStep};
@@ -12,7 +12,6 @@ mod image;
 use crate::change::Change;
 use crate::log::Log;
 use crate::plan::FailPlan;
-use crate::replay::content_of;
 use crate::source::copy_from;
 use base_types::{NumberList, OutOfMemory};
 use edge_traits::{Disk, Failed};
@@ -30,6 +29,7 @@ pub struct MemDisk {
     plan: FailPlan,
     faults: u64,
     starved: bool,
+    unnoted: bool,
 }
 
 // How a call goes on that has been counted.
@@ -42,7 +42,7 @@ enum Course {
 }
 
 impl MemDisk {
-    ghost use Rattle.edge_memory.specs.Disk.{files_of, plan_of, is_starved, fails_next, Counted};
+    ghost use Rattle.edge_memory.specs.Disk.{files_of, plan_of, is_starved, is_unnoted, fails_next, Counted, KeepsPast};
 
     /// A disk on which every file is empty.
     pub fn new(alloc: Global) -> Self
@@ -52,6 +52,7 @@ impl MemDisk {
         ensures nothing_pending { (file : ℕ) → Only [] (⟦<MemDisk as Disk>⟧.may_leave result file) }
         ensures plan { plan_of result ≡ record { fail = []; stop = None } }
         ensures starved { is_starved result ≡ false }
+        ensures unnoted { is_unnoted result ≡ false }
     {
         MemDisk::with_log(alloc, Log::new(alloc))
     }
@@ -61,6 +62,7 @@ impl MemDisk {
         ensures faults { result.faults ≡ 0 }
         ensures plan { plan_of result ≡ record { fail = []; stop = None } }
         ensures starved { is_starved result ≡ false }
+        ensures unnoted { is_unnoted result ≡ false }
     {
         MemDisk {
             alloc,
@@ -68,6 +70,7 @@ impl MemDisk {
             plan: FailPlan::none(alloc),
             faults: 0,
             starved: false,
+            unnoted: false,
         }
     }
 
@@ -80,7 +83,9 @@ impl MemDisk {
             ↔ ⟦<MemDisk as Disk>⟧.may_leave self.old file c }
         ensures left_since { (t : ℕ) (image : Image) → ⟦<MemDisk as Disk>⟧.left_since self.new t image
             ↔ ⟦<MemDisk as Disk>⟧.left_since self.old t image }
+        ensures past { KeepsPast self.old self.new }
         ensures starved { is_starved self.new ≡ is_starved self.old }
+        ensures unnoted { is_unnoted self.new ≡ is_unnoted self.old }
     {
         self.plan = FailPlan::new(fail, stop);
     }
@@ -99,11 +104,19 @@ impl MemDisk {
         self.starved
     }
 
+    /// Whether a write or a cut has failed of which no part is noted, for want of memory or of a number for the call: then
+    /// no crash shows a part of it.
+    pub fn unnoted(&self) -> bool
+        ensures { result ≡ is_unnoted self.now }
+    {
+        self.unnoted
+    }
+
     /// What a read of the file gives, looked at without a call.
     pub fn file(&self, alloc: Global, file: u64) -> Result<Vec<u8>, OutOfMemory>
         ensures { IfOk result (λ bytes. bytes.items ≡ files_of self.now file) }
     {
-        content_of(alloc, &self.log.entries, file)
+        Ok(self.log.bytes(file).to_vec(alloc)?)
     }
 
     // Counts a call.
@@ -125,6 +138,7 @@ impl MemDisk {
 
     fn fail(&mut self) -> Failed
         ensures same { self.new ≡ record self.old { faults = self.new.faults } }
+        ensures faults { self.new.faults ≡ count_sum self.old.faults 1 }
         ensures failed { Rose self.old.faults self.new.faults }
         ensures count { self.old.faults ≤ self.new.faults }
     {
@@ -134,6 +148,7 @@ impl MemDisk {
 
     fn starve(&mut self) -> Failed
         ensures same { self.new ≡ record self.old { faults = self.new.faults; starved = true } }
+        ensures faults { self.new.faults ≡ count_sum self.old.faults 1 }
         ensures failed { Rose self.old.faults self.new.faults }
         ensures count { self.old.faults ≤ self.new.faults }
     {
@@ -141,64 +156,58 @@ impl MemDisk {
         self.fail()
     }
 
-    // Makes a call that reads a file, and gives its content.
-    fn read(&mut self, file: u64) -> Result<Vec<u8>, Failed>
-        ensures bytes { IfOk result (λ bytes. bytes.items ≡ content file (reverse self.old.log.entries.items)) }
+    // Makes a call that changes nothing.
+    fn look(&mut self) -> Result<(), Failed>
+        ensures as_told { is_err result ≡ fails_next self.old }
         ensures entries { self.new.log.entries.items ≡ self.old.log.entries.items }
+        ensures unnoted { self.new.unnoted ≡ self.old.unnoted }
         ensures time { IsStep self.old.log.entries.items self.old.log.calls self.new.log.entries.items self.new.log.calls }
         ensures counted { Counted self.old self.new (is_err result) }
         ensures failed { IsErr result → Rose self.old.faults self.new.faults }
         ensures count { self.old.faults ≤ self.new.faults }
     {
         match self.begin() {
-            Course::Goes => match content_of(self.alloc, &self.log.entries, file) {
-                Ok(bytes) => Ok(bytes),
-                Err(_) => Err(self.starve()),
-            },
+            Course::Goes => Ok(()),
             Course::Fails => Err(self.fail()),
             Course::Over => Err(self.fail()),
         }
     }
 
-    // Notes what the call changed that was counted last.
-    fn note(&mut self, file: u64, change: Option<Change>) -> Result<(), Failed>
+    // Notes what the call changed that was counted last, if there is memory for it.
+    fn note(&mut self, file: u64, change: Option<Change>) -> Result<(), OutOfMemory>
         ensures ok { OnOk result ((done : Change) × (change ≡ Some done) × (self.new.log.entries.items
             ≡ self.old.log.entries.items ++ record { number = self.old.log.calls; file = file; change = done } ∷ [])) }
         ensures err { OnErr result (self.new.log.entries.items ≡ self.old.log.entries.items) }
         ensures calls { self.new.log.calls ≡ self.old.log.calls }
-        ensures plan { self.new.plan ≡ self.old.plan }
-        ensures starved { self.new.starved ≡ (self.old.starved || is_err result) }
-        ensures failed { IsErr result → Rose self.old.faults self.new.faults }
-        ensures count { self.old.faults ≤ self.new.faults }
+        ensures same { self.new ≡ record self.old { log = self.new.log } }
     {
-        let Some(change) = change else {
-            return Err(self.starve());
-        };
-        if self.log.push(file, change).is_err() {
-            return Err(self.starve());
+        match change {
+            Some(change) => self.log.push(file, change),
+            None => Err(OutOfMemory),
         }
-        Ok(())
     }
 
-    // Fails a call that was counted, of which this part may be done.
-    fn fail_in_part(&mut self, file: u64, part: Option<Change>) -> Failed
+    // Notes that the call that was counted last failed, and may have done this part.
+    fn note_part(&mut self, file: u64, part: Option<Change>)
         ensures entries { (self.new.log.entries.items ≡ self.old.log.entries.items)
             ⊎ ((done : Change) × (part ≡ Some done) × (self.new.log.entries.items
             ≡ self.old.log.entries.items ++ record { number = self.old.log.calls; file = file; change = done } ∷ [])) }
+        ensures noted { (done : Change) → part ≡ Some done → self.new.unnoted ≡ false → self.new.log.entries.items
+            ≡ self.old.log.entries.items ++ record { number = self.old.log.calls; file = file; change = done } ∷ [] }
         ensures calls { self.new.log.calls ≡ self.old.log.calls }
-        ensures plan { self.new.plan ≡ self.old.plan }
-        ensures starved { self.new.starved ≡ self.old.starved }
-        ensures failed { Rose self.old.faults self.new.faults }
-        ensures count { self.old.faults ≤ self.new.faults }
+        ensures nothing { part ≡ None → self.new.unnoted ≡ self.old.unnoted }
+        ensures unnoted { self.old.unnoted ≡ true → self.new.unnoted ≡ true }
+        ensures same { self.new ≡ record self.old { log = self.new.log; unnoted = self.new.unnoted } }
     {
         if let Some(part) = part {
-            let _ = self.log.push(file, part);
+            if self.log.push(file, part).is_err() {
+                self.unnoted = true;
+            }
         }
-        self.fail()
     }
 
-    // Makes a call that changes a file: what it changes, if there is memory for that, or a part of it where the call is
-    // to fail.
+    // Makes a call that changes a file: what it changes, if there is memory for that, and else, or where the call is to
+    // fail, the part of it that it may have done.
     fn change(
         &mut self,
         file: u64,
@@ -210,21 +219,36 @@ impl MemDisk {
         ensures err { OnErr result ((self.new.log.entries.items ≡ self.old.log.entries.items)
             ⊎ ((done : Change) × (part ≡ Some done) × (self.new.log.entries.items
             ≡ self.old.log.entries.items ++ record { number = self.new.log.calls; file = file; change = done } ∷ []))) }
+        ensures noted { OnErr result ((done : Change) → part ≡ Some done → self.new.unnoted ≡ false → self.new.log.entries.items
+            ≡ self.old.log.entries.items ++ record { number = self.new.log.calls; file = file; change = done } ∷ []) }
+        ensures nothing { part ≡ None → self.new.unnoted ≡ self.old.unnoted }
         ensures time { IsStep self.old.log.entries.items self.old.log.calls self.new.log.entries.items self.new.log.calls }
         ensures counted { Counted self.old self.new (is_err result) }
         ensures failed { IsErr result → Rose self.old.faults self.new.faults }
         ensures count { self.old.faults ≤ self.new.faults }
     {
         match self.begin() {
-            Course::Goes => self.note(file, change),
-            Course::Fails => Err(self.fail_in_part(file, part)),
-            Course::Over => Err(self.fail()),
+            Course::Goes => match self.note(file, change) {
+                Ok(()) => Ok(()),
+                Err(_) => {
+                    self.note_part(file, part);
+                    Err(self.starve())
+                }
+            },
+            Course::Fails => {
+                self.note_part(file, part);
+                Err(self.fail())
+            }
+            Course::Over => {
+                self.unnoted |= part.is_some();
+                Err(self.fail())
+            }
         }
     }
 }
 
 impl Disk for MemDisk {
-    ghost use Rattle.edge_memory.specs.Disk.{disk_view, may_leave, left_since, is_pending_after, plan_of, is_starved, fails_next, Counted, honest};
+    ghost use Rattle.edge_memory.specs.Disk.{disk_view, may_leave, left_since, is_pending_after, is_unnoted, fails_next, Counted, KeepsPast, honest};
     ghost use Rattle.edge_memory.specs.Moments.{since_now, now_only, since_earlier};
 
     ghost disk = { disk_view };
@@ -241,10 +265,15 @@ impl Disk for MemDisk {
         ensures failed { IsErr result → Rose (disk_view self.old).faults (disk_view self.new).faults }
         ensures count { (disk_view self.old).faults ≤ (disk_view self.new).faults }
         ensures counted { Counted self.old self.new (is_err result) }
+        ensures past { KeepsPast self.old self.new }
         ensures keeps { Adds may_leave self.new self.old (λ _. ⊤) }
+
+        // A look takes no memory: it fails where it is to, and nowhere else.
+        ensures as_told { is_err result ≡ fails_next self.old }
+        ensures unnoted { is_unnoted self.new ≡ is_unnoted self.old }
     {
-        let bytes = self.read(file)?;
-        Ok(bytes.len() as u64)
+        self.look()?;
+        Ok(self.log.bytes(file).len() as u64)
     }
 
     fn read_at(&mut self, file: u64, at: u64, buf: &mut [u8]) -> Result<usize, Failed>
@@ -257,10 +286,15 @@ impl Disk for MemDisk {
         ensures failed { IsErr result → Rose (disk_view self.old).faults (disk_view self.new).faults }
         ensures count { (disk_view self.old).faults ≤ (disk_view self.new).faults }
         ensures counted { Counted self.old self.new (is_err result) }
+        ensures past { KeepsPast self.old self.new }
         ensures keeps { Adds may_leave self.new self.old (λ _. ⊤) }
+
+        // A look takes no memory: it fails where it is to, and nowhere else.
+        ensures as_told { is_err result ≡ fails_next self.old }
+        ensures unnoted { is_unnoted self.new ≡ is_unnoted self.old }
     {
-        let bytes = self.read(file)?;
-        Ok(copy_from(&bytes, at, buf))
+        self.look()?;
+        Ok(copy_from(self.log.bytes(file), at, buf))
     }
 
     fn write_at(&mut self, file: u64, at: u64, bytes: &[u8]) -> Result<(), Failed>
@@ -277,6 +311,7 @@ impl Disk for MemDisk {
         ensures count { (disk_view self.old).faults ≤ (disk_view self.new).faults }
         ensures refused { OnErr result ((disk_view self.new).told ≡ (disk_view self.old).told) }
         ensures counted { Counted self.old self.new (is_err result) }
+        ensures past { KeepsPast self.old self.new }
         ensures keeps_elsewhere { Adds may_leave self.new self.old (λ other. other ≢ file) }
 
         // Until a sync a crash may leave whatever a torn write leaves.
@@ -285,6 +320,10 @@ impl Disk for MemDisk {
         // Of a failed one it may leave any part too, unless there was no memory to note that: then none was done.
         ensures in_part { OnErr result (((c : List ℕ) → may_leave self.new file c ↔ may_leave self.old file c)
             ⊎ ((d c : List ℕ) → may_leave self.old file d → Torn at (length bytes.now) d c → may_leave self.new file c)) }
+        ensures noted { OnErr result (is_unnoted self.new ≡ false
+            → (d c : List ℕ) → may_leave self.old file d → Torn at (length bytes.now) d c → may_leave self.new file c) }
+        ensures part_pending { OnErr result (is_unnoted self.new ≡ false → (k : ℕ) → at ≤ k → k < at + length bytes.now
+            → IsTrue (is_pending_after self.new (disk_view self.new).moment file k)) }
         ensures pending { OnOk result ((k : ℕ) → at ≤ k → k < at + length bytes.now
             → IsTrue (is_pending_after self.new (disk_view self.new).moment file k)) }
     {
@@ -312,6 +351,7 @@ impl Disk for MemDisk {
         ensures count { (disk_view self.old).faults ≤ (disk_view self.new).faults }
         ensures refused { OnErr result ((disk_view self.new).told ≡ (disk_view self.old).told) }
         ensures counted { Counted self.old self.new (is_err result) }
+        ensures past { KeepsPast self.old self.new }
         ensures keeps_elsewhere { Adds may_leave self.new self.old (λ other. other ≢ file) }
 
         // Until a sync a crash may undo it, or a part of it.
@@ -320,6 +360,8 @@ impl Disk for MemDisk {
         // Of a failed one it may leave any part too, unless there was no memory to note that: then none was done.
         ensures in_part { OnErr result (((c : List ℕ) → may_leave self.new file c ↔ may_leave self.old file c)
             ⊎ ((d c : List ℕ) → may_leave self.old file d → Cut len d c → may_leave self.new file c)) }
+        ensures noted { OnErr result (is_unnoted self.new ≡ false
+            → (d c : List ℕ) → may_leave self.old file d → Cut len d c → may_leave self.new file c) }
     {
         self.change(
             file,
@@ -337,8 +379,10 @@ impl Disk for MemDisk {
         ensures failed { IsErr result → Rose (disk_view self.old).faults (disk_view self.new).faults }
         ensures count { (disk_view self.old).faults ≤ (disk_view self.new).faults }
         ensures counted { Counted self.old self.new (is_err result) }
+        ensures past { KeepsPast self.old self.new }
         ensures keeps_elsewhere { Adds may_leave self.new self.old (λ other. other ≢ file) }
         ensures keeps { OnErr result (Adds may_leave self.new self.old (λ _. ⊤)) }
+        ensures unnoted { is_unnoted self.new ≡ is_unnoted self.old }
     {
         self.change(file, Some(Change::Sync), None)
     }

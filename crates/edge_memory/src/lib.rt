@@ -8,6 +8,7 @@ mod choice;
 mod clock;
 mod crash;
 mod disk;
+mod files;
 mod gate;
 mod log;
 mod plan;

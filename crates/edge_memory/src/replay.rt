@@ -1,4 +1,4 @@
-ghost use Rattle.std.specs.Prelude.{◌≡◌, IfOk, OnOk, reverse};
+ghost use Rattle.std.specs.Prelude.{◌≡◌, IfOk, OnOk, OnErr, reverse};
 ghost use Rattle.edge_traits.specs.Disk.{overwritten};
 ghost use Rattle.edge_memory.specs.Entries.{changed, content_after, content};
 
@@ -8,7 +8,8 @@ use std::alloc::Global;
 
 // Puts the bytes at the offset `at`, or at the end where that is before it.
 fn overwrite(content: &mut Vec<u8>, at: u64, bytes: &[u8]) -> Result<(), OutOfMemory>
-    ensures { OnOk result (content.new.items ≡ overwritten content.old.items at bytes.now) }
+    ensures ok { OnOk result (content.new.items ≡ overwritten content.old.items at bytes.now) }
+    ensures err { OnErr result (content.new.items ≡ content.old.items) }
 {
     let from = (at as usize).min(content.len());
     let over = bytes.len().min(content.len() - from);
@@ -17,16 +18,18 @@ fn overwrite(content: &mut Vec<u8>, at: u64, bytes: &[u8]) -> Result<(), OutOfMe
     Ok(())
 }
 
-pub fn replace(content: &mut Vec<u8>, bytes: &[u8]) -> Result<(), OutOfMemory>
-    ensures { OnOk result (content.new.items ≡ bytes.now) }
+pub fn replace(alloc: Global, content: &mut Vec<u8>, bytes: &[u8]) -> Result<(), OutOfMemory>
+    ensures ok { OnOk result (content.new.items ≡ bytes.now) }
+    ensures err { OnErr result (content.new.items ≡ content.old.items) }
 {
-    content.clear();
-    content.extend_from_slice(bytes)?;
+    *content = bytes.to_vec(alloc)?;
     Ok(())
 }
 
-fn change(content: &mut Vec<u8>, change: &Change) -> Result<(), OutOfMemory>
-    ensures { OnOk result (content.new.items ≡ changed change.now content.old.items) }
+/// Makes the change. Without memory for it the content stays.
+pub fn change(alloc: Global, content: &mut Vec<u8>, change: &Change) -> Result<(), OutOfMemory>
+    ensures ok { OnOk result (content.new.items ≡ changed change.now content.old.items) }
+    ensures err { OnErr result (content.new.items ≡ content.old.items) }
 {
     match change {
         Change::Write { at, bytes } => overwrite(content, *at, bytes),
@@ -34,16 +37,21 @@ fn change(content: &mut Vec<u8>, change: &Change) -> Result<(), OutOfMemory>
             content.truncate(*len as usize);
             Ok(())
         }
-        Change::Found { bytes } => replace(content, bytes),
+        Change::Found { bytes } => replace(alloc, content, bytes),
         Change::FailedWrite { .. } | Change::FailedCut { .. } | Change::Sync => Ok(()),
     }
 }
 
-pub fn change_if_of(content: &mut Vec<u8>, entry: &Entry, file: u64) -> Result<(), OutOfMemory>
+pub fn change_if_of(
+    alloc: Global,
+    content: &mut Vec<u8>,
+    entry: &Entry,
+    file: u64,
+) -> Result<(), OutOfMemory>
     ensures { OnOk result (content.new.items ≡ content_after file entry.now content.old.items) }
 {
     if entry.file == file {
-        change(content, &entry.change)
+        change(alloc, content, &entry.change)
     } else {
         Ok(())
     }
@@ -55,7 +63,7 @@ pub fn content_of(alloc: Global, entries: &[Entry], file: u64) -> Result<Vec<u8>
 {
     let mut bytes = Vec::new(alloc);
     'entries: for entry in entries {
-        change_if_of(&mut bytes, entry, file)?;
+        change_if_of(alloc, &mut bytes, entry, file)?;
     }
     Ok(bytes)
 }

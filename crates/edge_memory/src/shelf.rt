@@ -114,9 +114,9 @@ impl MemShelf {
 }
 
 impl Shelf for MemShelf {
-    ghost use Rattle.edge_memory.specs.Calls.{counted, is_to_fail};
+    ghost use Rattle.edge_memory.specs.Calls.{counted, is_to_fail, faults_after};
     ghost use Rattle.edge_memory.specs.Source.{source_view, reads_of};
-    ghost use Rattle.edge_memory.specs.Shelf.{shelf_view, fetches_of, reads_to_fail};
+    ghost use Rattle.edge_memory.specs.Shelf.{shelf_view, fetches_of, reads_to_fail, has_failed};
 
     type Src = MemSource;
 
@@ -145,6 +145,8 @@ impl Shelf for MemShelf {
             → IsErrOf result ShelfFault.Failed }
         ensures only_as_told { IsErrOf result ShelfFault.Failed → IsTrue (is_to_fail (fetches_of self.old)) }
         ensures fetches { fetches_of self.new ≡ counted (fetches_of self.old) }
+        ensures faults { count_on (shelf_view self.new) name.now
+            ≡ faults_after (has_failed result) (count_on (shelf_view self.old) name.now) }
 
         // The first source has the reads that are to fail.
         ensures reads { IfOk result (λ src. reads_of src ≡ record { made = 0; fail = reads_to_fail self.old name.now }) }
@@ -169,7 +171,22 @@ impl Shelf for MemShelf {
         Ok(MemSource::fetched(name, content, reads_to_fail))
     }
 
-    fn take_back(&mut self, name: &Text, source: MemSource) {
+    fn take_back(&mut self, name: &Text, source: MemSource)
+        requires fetched { (source_view source).name ≡ Some name.now }
+        requires listed { IsListed (shelf_view self.old) name.now }
+        ensures sum { count_on (shelf_view self.new) name.now
+            ≡ count_sum (count_on (shelf_view self.old) name.now) (source_view source).faults }
+        ensures count { count_on (shelf_view self.old) name.now ≤ count_on (shelf_view self.new) name.now }
+        ensures other_counts { (other : List ℕ) → other ≢ name.now
+            → count_on (shelf_view self.new) other ≡ count_on (shelf_view self.old) other }
+        ensures told { (shelf_view self.new).told ≡ (shelf_view self.old).told }
+        ensures stay_listed { (other : List ℕ) → IsListed (shelf_view self.old) other
+            → IsListed (shelf_view self.new) other }
+
+        // No fetch is counted, and the reads that are to fail stay.
+        ensures fetches { fetches_of self.new ≡ fetches_of self.old }
+        ensures reads { (any : List ℕ) → reads_to_fail self.new any ≡ reads_to_fail self.old any }
+    {
         let faults = source.into_faults();
         if let Some(i) = place_of(&self.held, name) {
             let held = &mut self.held[i];

@@ -1,5 +1,5 @@
 ghost use Rattle.std.specs.Prelude.{◌≡◌, ◌<◌, ◌≤◌, ◌||◌, ◌&&◌, [], length, take, not, is_err, Some, IfOk, OnErr, IsErr, IsTrue, false};
-ghost use Rattle.edge_traits.specs.Count.{Rose};
+ghost use Rattle.edge_traits.specs.Count.{Rose, count_sum};
 ghost use Rattle.edge_traits.specs.Sink.{Took};
 
 use crate::calls::CallCount;
@@ -49,6 +49,7 @@ impl MemSink {
 
     fn fail(&mut self) -> Failed
         ensures same { self.new ≡ record self.old { faults = self.new.faults } }
+        ensures faults { self.new.faults ≡ count_sum self.old.faults 1 }
         ensures failed { Rose self.old.faults self.new.faults }
         ensures count { self.old.faults ≤ self.new.faults }
     {
@@ -58,7 +59,7 @@ impl MemSink {
 }
 
 impl Sink for MemSink {
-    ghost use Rattle.edge_memory.specs.Calls.{counted, is_to_fail};
+    ghost use Rattle.edge_memory.specs.Calls.{counted, is_to_fail, faults_after};
     ghost use Rattle.edge_memory.specs.Sink.{sink_view, writes_of, is_starved};
 
     ghost sink = { sink_view };
@@ -77,6 +78,7 @@ impl Sink for MemSink {
         ensures starved { is_starved self.new
             ≡ (is_starved self.old || (is_err result && not (is_to_fail (writes_of self.old)))) }
         ensures writes { writes_of self.new ≡ counted (writes_of self.old) }
+        ensures faults { (sink_view self.new).faults ≡ faults_after (is_err result) (sink_view self.old).faults }
     {
         if self.calls.next_fails() {
             return Err(self.fail());

@@ -1,4 +1,4 @@
-ghost use Rattle.std.specs.Prelude.{◌≡◌, ◌<◌, ◌≤◌, ◌↔◌, ◌-◌, List, ℕ, length, take, drop, min, Some, None, IfOk, IsErr, IsTrue};
+ghost use Rattle.std.specs.Prelude.{◌≡◌, ◌<◌, ◌≤◌, ◌↔◌, ◌-◌, List, ℕ, length, take, drop, min, is_err, Some, None, IfOk, IsErr, IsTrue};
 ghost use Rattle.edge_traits.specs.Count.{Rose};
 
 use crate::calls::CallCount;
@@ -71,7 +71,7 @@ impl MemSource {
 }
 
 impl Source for MemSource {
-    ghost use Rattle.edge_memory.specs.Calls.{counted, is_to_fail};
+    ghost use Rattle.edge_memory.specs.Calls.{counted, is_to_fail, faults_after};
     ghost use Rattle.edge_memory.specs.Source.{source_view, reads_of};
 
     ghost source = { source_view };
@@ -92,6 +92,7 @@ impl Source for MemSource {
         ensures whole { (content : List ℕ) → (source_view self.old).told ≡ Some content
             → IfOk result (λ n. n ≡ min (length buf.new) (length content - at)) }
         ensures as_told { IsErr result ↔ IsTrue (is_to_fail (reads_of self.old)) }
+        ensures faults { (source_view self.new).faults ≡ faults_after (is_err result) (source_view self.old).faults }
         ensures reads { reads_of self.new ≡ counted (reads_of self.old) }
     {
         if self.calls.next_fails() {

@@ -1,8 +1,8 @@
-ghost use Rattle.std.specs.Prelude.{◌≡◌, ◌≤◌, ◌<◌, ◌↔◌, [], List, ℕ, length, slice_index, true, false, None, OnOk, IfOk, IsTrue, reverse};
+ghost use Rattle.std.specs.Prelude.{◌≡◌, ◌≤◌, ◌<◌, ◌⊎◌, [], List, ℕ, length, slice_index, true, false, None, OnOk, IfOk, IsTrue, reverse};
 ghost use Rattle.edge_traits.specs.Disk.{Image, IsImage, Only};
 ghost use Rattle.edge_memory.specs.Entries.{has_file};
 ghost use Rattle.edge_memory.specs.Found.{AllFound};
-ghost use Rattle.edge_memory.specs.Disk.{files_of, files_after, may_leave_after, is_pending_after, plan_of, is_starved};
+ghost use Rattle.edge_memory.specs.Disk.{files_of, files_after, durable_after, may_leave_after, is_pending_after, plan_of, is_starved, is_unnoted};
 
 use crate::MemDisk;
 use crate::change::{Change, Entry};
@@ -27,10 +27,17 @@ impl MemDisk {
         ensures kept { IsTrue choice.now.keep
             → IfOk result (λ image. (file : ℕ) → files_of image file ≡ files_after self.now call file) }
 
-        // Else each byte that was pending is the filler, and no file that the crash may leave is longer or shorter.
+        // Else each byte that was pending is the filler,
         ensures filled { choice.now.keep ≡ false → IfOk result (λ image. (file k : ℕ)
             → k < length (files_of image file) → IsTrue (is_pending_after self.now call file k)
             → slice_index (files_of image file) k ≡ choice.now.filler) }
+        // and each other byte stood there when the file was made durable last.
+        ensures rest { choice.now.keep ≡ false → IfOk result (λ image. (file k : ℕ) → k < length (files_of image file)
+            → (slice_index (files_of image file) k ≡ choice.now.filler)
+            ⊎ ((k < length (durable_after self.now call file))
+            × (slice_index (files_of image file) k ≡ slice_index (durable_after self.now call file) k))) }
+
+        // No file that the crash may leave is longer, or shorter.
         ensures longest { choice.now.keep ≡ false → IsTrue choice.now.longest
             → IfOk result (λ image. (file : ℕ) (c : List ℕ)
             → may_leave_after self.now call file c → length c ≤ length (files_of image file)) }
@@ -42,6 +49,7 @@ impl MemDisk {
         ensures faults { IfOk result (λ image. (⟦<MemDisk as Disk>⟧.disk image).faults ≡ 0) }
         ensures plan { IfOk result (λ image. plan_of image ≡ record { fail = []; stop = None }) }
         ensures starved { IfOk result (λ image. is_starved image ≡ false) }
+        ensures unnoted { IfOk result (λ image. is_unnoted image ≡ false) }
     {
         let past = self.log.past(call);
         let mut log = Log::new(alloc);

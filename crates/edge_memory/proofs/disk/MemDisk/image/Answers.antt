@@ -1,9 +1,9 @@
-use Rattle.std.proofs.Common.{◌≡◌, ◌<◌, ◌∙◌, take, ℕ, List, length, reverse, get_or, sym, ap, subst, arith}
+use Rattle.std.proofs.Common.{◌≡◌, ◌<◌, ◌⊎◌, ◌∙◌, take, ℕ, List, length, reverse, get_or, sym, ap, subst, arith}
 use Rattle.edge_memory.specs.declared.change.Entry.{Entry}
 use Rattle.edge_memory.specs.Entries.{content, left, made, has_file}
 use Rattle.edge_memory.specs.Torn.{take_whole}
-use Rattle.edge_memory.specs.Crashed.{image}
-use Rattle.edge_memory.proofs.Crashes.{image_left, image_kept, image_crashed, crashed_longest, crashed_shortest, crashed_filled}
+use Rattle.edge_memory.specs.Crashed.{image, durable}
+use Rattle.edge_memory.proofs.Crashes.{image_left, image_kept, image_crashed, crashed_longest, crashed_shortest, crashed_filled, crashed_rest}
 use Rattle.edge_memory.proofs.Restored.{IsRestored, restored}
 use Rattle.edge_memory.proofs.disk.MemDisk.image.Goals as goal
 
@@ -39,6 +39,12 @@ pub returns-clause-filled : goal.returns-clause-filled
 returns-clause-filled c = λ lost file k within pending.
     let is = same c file ∙ image_crashed c.args.choice.now file _ lost in
     ap (λ l. get_or l k 0) is ∙ crashed_filled c.args.choice.now file (made c.args.call c.args.self.now.log.entries.items) k (subst (λ (l : List ℕ). k < length l) is within) pending
+
+pub returns-clause-rest : goal.returns-clause-rest
+returns-clause-rest c = λ lost file k within.
+    let is = same c file ∙ image_crashed c.args.choice.now file _ lost in
+    subst (λ (l : List ℕ). (get_or l k 0 ≡ c.args.choice.now.filler) ⊎ ((k < length (durable file (made c.args.call c.args.self.now.log.entries.items))) × (get_or l k 0 ≡ get_or (durable file (made c.args.call c.args.self.now.log.entries.items)) k 0))) (sym is)
+    (crashed_rest c.args.choice.now file (made c.args.call c.args.self.now.log.entries.items) k (subst (λ (l : List ℕ). k < length l) is within))
 
 pub returns-clause-longest : goal.returns-clause-longest
 returns-clause-longest c = λ lost longest file bytes is_left.

@@ -1,5 +1,19 @@
-use Rattle.edge_memory.proofs.Steps.{elapses}
+use Rattle.std.proofs.Common.{length, refl}
+use Rattle.std.proofs.lemmas.Result.{on_err_weaker}
+use Rattle.edge_memory.proofs.Outcomes.{part_left, part_pending}
+use Rattle.edge_memory.proofs.Steps.{elapses, keeps_past}
 use Rattle.edge_memory.proofs.disk.MemDiskDisk.write_at.Goals as goal
 
 pub returns-clause-time : goal.returns-clause-time
 returns-clause-time c = elapses _ _ c.change.ensures.time
+
+pub returns-clause-past : goal.returns-clause-past
+returns-clause-past c = keeps_past _ _ c.change.ensures.time
+
+pub returns-clause-noted : goal.returns-clause-noted
+returns-clause-noted c =
+    on_err_weaker c.change.result (λ noted whole d left was torn. part_left c.args.file c.change.new.self.log.calls c.args.self.now.log.entries.items c.change.new.self.log.entries.items _ left (noted _ refl whole) (d, was, torn)) c.change.ensures.noted
+
+pub returns-clause-part_pending : goal.returns-clause-part_pending
+returns-clause-part_pending c =
+    on_err_weaker c.change.result (λ noted whole k from upto. part_pending c.args.file c.change.new.self.log.calls c.args.at (length c.args.bytes.now) k c.args.self.now.log.entries.items c.change.new.self.log.entries.items c.change.new.self.log.numbered (noted _ refl whole) from upto) c.change.ensures.noted

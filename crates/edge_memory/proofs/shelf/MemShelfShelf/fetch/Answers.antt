@@ -31,6 +31,12 @@ returns-then-fails-clause-failed c = λ _.
     let was = count_here _ _ _ _ (place_failed c) c.index_mut-held.ensures.value in
     rw (now, was) (search rules)
 
+pub returns-then-fails-clause-faults : goal.returns-then-fails-clause-faults
+returns-then-fails-clause-faults c =
+    let now = ap (λ o. unwrap_or o 0) (renewed_failed c).found in
+    let was = count_here _ _ _ _ (place_failed c) c.index_mut-held.ensures.value in
+    cc (now, was, c.saturating_add-held.ensures)
+
 pub returns-then-fails-clause-told : goal.returns-then-fails-clause-told
 returns-then-fails-clause-told c =
     ap Some (same_parts (λ h. h.content) c.args.self.now.held.items c.in-Some.i c.index_mut-held.result.now _ c.index_mut-held.ensures.value refl refl)
@@ -84,6 +90,9 @@ returns-clause-content c = λ content told.
 pub returns-clause-told : goal.returns-clause-told
 returns-clause-told c =
     ap Some (same_parts (λ h. h.content) c.args.self.now.held.items c.in-Some.i c.index_mut-held.result.now _ c.index_mut-held.ensures.value refl refl)
+
+pub returns-clause-faults : goal.returns-clause-faults
+returns-clause-faults c = ap (λ l. unwrap_or (find_named c.args.name.now l) 0) (same_counts c)
 
 pub returns-clause-count : goal.returns-clause-count
 returns-clause-count c = rw (same_counts c) (omega arith)

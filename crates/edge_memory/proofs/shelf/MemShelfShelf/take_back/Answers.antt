@@ -1,5 +1,6 @@
-use Rattle.std.proofs.Common.{Some, is_some, unwrap_or, ap, refl, arith}
+use Rattle.std.proofs.Common.{[], Some, is_some, unwrap_or, ap, refl, arith}
 use Rattle.std.proofs.Math.ListN.{set}
+use Rattle.edge_traits.specs.Named.{find_named}
 use Rattle.edge_memory.proofs.Lookups.{IsPlace, Renewed, is_place, recounted, count_here, still_found, not_held, with_faults, same_parts}
 use Rattle.edge_memory.proofs.shelf.MemShelfShelf.take_back.Goals as goal
 
@@ -28,6 +29,10 @@ pub returns-in-Some-clause-told : goal.returns-in-Some-clause-told
 returns-in-Some-clause-told c =
     let same = c.index_mut-held.ensures.value in
     ap Some (same_parts (λ h. h.content) c.args.self.now.held.items c.in-Some.i c.index_mut-held.result.now _ same refl refl)
+
+pub returns-in-Some-clause-reads : goal.returns-in-Some-clause-reads
+returns-in-Some-clause-reads c = λ any.
+    ap (λ l. unwrap_or (find_named any l) []) (same_parts (λ h. h.reads_to_fail) c.args.self.now.held.items c.in-Some.i c.index_mut-held.result.now _ c.index_mut-held.ensures.value refl refl)
 
 pub returns-in-Some-clause-stay_listed : goal.returns-in-Some-clause-stay_listed
 returns-in-Some-clause-stay_listed c = still_found _ _ _ _ _ (renewed c)
