@@ -5,6 +5,7 @@ use crate::disks::{
     CHOICES, FILE, KEPT, LONGEST, SHORTEST, check_durable, crashed, disk_with, filled, only,
     stop_after,
 };
+use crate::untold::{ShortRead, UntoldDisk};
 use base_types::BlobList;
 use disk_journal::{AppendFault, Journal, JournalFault};
 use edge_memory::{Choice, MemDisk};
@@ -157,7 +158,68 @@ fn an_append_makes_four_calls(rt: HostRuntime) -> Result<(), Fail> {
     check_durable(&rt, alloc, &disk, APPENDED)?;
     for crash in &CRASHES {
         let crashed = crashed(alloc, &disk, crash.after, &crash.choice)?;
-        assert_eq!(rt; crashed.file(alloc, FILE)?.as_slice(), crash.file);
+        assert_eq!(rt;
+            crashed.file(alloc, FILE)?.as_slice(),
+            crash.file,
+            "after {} calls, {:?}",
+            crash.after,
+            crash.choice
+        );
+    }
+    assert!(rt; !disk.starved());
+    Ok(())
+}
+
+// The same of the calls of a `create` over an old file: a cut, a write and a sync.
+const CRASHES_OF_CREATE: [Crash; 6] = [
+    Crash {
+        after: 1,
+        choice: KEPT,
+        file: b"",
+    },
+    Crash {
+        after: 1,
+        choice: LONGEST,
+        file: b"old",
+    },
+    Crash {
+        after: 2,
+        choice: KEPT,
+        file: CREATED,
+    },
+    Crash {
+        after: 2,
+        choice: SHORTEST,
+        file: b"",
+    },
+    Crash {
+        after: 3,
+        choice: SHORTEST,
+        file: CREATED,
+    },
+    Crash {
+        after: 3,
+        choice: LONGEST,
+        file: CREATED,
+    },
+];
+
+#[test]
+fn a_create_makes_three_calls(rt: HostRuntime) -> Result<(), Fail> {
+    let alloc = rt.alloc();
+    let mut disk = disk_with(alloc, b"old")?;
+    let journal = create(alloc, &mut disk)?;
+    assert_eq!(rt; journal.len(), CREATED.len() as u64);
+    assert_eq!(rt; disk.calls(), 3);
+    for crash in &CRASHES_OF_CREATE {
+        let crashed = crashed(alloc, &disk, crash.after, &crash.choice)?;
+        assert_eq!(rt;
+            crashed.file(alloc, FILE)?.as_slice(),
+            crash.file,
+            "after {} calls, {:?}",
+            crash.after,
+            crash.choice
+        );
     }
     assert!(rt; !disk.starved());
     Ok(())
@@ -528,5 +590,188 @@ fn crashes_keep_what_was_acknowledged(rt: HostRuntime) -> Result<(), Fail> {
         let acknowledged = run(alloc, &mut disk)?;
         check_run(&rt, alloc, &disk, stop, acknowledged)?;
     }
+    Ok(())
+}
+
+// A read of `reopen` over APPENDED that falls short, where the file is damaged then, and the calls that were made: none
+// cuts what wasn't read.
+struct Short {
+    read: ShortRead,
+    damaged: u64,
+    trace: &'static str,
+}
+
+const SHORTS: [Short; 9] = [
+    // The header, and no gate and body of it.
+    Short {
+        read: ShortRead {
+            number: 1,
+            gives: 15,
+        },
+        damaged: 0,
+        trace: "slr",
+    },
+    // A gate, and a length behind it.
+    Short {
+        read: ShortRead {
+            number: 2,
+            gives: 0,
+        },
+        damaged: 16,
+        trace: "slrr",
+    },
+    Short {
+        read: ShortRead {
+            number: 2,
+            gives: 1,
+        },
+        damaged: 16,
+        trace: "slrr",
+    },
+    Short {
+        read: ShortRead {
+            number: 2,
+            gives: 8,
+        },
+        damaged: 16,
+        trace: "slrr",
+    },
+    // A body.
+    Short {
+        read: ShortRead {
+            number: 3,
+            gives: 0,
+        },
+        damaged: 16,
+        trace: "slrrr",
+    },
+    // The second record, and the last gate.
+    Short {
+        read: ShortRead {
+            number: 4,
+            gives: 0,
+        },
+        damaged: 26,
+        trace: "slrrrr",
+    },
+    Short {
+        read: ShortRead {
+            number: 4,
+            gives: 8,
+        },
+        damaged: 26,
+        trace: "slrrrr",
+    },
+    Short {
+        read: ShortRead {
+            number: 5,
+            gives: 1,
+        },
+        damaged: 26,
+        trace: "slrrrrr",
+    },
+    Short {
+        read: ShortRead {
+            number: 6,
+            gives: 0,
+        },
+        damaged: 37,
+        trace: "slrrrrrr",
+    },
+];
+
+#[test]
+fn what_is_read_short_is_damaged(rt: HostRuntime) -> Result<(), Fail> {
+    let alloc = rt.alloc();
+    for row in &SHORTS {
+        let mut disk = UntoldDisk::new(alloc, APPENDED);
+        disk.read_short(row.read);
+        let damaged = match Journal::reopen(alloc, &mut disk, FILE, 0) {
+            Err(JournalFault::Damaged { at }) => Some(at),
+            _ => None,
+        };
+        assert_eq!(rt; damaged, Some(row.damaged), "{:?}", row.read);
+        assert_eq!(rt; disk.trace(), row.trace.as_bytes(), "{:?}", row.read);
+    }
+    Ok(())
+}
+
+#[test]
+fn a_journal_opens_on_a_disk_that_tells_nothing(rt: HostRuntime) -> Result<(), Fail> {
+    let alloc = rt.alloc();
+    let mut disk = UntoldDisk::new(alloc, APPENDED);
+    let (mut journal, bodies) = Journal::reopen(alloc, &mut disk, FILE, 0)?;
+    assert_eq!(rt; list_text(alloc, &bodies)?.as_slice(), b"z,ab,".as_slice());
+    assert_eq!(rt; journal.len(), APPENDED.len() as u64);
+    assert_eq!(rt; disk.trace(), b"slrrrrrrcs".as_slice());
+    journal.reserve(2)?;
+    if journal.len() > 1_000_000 {
+        return Err(Fail::from("a journal of more than a million bytes"));
+    }
+    assert_eq!(rt; journal.append(&mut disk, b"xy"), Ok(()));
+    assert_eq!(rt; disk.trace(), b"slrrrrrrcswsws".as_slice());
+    Ok(())
+}
+
+// A sync that fails, counted over a `create` and an append, and the calls that were made: it isn't tried again, and
+// nothing is made that stands on it.
+struct FailedSync {
+    number: u64,
+    trace: &'static str,
+}
+
+const FAILED_SYNCS: [FailedSync; 3] = [
+    FailedSync {
+        number: 1,
+        trace: "cws",
+    },
+    FailedSync {
+        number: 2,
+        trace: "cwsws",
+    },
+    FailedSync {
+        number: 3,
+        trace: "cwswsws",
+    },
+];
+
+// Creates a journal, and appends twice.
+fn create_and_append_untold(
+    rt: &impl Abort,
+    alloc: Global,
+    disk: &mut UntoldDisk,
+) -> Result<(), Fail> {
+    let Ok(mut journal) = Journal::create(alloc, disk, FILE, 0, b"z") else {
+        return Ok(());
+    };
+    journal.reserve(2)?;
+    assert_eq!(rt; journal.append(disk, b"ab"), Err(AppendFault::Disk));
+    assert_eq!(rt; journal.append(disk, b"ab"), Err(AppendFault::Broken));
+    Ok(())
+}
+
+#[test]
+fn a_failed_sync_is_not_tried_again(rt: HostRuntime) -> Result<(), Fail> {
+    let alloc = rt.alloc();
+    for row in &FAILED_SYNCS {
+        let mut disk = UntoldDisk::new(alloc, b"");
+        disk.fail_sync(row.number);
+        create_and_append_untold(&rt, alloc, &mut disk)?;
+        assert_eq!(rt; disk.trace(), row.trace.as_bytes(), "sync {}", row.number);
+    }
+    let mut disk = UntoldDisk::new(alloc, APPENDED);
+    disk.fail_sync(1);
+    let opened = Journal::reopen(alloc, &mut disk, FILE, 0);
+    assert!(rt; matches!(opened, Err(JournalFault::Disk)));
+    assert_eq!(rt;
+        disk.trace(),
+        b"s".as_slice(),
+        "what wasn't synced isn't read"
+    );
+    let mut disk = UntoldDisk::new(alloc, APPENDED);
+    disk.fail_sync(2);
+    let opened = Journal::reopen(alloc, &mut disk, FILE, 0);
+    assert!(rt; matches!(opened, Err(JournalFault::Disk)));
+    assert_eq!(rt; disk.trace(), b"slrrrrrrcs".as_slice());
     Ok(())
 }

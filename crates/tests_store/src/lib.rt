@@ -7,3 +7,5 @@ mod disks;
 mod journals;
 #[cfg(test)]
 mod outputs;
+#[cfg(test)]
+mod untold;

@@ -2,6 +2,7 @@ ghost use Rattle.std.specs.Prelude.{◌≡◌, IfOk};
 ghost use Rattle.out_files.specs.Output.{lines_text};
 
 use crate::disks::{CHOICES, FILE, check_durable, crashed, disk_with, only};
+use crate::untold::UntoldDisk;
 use base_types::{Blob, LineList};
 use edge_memory::MemDisk;
 use out_files::{OutFault, bring_up};
@@ -279,5 +280,23 @@ fn long_texts_take_several_writes(rt: HostRuntime) -> Result<(), Fail> {
     for large in &LARGES {
         check_large(&rt, rt.alloc(), large)?;
     }
+    Ok(())
+}
+
+#[test]
+fn a_failed_sync_is_not_tried_again(rt: HostRuntime) -> Result<(), Fail> {
+    let alloc = rt.alloc();
+    let mut lines = LineList::new(alloc);
+    push(alloc, &mut lines, b"x")?;
+    if text_of(alloc, &lines)?.len() > 1_000_000 {
+        return Err(Fail::from("a file of more than a million bytes"));
+    }
+    let mut disk = UntoldDisk::new(alloc, b"head\n");
+    disk.fail_sync(1);
+    assert_eq!(rt;
+        bring_up(alloc, &mut disk, FILE, 5, &lines),
+        Err(OutFault::Disk)
+    );
+    assert_eq!(rt; disk.trace(), b"lwcs".as_slice());
     Ok(())
 }

@@ -1,0 +1,8 @@
+use Rattle.std.proofs.Common.{inl, arith}
+use Rattle.tests_store.proofs.untold.UntoldDiskDisk.sync.Goals as goal
+
+pub returns-then-self-clause-time : goal.returns-then-self-clause-time
+returns-then-self-clause-time c = record { later = omega arith; nothing_else = λ t image le left. inl tt; keeps = λ t image le left. tt }
+
+pub returns-clause-time : goal.returns-clause-time
+returns-clause-time c = record { later = omega arith; nothing_else = λ t image le left. inl tt; keeps = λ t image le left. tt }
