@@ -223,7 +223,11 @@ fn check_image(
         return Err(Fail::from("an image of a call that wasn't made"));
     }
     let image = disk.image(alloc, after, choice)?;
-    assert_eq!(rt; image.file(alloc, FILE)?.as_slice(), want.as_bytes());
+    assert_eq!(rt;
+        image.file(alloc, FILE)?.as_slice(),
+        want.as_bytes(),
+        "after {after} calls, {choice:?}"
+    );
     assert_eq!(rt; image.calls(), 0);
     let again = image.image(alloc, 0, &LONGEST)?;
     assert_eq!(rt;
@@ -306,9 +310,77 @@ fn a_failed_write_is_pending(rt: HostRuntime) -> Result<(), Fail> {
     make(alloc, &mut disk, Call::Sync)??;
     assert!(rt; make(alloc, &mut disk, Call::Write(2, "XYZ"))?.is_err());
     assert!(rt; !disk.starved());
+    assert!(rt; !disk.unnoted());
     check_image(&rt, alloc, &disk, 3, &KEPT, "abc")?;
     check_image(&rt, alloc, &disk, 3, &LONGEST, "ab???")?;
     check_image(&rt, alloc, &disk, 3, &SHORTEST, "ab?")
+}
+
+#[test]
+fn a_failed_cut_is_pending(rt: HostRuntime) -> Result<(), Fail> {
+    let alloc = rt.alloc();
+    let mut disk = MemDisk::new(alloc);
+    let fail = numbers(alloc, &[3])?;
+    disk.plan(fail, None);
+    make(alloc, &mut disk, Call::Write(0, "abcd"))??;
+    make(alloc, &mut disk, Call::Sync)??;
+    assert!(rt; make(alloc, &mut disk, Call::Cut(1))?.is_err());
+    assert!(rt; !disk.starved());
+    assert!(rt; !disk.unnoted());
+    check_image(&rt, alloc, &disk, 3, &KEPT, "abcd")?;
+    check_image(&rt, alloc, &disk, 3, &LONGEST, "abcd")?;
+    check_image(&rt, alloc, &disk, 3, &SHORTEST, "a")
+}
+
+// A write of one letter at the end of a file, or a cut to half.
+fn grow(alloc: Global, disk: &mut MemDisk, file: u64, letter: u8) -> Result<(), Fail> {
+    let len = disk.file(alloc, file)?.len() as u64;
+    if len > 1000 {
+        return Err(Fail::from("a long file"));
+    }
+    disk.write_at(file, len, &[letter])?;
+    Ok(())
+}
+
+fn halve(alloc: Global, disk: &mut MemDisk, file: u64) -> Result<(), Fail> {
+    let len = disk.file(alloc, file)?.len() as u64;
+    disk.cut(file, len / 2)?;
+    Ok(())
+}
+
+// Files that are written in turn, and what a read gives of each: now, and on an image.
+const FILES: [(u64, &str); 4] = [(3, "ab"), (900, "cde"), (4, ""), (u64::MAX, "f")];
+
+#[test]
+fn files_stand_apart(rt: HostRuntime) -> Result<(), Fail> {
+    let alloc = rt.alloc();
+    let mut disk = MemDisk::new(alloc);
+    for i in 0..6usize {
+        for (file, text) in &FILES {
+            if let Some(letter) = text.as_bytes().get(i) {
+                grow(alloc, &mut disk, *file, *letter)?;
+            }
+        }
+    }
+    grow(alloc, &mut disk, 4, b'x')?;
+    halve(alloc, &mut disk, 4)?;
+    let image = disk.image(alloc, disk.calls(), &KEPT)?;
+    for (file, text) in &FILES {
+        assert_eq!(rt;
+            disk.file(alloc, *file)?.as_slice(),
+            text.as_bytes(),
+            "file {file}"
+        );
+        assert_eq!(rt;
+            image.file(alloc, *file)?.as_slice(),
+            text.as_bytes(),
+            "file {file} of the image"
+        );
+        assert_eq!(rt; disk.len(*file)?, text.len() as u64, "file {file}");
+    }
+    assert!(rt; disk.file(alloc, 5)?.is_empty());
+    assert!(rt; !disk.starved());
+    Ok(())
 }
 
 #[test]
