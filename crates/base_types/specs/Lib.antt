@@ -1,6 +1,16 @@
+-- what public contracts cite
+pub mod Code
+pub mod Coded
 pub mod Digits
-pub mod formers
+pub mod Hand
+pub mod Lists
+pub mod Mark
+pub mod Message
 pub mod Name
-pub mod Padded
+pub mod Number
+pub mod Queue
 pub mod Scalar
 pub mod Text
+-- what only proofs use
+pub mod formers
+pub mod Padded

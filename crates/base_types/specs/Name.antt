@@ -15,6 +15,10 @@ is_bot_name name = nat_le 1 (length name) && nat_le (length name) 64 && list_all
 abbrev pub queue_ending : List ℕ
 queue_ending = codes "-queue"
 
+-- the name of a bot's queue
+abbrev pub queue_name : List ℕ → List ℕ
+queue_name bot = bot ++ queue_ending
+
 -- a queue's name: that of a bot, and `-queue`
 abbrev pub IsQueueName : List ℕ → Type 0
 IsQueueName name = (bot : List ℕ) × (is_bot_name bot ≡ true) × (name ≡ bot ++ queue_ending)

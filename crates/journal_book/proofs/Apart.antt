@@ -15,7 +15,7 @@ use Rattle.std.proofs.lemmas.Map.Keys.{apart_from_distinct, IsDistinct-from_sort
 use Rattle.std.proofs.lemmas.Map.Text.{is_eq-slice_cmp}
 use Rattle.journal_book.specs.SoundTests.{are_distinct, do_not_fall, hand_key, rise}
 use Rattle.step_code.specs.Sound.{is_same_hand}
-use Rattle.step_code.specs.declared.base.Hand.{Hand}
+use Rattle.base_types.specs.declared.hand.Hand.{Hand}
 use Rattle.std.proofs.lemmas.Slice.Eq.{bytes_eq-Decides}
 
 clash : {P : Type 0} → true ≡ false → P
@@ -165,9 +165,6 @@ any_map f p (x ∷ xs) = ap (λ rest. p (f x) || rest) (any_map f p xs)
 distinct_map : {A B : Type 0} (f : A → B) (same : B → B → Bool) (xs : List A) → are_distinct same (map f xs) ≡ are_distinct (λ x y. same (f x) (f y)) xs
 distinct_map f same [] = refl
 distinct_map f same (x ∷ xs) = λ i. not (any_map f (same (f x)) xs i) && distinct_map f same xs i
-
-by_bytes : Bor (List ℕ) → Bor (List ℕ) → Ordering
-by_bytes x y = slice_cmp nat_cmp x.now y.now
 
 -- names that were sorted by their bytes
 pub names_Decides : (xs ys : List (Bor (List ℕ))) (r : Bool) → IsPermutation xs ys → IsSorted (λ x y. slice_cmp nat_cmp x.now y.now) ys → IsAllAdjacentAnswer (λ x y b. b ≡ is_lt (slice_cmp nat_cmp x.now y.now)) ys r

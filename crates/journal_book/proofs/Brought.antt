@@ -1,24 +1,24 @@
 -- The numbers that a step brings, and the first of them past the last one.
-use Rattle.std.proofs.Common.{◌≡◌, ◌+◌, ◌-◌, ◌≤◌, ◌<◌, ℕ, zero, suc, Bool, true, false, cond, List, [], ◌∷◌, ◌++◌, length, map, min, drop, take, get_or, find, position, nat_lt, Option, Some, None, refl, sym, ◌∙◌, ap, arith}
+use Rattle.std.proofs.Common.{◌≡◌, ◌+◌, ◌-◌, ◌≤◌, ℕ, zero, suc, Bool, true, false, cond, List, [], ◌∷◌, ◌++◌, length, map, min, drop, take, get_or, find, position, Option, Some, None, refl, sym, ◌∙◌, ap, arith}
 use Rattle.std.specs.Option.{option_or}
 use Rattle.std.specs.Str.{bytes_eq}
-use Rattle.std.specs.List.{AllByRecursion}
 use Rattle.std.proofs.lemmas.Bool.{ltb-false}
 use Rattle.std.proofs.lemmas.List.Folds.{find-append}
 use Rattle.std.proofs.lemmas.List.Sums.{sum_by-append}
 use Rattle.base_types.specs.declared.message.Moment.{Moment}
 use Rattle.base_types.specs.declared.message.Msg.{Msg}
 use Rattle.step_code.specs.declared.base.Base.{Base}
-use Rattle.step_code.specs.declared.base.Output.{Output}
 use Rattle.step_code.specs.declared.step.Step.{Step}
 use Rattle.step_code.specs.declared.step.StepKind.{StepKind}
 use Rattle.step_code.specs.declared.step.StepKind.TheVariants as kind
 use Rattle.step_code.specs.After.{after, body_in_hand, taken_first, written}
-use Rattle.step_code.specs.Lists.{changed}
+use Rattle.base_types.specs.Lists.{changed}
 use Rattle.step_code.specs.Rules.{Meaning}
-use Rattle.step_code.specs.State.{is_out, queue_name, waiting}
-use Rattle.step_code.specs.Spent.{is_past, last_given, last_u64, numbers_brought, out_length, spent, up_to_spent, StaysSmall}
-use Rattle.step_code.proofs.Found.{IsFirst, changed_missing, first_at}
+use Rattle.step_code.specs.State.{is_out, waiting}
+use Rattle.base_types.specs.Name.{queue_name}
+use Rattle.step_code.specs.Spent.{is_past, last_given, numbers_brought, out_length, spent, up_to_spent, StaysSmall}
+use Rattle.base_types.specs.Number.{last_u64}
+use Rattle.base_types.proofs.Found.{IsFirst, changed_missing, first_at}
 use Rattle.journal_book.specs.declared.outputs.Written.{Written}
 use Rattle.journal_book.specs.Core.{HasSmallNumbers}
 use Rattle.journal_book.specs.Outputs.{HasLength, HaveLengths, is_written_by, out_of, outs_of}

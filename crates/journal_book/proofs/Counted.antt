@@ -7,7 +7,8 @@ use Rattle.step_code.specs.declared.step.StepKind.{StepKind}
 use Rattle.step_code.specs.declared.step.StepKind.TheVariants as kind
 use Rattle.step_code.specs.After.{acted, after, taken_first}
 use Rattle.step_code.specs.Rules.{Meaning}
-use Rattle.step_code.specs.State.{queue_name, waiting}
+use Rattle.base_types.specs.Name.{queue_name}
+use Rattle.step_code.specs.State.{waiting}
 
 abbrev pub counted : ℕ → Moment → Base → Base
 counted steps now b = record b { steps = steps; latest = now }

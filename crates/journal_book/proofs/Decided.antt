@@ -9,22 +9,22 @@ use Rattle.std.proofs.lemmas.Bool.Decides.{Decides-and, Decides-at, Decides-like
 use Rattle.std.proofs.lemmas.Slice.Eq.{bytes_eq-Decides}
 use Rattle.base_types.specs.declared.message.Dump.{Dump}
 use Rattle.step_code.specs.declared.base.Base.{Base}
-use Rattle.step_code.specs.declared.base.BotCache.{BotCache}
-use Rattle.step_code.specs.declared.base.Feed.{Feed}
-use Rattle.step_code.specs.declared.base.Hand.{Hand}
-use Rattle.step_code.specs.declared.base.Mark.{Mark}
-use Rattle.step_code.specs.declared.base.Output.{Output}
-use Rattle.step_code.specs.declared.base.Queue.{Queue}
+use Rattle.step_code.specs.declared.cache.BotCache.{BotCache}
+use Rattle.step_code.specs.declared.feed.Feed.{Feed}
+use Rattle.base_types.specs.declared.hand.Hand.{Hand}
+use Rattle.base_types.specs.declared.mark.Mark.{Mark}
+use Rattle.step_code.specs.declared.output.Output.{Output}
+use Rattle.base_types.specs.declared.queue.Queue.{Queue}
 use Rattle.step_code.specs.declared.rules.Facts.{Facts}
-use Rattle.step_code.specs.Code.{code_of_base}
-use Rattle.step_code.specs.Lists.{IsIn}
+use Rattle.step_code.specs.Code.{code_of_base, first_format}
+use Rattle.base_types.specs.Lists.{IsIn}
 use Rattle.step_code.specs.Places.{standing}
 use Rattle.step_code.specs.Rules.{Meaning, collects, writes, last_moment}
 use Rattle.step_code.specs.Sound.{IsSoundState, is_same_hand, IsSound, IsSoundCache, IsSoundHand, last_number, longest_base, most_tries, numbers_of}
-use Rattle.step_code.specs.State.{is_instance, is_feed, is_out, queue_name}
+use Rattle.step_code.specs.State.{is_instance, is_feed, is_out}
+use Rattle.base_types.specs.Name.{queue_name}
 use Rattle.journal_book.specs.SoundTests.{are_apart_below, are_distinct, bots_have_places, counts_are_within, dumps_are_sound, hands_are_sound, is_short, is_sound_but_length, is_sound_under, is_sound_cache, is_sound_hand, is_within, names_differ, parts_are_within}
 use Rattle.journal_book.proofs.Apart.{all_above, Decides-le, distinct_Decides, each_weaker, order_Decides, rise_Decides}
-use Rattle.journal_book.proofs.Measured.{short_Decides}
 
 -- lists
 
@@ -92,6 +92,7 @@ record Counts (b : Base) : Type 0 where
   steps : b.steps ≤ last_number
   messages : b.next_message ≤ last_number
   dumps : b.next_dump ≤ last_number
+  discarded : b.discarded ≤ last_number
   bundle : b.bundle_no ≤ last_number
 
 abbrev Within : ℕ → Type 0
@@ -104,20 +105,21 @@ counts_Decides : (b : Base) → Decides (counts_are_within b) (Counts b)
 counts_Decides b =
     Decides-like (counts_are_within b) to from
     (Decides-and _ (is_within b.bundle_no)
+    (Decides-and _ (is_within b.discarded)
     (Decides-and _ (is_within b.next_dump)
     (Decides-and _ (is_within b.next_message)
     (Decides-and _ (is_within b.steps)
     (Decides-and _ (nat_le b.latest.0 last_moment) (Decides-and (nat_le 1 b.next_message) (nat_le 1 b.next_dump) (Decides-le 1 b.next_message) (Decides-le 1 b.next_dump)) (Decides-le b.latest.0 last_moment)) (within_Decides b.steps))
-    (within_Decides b.next_message)) (within_Decides b.next_dump)) (within_Decides b.bundle_no))
+    (within_Decides b.next_message)) (within_Decides b.next_dump)) (within_Decides b.discarded)) (within_Decides b.bundle_no))
   where
     Bounds : Type 0
-    Bounds = ((((((1 ≤ b.next_message) × (1 ≤ b.next_dump)) × (b.latest.0 ≤ last_moment)) × Within b.steps) × Within b.next_message) × Within b.next_dump) × Within b.bundle_no
+    Bounds = (((((((1 ≤ b.next_message) × (1 ≤ b.next_dump)) × (b.latest.0 ≤ last_moment)) × Within b.steps) × Within b.next_message) × Within b.next_dump) × Within b.discarded) × Within b.bundle_no
 
     to : Bounds → Counts b
-    to ((((((m, d), l), s), message), dump), bundle) = record { next_message = m; next_dump = d; latest = l; steps = s; messages = message; dumps = dump; bundle = bundle }
+    to (((((((m, d), l), s), message), dump), gone), bundle) = record { next_message = m; next_dump = d; latest = l; steps = s; messages = message; dumps = dump; discarded = gone; bundle = bundle }
 
     from : Counts b → Bounds
-    from c = ((((((c.next_message, c.next_dump), c.latest), c.steps), c.messages), c.dumps), c.bundle)
+    from c = (((((((c.next_message, c.next_dump), c.latest), c.steps), c.messages), c.dumps), c.discarded), c.bundle)
 
 record Parts (b : Base) : Type 0 where
   hands : AllByRecursion (λ h. Within h.since.0) b.hands
@@ -289,10 +291,10 @@ module _ (b : Base) where
       let to_dumps = join Within (standing b ++ map (λ h. h.since.0) b.hands ++ moments_of b.caches) (dump_numbers b.dumps) to_caches (dumps_within counts parts dumps) in
       let to_outs = join Within (standing b ++ map (λ h. h.since.0) b.hands ++ moments_of b.caches ++ dump_numbers b.dumps) (out_numbers b.outs) to_dumps (outs_within parts) in
       let to_feeds = join Within (standing b ++ map (λ h. h.since.0) b.hands ++ moments_of b.caches ++ dump_numbers b.dumps ++ out_numbers b.outs) (feed_numbers b.feeds) to_outs (feeds_within parts) in
-      (counts.steps, (counts.messages, (counts.dumps, (omega (arith, counts.latest), (counts.bundle, to_feeds)))))
+      (counts.steps, (counts.messages, (counts.dumps, (counts.discarded, (omega (arith, counts.latest), (counts.bundle, to_feeds))))))
 
   counts_from : 1 ≤ b.next_message → 1 ≤ b.next_dump → b.latest.0 ≤ last_moment → AllByRecursion Within (numbers_of b) → Counts b
-  counts_from message dump latest all = record { next_message = message; next_dump = dump; latest = latest; steps = all.0; messages = all.1.0; dumps = all.1.1.0; bundle = all.1.1.1.1.0 }
+  counts_from message dump latest all = record { next_message = message; next_dump = dump; latest = latest; steps = all.0; messages = all.1.0; dumps = all.1.1.0; discarded = all.1.1.1.0; bundle = all.1.1.1.1.1.0 }
 
   parts_from : AllByRecursion Within (numbers_of b) → Parts b
   parts_from all =
@@ -300,11 +302,11 @@ module _ (b : Base) where
       let to_caches : List ℕ = to_hands ++ moments_of b.caches in
       let to_dumps : List ℕ = to_caches ++ dump_numbers b.dumps in
       let to_outs : List ℕ = to_dumps ++ out_numbers b.outs in
-      let in_outs = left_of Within to_outs (feed_numbers b.feeds) all.1.1.1.1.1 in
+      let in_outs = left_of Within to_outs (feed_numbers b.feeds) all.1.1.1.1.1.1 in
       let in_dumps = left_of Within to_dumps (out_numbers b.outs) in_outs in
       let in_caches = left_of Within to_caches (dump_numbers b.dumps) in_dumps in
       let in_hands = left_of Within to_hands (moments_of b.caches) in_caches in
-      let feeds = out_of_flat Within (λ (f : Feed). f.round ∷ f.position ∷ []) b.feeds (right_of Within to_outs (feed_numbers b.feeds) all.1.1.1.1.1) in
+      let feeds = out_of_flat Within (λ (f : Feed). f.round ∷ f.position ∷ []) b.feeds (right_of Within to_outs (feed_numbers b.feeds) all.1.1.1.1.1.1) in
       let outs = out_of_flat Within (λ (o : Output). o.sealed_bytes ∷ o.sealed_lines ∷ []) b.outs (right_of Within to_dumps (out_numbers b.outs) in_outs) in
       let dumps = out_of_flat Within (λ (d : Dump). d.no ∷ d.moment.0 ∷ []) b.dumps (right_of Within to_caches (dump_numbers b.dumps) in_dumps) in
       record {
@@ -338,7 +340,7 @@ facts_Decides bots b =
     caches = each_Decides (is_sound_cache b.latest.0) (IsSoundCache b.latest.0) (cache_Decides b.latest.0) b.caches
 
 -- the facts and the length of the code make a sound state
-to_sound : (m : Meaning) (bots : List Facts) (b : Base) → m.facts b.bundle ≡ Some bots → AreSoundParts bots b → length (code_of_base b) ≤ longest_base → IsSound m b
+to_sound : (m : Meaning) (bots : List Facts) (b : Base) → m.facts b.bundle ≡ Some bots → AreSoundParts bots b → length (code_of_base first_format b) ≤ longest_base → IsSound m b
 to_sound m bots b plan facts short = record { state = sound_state; short = short }
   where
     sound_state : IsSoundState m b
@@ -365,7 +367,7 @@ to_sound m bots b plan facts short = record { state = sound_state; short = short
       numbers = numbers_within b facts.counts facts.parts facts.caches facts.messages facts.dumps;
     }
 
-from_sound : (m : Meaning) (bots : List Facts) (b : Base) → m.facts b.bundle ≡ Some bots → IsSound m b → AreSoundParts bots b × (length (code_of_base b) ≤ longest_base)
+from_sound : (m : Meaning) (bots : List Facts) (b : Base) → m.facts b.bundle ≡ Some bots → IsSound m b → AreSoundParts bots b × (length (code_of_base first_format b) ≤ longest_base)
 from_sound m bots b plan sound = (
   record {
     counts = counts_from b sound.state.next_message sound.state.next_dump sound.state.latest sound.state.numbers;
@@ -392,4 +394,4 @@ from_sound m bots b plan sound = (
 pub sound_Decides : (m : Meaning) (bots : List Facts) (b : Base) → m.facts b.bundle ≡ Some bots → (r : Bool) → r ≡ is_sound_under bots b → Decides r (IsSound m b)
 sound_Decides m bots b plan r is =
     Decides-at r (is_sound_under bots b) is
-    (Decides-like (is_sound_under bots b) (λ both. to_sound m bots b plan both.0 both.1) (from_sound m bots b plan) (Decides-and (is_sound_but_length bots b) (is_short b) (facts_Decides bots b) (short_Decides b)))
+    (Decides-like (is_sound_under bots b) (λ both. to_sound m bots b plan both.0 both.1) (from_sound m bots b plan) (Decides-and (is_sound_but_length bots b) (is_short b) (facts_Decides bots b) (Decides-le (length (code_of_base first_format b)) longest_base)))

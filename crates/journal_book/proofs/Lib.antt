@@ -2,7 +2,6 @@ mod Brought
 mod Apart
 mod Counted
 mod Decided
-mod Measured
 mod Numbered
 mod Results
 mod Seen

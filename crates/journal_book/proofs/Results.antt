@@ -6,8 +6,8 @@ use Rattle.base_types.specs.declared.message.Moment.{Moment}
 use Rattle.step_code.specs.declared.base.Base.{Base}
 use Rattle.step_code.specs.declared.rules.CacheRule.{CacheRule}
 use Rattle.step_code.specs.After.{body_in_hand, cached, dumped, numbered, sent, written}
-use Rattle.step_code.specs.Lists.{without}
-use Rattle.step_code.specs.State.{is_hand}
+use Rattle.base_types.specs.Lists.{without}
+use Rattle.base_types.specs.Hand.{is_hand}
 use Rattle.journal_book.proofs.Numbered.{length-numbered}
 
 abbrev pub sent_and_marked : List (List ℕ × List ℕ) → Option CacheRule → List ℕ → Moment → Option (List ℕ) → Base → Base

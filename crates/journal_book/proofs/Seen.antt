@@ -3,8 +3,8 @@ use Rattle.std.proofs.Common.{◌≡◌, ◌<◌, ℕ, zero, suc, subst, Bool, L
 use Rattle.std.proofs.lemmas.List.{get_or-map, length-map, map-set}
 use Rattle.std.proofs.Math.Seq.{map-set_same}
 use Rattle.std.specs.List.{AllByRecursion}
-use Rattle.step_code.specs.Lists.{changed, changed_or_added}
-use Rattle.step_code.proofs.Found.{IsFirst, IsNowhere, first_at, nowhere, find_first, find_nowhere, changed_first, changed_nowhere, added_first, added_nowhere}
+use Rattle.base_types.specs.Lists.{changed, changed_or_added}
+use Rattle.base_types.proofs.Found.{IsFirst, IsNowhere, first_at, nowhere, find_first, find_nowhere, changed_first, changed_nowhere, added_first, added_nowhere}
 
 module _ {A B : Type 0} (view : A → B) (p : B → Bool) where
   mapped_first : (xs : List A) (i : ℕ) (x : A) → IsFirst (λ a. p (view a)) xs i → IsFirst p (map view xs) i

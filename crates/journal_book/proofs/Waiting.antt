@@ -6,11 +6,10 @@ use Rattle.std.proofs.lemmas.Slice.Eq.{bytes_eq-Decides}
 use Rattle.std.proofs.lemmas.List.{get_or_append_left, length-append, get_or-map, get_or-set_other, get_or-set_same, get_or_default, map-set, set-get_or, length-map, length-set}
 use Rattle.std.proofs.Math.Seq.{get_or-append_seam, map-set_same}
 use Rattle.base_types.specs.declared.message.Msg.{Msg}
-use Rattle.step_code.specs.declared.base.Queue.{Queue}
-use Rattle.step_code.specs.Lists.{changed}
-use Rattle.step_code.specs.State.{is_queue, queued}
-use Rattle.step_code.specs.After.{put, put_all}
-use Rattle.step_code.proofs.Found.{changed_nowhere, find_first, find_nowhere, IsFirst, IsNowhere, first_at, nowhere, added_first, added_nowhere, changed_first}
+use Rattle.base_types.specs.declared.queue.Queue.{Queue}
+use Rattle.base_types.specs.Lists.{changed}
+use Rattle.base_types.specs.Queue.{is_queue, queued, put, put_all}
+use Rattle.base_types.proofs.Found.{changed_nowhere, find_first, find_nowhere, IsFirst, IsNowhere, first_at, nowhere, added_first, added_nowhere, changed_first}
 use Rattle.journal_book.specs.declared.queues.Waiting.{Waiting}
 use Rattle.journal_book.specs.Room.{HasRoom, HaveRoom, all_appended, appended, is_named, with_queue, with_queues}
 use Rattle.journal_book.specs.State.{queue_of, queues_of}

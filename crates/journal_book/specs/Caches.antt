@@ -1,7 +1,7 @@
 -- Caches in vectors, as the lists that they stand for.
 use Rattle.std.specs.Prelude.{ℕ, Bool, List, map}
 use Rattle.std.specs.Str.{bytes_eq}
-use Rattle.step_code.specs.declared.base.BotCache.{BotCache}
+use Rattle.step_code.specs.declared.cache.BotCache.{BotCache}
 use Rattle.journal_book.specs.declared.caches.Marks.{Marks}
 
 abbrev pub cache_of : Marks → BotCache

@@ -1,6 +1,7 @@
-pub mod Caches
-pub mod CodeLength
+-- what public contracts cite
 pub mod Core
+-- what only proofs use
+pub mod Caches
 pub mod Outputs
 pub mod Room
 pub mod SoundTests

@@ -3,8 +3,9 @@ use Rattle.std.specs.Prelude.{◌≡◌, ◌<◌, ℕ, Bool, List, map, get_or, 
 use Rattle.std.specs.List.{AllByRecursion}
 use Rattle.std.specs.Str.{bytes_eq}
 use Rattle.std.specs.Vec.{vec_len, vec_capacity}
-use Rattle.step_code.specs.declared.base.Output.{Output}
-use Rattle.step_code.specs.Spent.{last_u64, out_length}
+use Rattle.step_code.specs.declared.output.Output.{Output}
+use Rattle.base_types.specs.Number.{last_u64}
+use Rattle.step_code.specs.Spent.{out_length}
 use Rattle.journal_book.specs.declared.outputs.Written.{Written}
 
 abbrev pub out_of : Written → Output

@@ -4,9 +4,9 @@ use Rattle.std.specs.List.{AllByRecursion}
 use Rattle.std.specs.Str.{bytes_eq}
 use Rattle.std.specs.VecDeque.{deque_len, deque_capacity}
 use Rattle.base_types.specs.declared.message.Msg.{Msg}
-use Rattle.step_code.specs.declared.base.Queue.{Queue}
-use Rattle.step_code.specs.Lists.{changed, changed_or_added}
-use Rattle.step_code.specs.State.{is_queue}
+use Rattle.base_types.specs.declared.queue.Queue.{Queue}
+use Rattle.base_types.specs.Lists.{changed, changed_or_added}
+use Rattle.base_types.specs.Queue.{is_queue}
 use Rattle.journal_book.specs.declared.queues.Waiting.{Waiting}
 
 abbrev pub is_named : List ℕ → Waiting → Bool

@@ -1,20 +1,22 @@
 -- What makes a state sound, as tests that compute.
-use Rattle.std.specs.Prelude.{◌&&◌, ◌||◌, ℕ, Bool, true, not, eqb, nat_le, nat_lt, List, [], ◌∷◌, map}
+use Rattle.std.specs.Prelude.{◌&&◌, ◌||◌, ℕ, Bool, true, not, eqb, nat_le, nat_lt, List, [], ◌∷◌, length, map}
 use Rattle.std.specs.List.{list_all, list_any}
 use Rattle.std.specs.Str.{bytes_eq}
 use Rattle.base_types.specs.declared.message.Dump.{Dump}
 use Rattle.step_code.specs.declared.base.Base.{Base}
-use Rattle.step_code.specs.declared.base.BotCache.{BotCache}
-use Rattle.step_code.specs.declared.base.Feed.{Feed}
-use Rattle.step_code.specs.declared.base.Hand.{Hand}
-use Rattle.step_code.specs.declared.base.Output.{Output}
-use Rattle.step_code.specs.declared.base.Queue.{Queue}
+use Rattle.step_code.specs.declared.cache.BotCache.{BotCache}
+use Rattle.step_code.specs.declared.feed.Feed.{Feed}
+use Rattle.base_types.specs.declared.hand.Hand.{Hand}
+use Rattle.step_code.specs.declared.output.Output.{Output}
+use Rattle.base_types.specs.declared.queue.Queue.{Queue}
 use Rattle.step_code.specs.declared.rules.Facts.{Facts}
 use Rattle.step_code.specs.Places.{standing}
 use Rattle.step_code.specs.Rules.{collects, writes, last_moment}
 use Rattle.step_code.specs.Sound.{is_same_hand, last_number, longest_base, most_tries}
-use Rattle.step_code.specs.State.{is_instance, is_feed, is_out, is_queue, queue_name}
-use Rattle.journal_book.specs.CodeLength.{base_length}
+use Rattle.step_code.specs.State.{is_instance, is_feed, is_out}
+use Rattle.base_types.specs.Queue.{is_queue}
+use Rattle.base_types.specs.Name.{queue_name}
+use Rattle.step_code.specs.Code.{code_of_base, first_format}
 
 -- no item is the same as one after it
 abbrev pub are_distinct : {A : Type 0} → (A → A → Bool) → List A → Bool
@@ -70,7 +72,7 @@ abbrev pub is_within : ℕ → Bool
 is_within n = nat_le n last_number
 
 abbrev pub counts_are_within : Base → Bool
-counts_are_within b = nat_le 1 b.next_message && nat_le 1 b.next_dump && nat_le b.latest.0 last_moment && is_within b.steps && is_within b.next_message && is_within b.next_dump && is_within b.bundle_no
+counts_are_within b = nat_le 1 b.next_message && nat_le 1 b.next_dump && nat_le b.latest.0 last_moment && is_within b.steps && is_within b.next_message && is_within b.next_dump && is_within b.discarded && is_within b.bundle_no
 
 -- the numbers that no other test bounds
 abbrev pub parts_are_within : Base → Bool
@@ -85,7 +87,7 @@ is_sound_but_length bots b =
     && are_apart_below b.next_message (standing b) && dumps_are_sound b.next_dump b.dumps && bots_have_places bots b
 
 abbrev pub is_short : Base → Bool
-is_short b = nat_le (base_length b) longest_base
+is_short b = nat_le (length (code_of_base first_format b)) longest_base
 
 abbrev pub is_sound_under : List Facts → Base → Bool
 is_sound_under bots b = is_sound_but_length bots b && is_short b

@@ -1,14 +1,14 @@
 -- What a step brings, by its kind.
-use Rattle.std.specs.Prelude.{◌+◌, ℕ, List, [], length, map, min, Option, Some, None, if◌then◌else◌}
+use Rattle.std.specs.Prelude.{◌+◌, ℕ, List, length, min, Option, Some, None, if◌then◌else◌}
 use Rattle.step_code.specs.declared.base.Base.{Base}
-use Rattle.step_code.specs.declared.base.Output.{Output}
+use Rattle.step_code.specs.declared.output.Output.{Output}
 use Rattle.base_types.specs.declared.message.Moment.{Moment}
 use Rattle.step_code.specs.declared.step.StepKind.{StepKind}
 use Rattle.step_code.specs.declared.step.StepKind.TheVariants as kind
 use Rattle.step_code.specs.After.{body_in_hand, reports, written}
-use Rattle.step_code.specs.Lists.{changed}
+use Rattle.base_types.specs.Lists.{changed}
 use Rattle.step_code.specs.Rules.{Meaning}
-use Rattle.step_code.specs.Spent.{last_u64}
+use Rattle.base_types.specs.Number.{last_u64}
 use Rattle.journal_book.specs.declared.outputs.Written.{Written}
 use Rattle.journal_book.specs.Outputs.{is_written_by}
 

@@ -1,7 +1,7 @@
 -- The state in vectors, as the lists that it stands for.
 use Rattle.std.specs.Prelude.{List, map}
 use Rattle.step_code.specs.declared.base.Base.{Base}
-use Rattle.step_code.specs.declared.base.Queue.{Queue}
+use Rattle.base_types.specs.declared.queue.Queue.{Queue}
 use Rattle.journal_book.specs.Caches.{caches_of}
 use Rattle.journal_book.specs.Outputs.{outs_of}
 use Rattle.journal_book.specs.declared.queues.Waiting.{Waiting}
@@ -18,6 +18,7 @@ state_of s = record {
   steps = s.steps;
   next_message = s.next_message;
   next_dump = s.next_dump;
+  discarded = s.discarded;
   latest = s.latest;
   bundle_no = s.bundle_no;
   bundle = s.bundle;

@@ -1,10 +1,12 @@
 //! What each kind of step does to the state. All memory is taken before anything changes.
 ghost use Rattle.std.specs.Prelude.{◌≡◌, ◌+◌, ◌≤◌, ◌^◌, [], List, ℕ, true, length, OnOk, OnErr, Some, find, unwrap_or};
 ghost use Rattle.step_code.specs.After.{reports, sent, taken_first};
-ghost use Rattle.step_code.specs.Lists.{changed};
+ghost use Rattle.base_types.specs.Lists.{changed};
 ghost use Rattle.step_code.specs.Rules.{Meaning, IsPlanOf, is_collector};
 ghost use Rattle.step_code.specs.Spent.{last_given};
-ghost use Rattle.step_code.specs.State.{is_feed, queued, queue_name, waiting};
+ghost use Rattle.step_code.specs.State.{is_feed, waiting};
+ghost use Rattle.base_types.specs.Queue.{queued};
+ghost use Rattle.base_types.specs.Name.{queue_name};
 ghost use Rattle.journal_book.specs.State.{state_of};
 
 use crate::copies::to_each;
@@ -12,9 +14,9 @@ use crate::facts::bot_named;
 use crate::feeds::{finish, go_to};
 use crate::queues::{append_all, make_all_room, take_front};
 use crate::state::State;
-use base_types::{Blob, BotName, Moment, OutOfMemory, QueueName, queue_of};
+use base_types::{Blob, BotName, Hand, Moment, OutOfMemory, QueueName, queue_of};
 use std::alloc::Global;
-use step_code::{Facts, Hand, Rules};
+use step_code::{Facts, Rules};
 
 pub fn start(state: &mut State)
     ensures start { state_of state.new ≡ record (state_of state.old) { halted = [] } }

@@ -1,14 +1,15 @@
 //! The caches of bots that drop duplicates, and the keys that are marked in them.
 ghost use Rattle.std.specs.Prelude.{◌≡◌, ◌≤◌, ◌-◌, ◌++◌, ◌∷◌, [], nat_lt, position, IfOk, OnOk, OnErr, Some, None};
 ghost use Rattle.std.specs.VecDeque.{deque_len, deque_capacity};
-ghost use Rattle.step_code.specs.After.{cached, marked, trimmed};
-ghost use Rattle.step_code.specs.State.{fresh, is_marked, marks_of};
+ghost use Rattle.step_code.specs.After.{cached, marked};
+ghost use Rattle.base_types.specs.Mark.{trimmed, fresh, is_marked};
+ghost use Rattle.step_code.specs.State.{marks_of};
 ghost use Rattle.journal_book.specs.Caches.{cache_of, caches_of, has_bot};
 
-use base_types::{Blob, BotName, Moment};
+use base_types::{Blob, BotName, Mark, MarkList, Moment, OutOfMemory, copy_all};
 use std::alloc::{AllocError, Global};
 use std::collections::VecDeque;
-use step_code::{BotCache, CacheList, CacheRule, Mark, MarkList};
+use step_code::{BotCache, CacheList, CacheRule};
 
 /// A bot's marks, the oldest first.
 #[derive(Debug, Drop)]
@@ -157,35 +158,13 @@ pub fn is_marked(caches: &[Marks], rule: &CacheRule, bot: &BotName, now: Moment,
     }
 }
 
-fn copy_of_mark(mark: &Mark, alloc: Global) -> Result<Mark, AllocError>
-    ensures { IfOk result (λ copy. copy ≡ mark.now) }
-{
-    let Ok(key) = mark.key.copy(alloc) else {
-        return Err(AllocError);
-    };
-    Ok(Mark {
-        key,
-        moment: mark.moment,
-    })
-}
-
-// Puts copies of marks at the end of the list.
-fn copy_marks(list: &mut Vec<Mark>, marks: &[Mark], alloc: Global) -> Result<(), AllocError>
-    ensures { OnOk result (list.new.items ≡ list.old.items ++ marks.now) }
-{
-    'marks: for mark in marks {
-        list.push(copy_of_mark(mark, alloc)?)?;
-    }
-    Ok(())
-}
-
-fn copy_of_cache(cache: &Marks, alloc: Global) -> Result<BotCache, AllocError>
+fn copy_of_cache(cache: &Marks, alloc: Global) -> Result<BotCache, OutOfMemory>
     ensures { IfOk result (λ copy. copy ≡ cache_of cache.now) }
 {
     let (front, back) = cache.marks.as_slices();
     let mut marks = Vec::with_capacity(alloc, cache.marks.len())?;
-    copy_marks(&mut marks, front, alloc)?;
-    copy_marks(&mut marks, back, alloc)?;
+    copy_all(alloc, &mut marks, front)?;
+    copy_all(alloc, &mut marks, back)?;
     Ok(BotCache {
         bot: cache.bot,
         marks: MarkList::from(marks),
@@ -193,7 +172,7 @@ fn copy_of_cache(cache: &Marks, alloc: Global) -> Result<BotCache, AllocError>
 }
 
 /// The caches as lists.
-pub fn copies(caches: &[Marks], alloc: Global) -> Result<CacheList, AllocError>
+pub fn copies(caches: &[Marks], alloc: Global) -> Result<CacheList, OutOfMemory>
     ensures { IfOk result (λ list. list ≡ caches_of caches.now) }
 {
     let mut list = Vec::with_capacity(alloc, caches.len())?;
@@ -214,7 +193,7 @@ fn from_list(cache: BotCache) -> Marks
 }
 
 /// The caches of these lists.
-pub fn from_lists(list: CacheList, alloc: Global) -> Result<Vec<Marks>, AllocError>
+pub fn from_lists(list: CacheList, alloc: Global) -> Result<Vec<Marks>, OutOfMemory>
     ensures { IfOk result (λ caches. caches_of caches.items ≡ list) }
 {
     let mut caches = Vec::with_capacity(alloc, list.len())?;

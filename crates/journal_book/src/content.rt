@@ -3,7 +3,9 @@ ghost use Rattle.std.specs.Prelude.{◌≡◌, ◌↔◌, ◌≤◌, ◌&&◌, o
 ghost use Rattle.step_code.specs.declared.rules.CacheRule.{CacheRule};
 ghost use Rattle.step_code.specs.Content.{IsFront, IsInTime, IsMarkAndLine, IsPiece, Shows, is_duplicate, live_marks};
 ghost use Rattle.step_code.specs.Rules.{Meaning, bot_named, last_moment, passes, writes};
-ghost use Rattle.step_code.specs.State.{is_marked, queue_name, waiting};
+ghost use Rattle.base_types.specs.Mark.{is_marked};
+ghost use Rattle.base_types.specs.Name.{queue_name};
+ghost use Rattle.step_code.specs.State.{waiting};
 ghost use Rattle.step_code.specs.After.{cache_rule};
 ghost use Rattle.journal_book.specs.State.{state_of};
 

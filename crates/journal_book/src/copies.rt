@@ -2,45 +2,8 @@
 ghost use Rattle.std.specs.Prelude.{◌≡◌, ◌+◌, ◌≤◌, ◌^◌, List, length, map, IfOk};
 ghost use Rattle.step_code.specs.After.{numbered};
 
-use base_types::{Blob, BotName, Dump, FaultNote, Moment, Msg, OutOfMemory, QueueName};
+use base_types::{Blob, BotName, Coded, Dump, FaultNote, Moment, Msg, OutOfMemory, QueueName};
 use std::alloc::Global;
-
-pub fn copy_of_message(alloc: Global, message: &Msg) -> Result<Msg, OutOfMemory>
-    ensures { IfOk result (λ copy. copy ≡ message.now) }
-{
-    Ok(Msg {
-        no: message.no,
-        body: message.body.copy(alloc)?,
-    })
-}
-
-fn copy_of_send(alloc: Global, send: &(QueueName, Blob)) -> Result<(QueueName, Blob), OutOfMemory>
-    ensures { IfOk result (λ copy. copy ≡ send.now) }
-{
-    Ok((send.0, send.1.copy(alloc)?))
-}
-
-pub fn copy_sends(
-    alloc: Global,
-    sends: &[(QueueName, Blob)],
-) -> Result<Vec<(QueueName, Blob)>, OutOfMemory>
-    ensures { IfOk result (λ copies. copies.items ≡ sends.now) }
-{
-    let mut copies = Vec::with_capacity(alloc, sends.len())?;
-    'sends: for send in sends {
-        copies.push(copy_of_send(alloc, send)?)?;
-    }
-    Ok(copies)
-}
-
-pub fn copy_key(alloc: Global, key: &Option<Blob>) -> Result<Option<Blob>, OutOfMemory>
-    ensures { IfOk result (λ copy. copy ≡ key.now) }
-{
-    match key {
-        Some(key) => Ok(Some(key.copy(alloc)?)),
-        None => Ok(None),
-    }
-}
 
 fn copy_to_each(
     alloc: Global,
@@ -91,10 +54,7 @@ fn new_dump(
             no,
             body: item.0.copy(alloc)?,
         },
-        note: FaultNote {
-            code: item.1.code,
-            text: item.1.text.copy(alloc)?,
-        },
+        note: item.1.copy(alloc)?,
         moment: now,
     })
 }

@@ -7,9 +7,9 @@ ghost use Rattle.std.specs.Ordering.{nat_cmp, is_lt};
 ghost use Rattle.journal_book.specs.SoundTests.{are_apart_below, are_distinct, hand_key, names_differ, rise};
 ghost use Rattle.step_code.specs.Sound.{is_same_hand};
 
-use base_types::{Blob, BotName, OutOfMemory};
+use base_types::{Blob, BotName, Hand, Mark, OutOfMemory, Queue};
 use std::alloc::Global;
-use step_code::{Base, BotCache, Feed, Hand, Mark, Output, Queue};
+use step_code::{Base, BotCache, Feed, Output};
 
 // Whether each number is above the one before it, and the first above 0.
 fn rise(numbers: &[u64]) -> bool

@@ -1,20 +1,20 @@
 //! The step of a bot that is done with a message: successors, dumps, mark, line and acknowledgement are one.
 ghost use Rattle.std.specs.Prelude.{◌≡◌, ◌+◌, ◌≤◌, ◌<◌, ◌^◌, ◌++◌, [], List, ℕ, Option, true, length, OnOk, OnErr, Some, None, find, unwrap_or, option_map, vec_len, vec_capacity};
 ghost use Rattle.step_code.specs.After.{body_in_hand, cached, dumped, sent, written};
-ghost use Rattle.step_code.specs.Lists.{without};
+ghost use Rattle.base_types.specs.Lists.{without};
 ghost use Rattle.step_code.specs.Spent.{last_given};
-ghost use Rattle.step_code.specs.State.{is_hand};
+ghost use Rattle.base_types.specs.Hand.{is_hand};
 ghost use Rattle.journal_book.specs.Caches.{caches_of};
 ghost use Rattle.journal_book.specs.Outputs.{HasLineRoom, HaveLengths, outs_of};
 ghost use Rattle.journal_book.specs.State.{state_of};
 
 use crate::caches::mark;
-use crate::copies::{copy_key, copy_sends, new_dumps};
+use crate::copies::new_dumps;
 use crate::hands::take_out;
 use crate::outputs::{make_room, write_line};
 use crate::queues::{append_all, keep_first, make_all_room};
 use crate::state::State;
-use base_types::{Blob, BotName, Dump, FaultNote, Moment, OutOfMemory, QueueName};
+use base_types::{Blob, BotName, Coded, Dump, FaultNote, Moment, OutOfMemory, QueueName, copies};
 use std::alloc::Global;
 use step_code::CacheRule;
 
@@ -110,7 +110,7 @@ pub fn done(
     ensures lengths { HaveLengths state.old.outs.items → HaveLengths state.new.outs.items }
 {
     let count = sends.len() as u64;
-    let sends = copy_sends(alloc, sends)?;
+    let sends = copies(alloc, sends)?;
     let dumps = new_dumps(
         alloc,
         state.next_message + count,
@@ -119,7 +119,7 @@ pub fn done(
         now,
         dumps,
     )?;
-    let key = copy_key(alloc, key)?;
+    let key = key.copy(alloc)?;
     make_room(&mut state.outs, bot)?;
     state.dumps.reserve(dumps.len())?;
     send_and_mark(state, alloc, sends, rule, bot, now, key)?;

@@ -2,7 +2,8 @@
 ghost use Rattle.std.specs.Prelude.{◌≡◌, ◌&&◌, true, false, not, find, position, Some, None, MatchOption, nat_le};
 ghost use Rattle.step_code.specs.Rules.{bot_named, collects, writes, is_collector, passes};
 ghost use Rattle.std.specs.Str.{bytes_eq};
-ghost use Rattle.step_code.specs.State.{is_instance, is_live_queue, queue_name};
+ghost use Rattle.step_code.specs.State.{is_instance, is_live_queue};
+ghost use Rattle.base_types.specs.Name.{queue_name};
 
 use base_types::{BotName, QueueName, queue_of};
 use step_code::{Facts, Role};
@@ -13,7 +14,7 @@ fn place_of_bot(bots: &[Facts], name: &BotName) -> Option<usize>
     bots.iter().position(|f| f.bot == *name)
 }
 
-#[tactic(auto, using(step_code::proofs::Found::find_placed, step_code::proofs::Found::find_missing))]
+#[tactic(auto, using(base_types::proofs::Found::find_placed, base_types::proofs::Found::find_missing))]
 pub fn bot_named<'f>(bots: &'f [Facts], name: &BotName) -> Option<&'f Facts>
     ensures { MatchOption result (bot_named name.now bots.now ≡ None) (λ f. bot_named name.now bots.now ≡ Some f.now) }
 {

@@ -1,7 +1,7 @@
 //! How far collectors have come.
 ghost use Rattle.std.specs.Prelude.{◌≡◌, true, List, find, position, option_map, unwrap_or, Some, None, MatchOption};
 ghost use Rattle.std.specs.Str.{bytes_eq};
-ghost use Rattle.step_code.specs.Lists.{changed};
+ghost use Rattle.base_types.specs.Lists.{changed};
 ghost use Rattle.step_code.specs.Rules.{passes};
 ghost use Rattle.step_code.specs.State.{is_feed};
 
@@ -15,7 +15,7 @@ fn place_of_feed(feeds: &[Feed], bot: &BotName) -> Option<usize>
 }
 
 /// The offset up to which the feed was collected, in bytes.
-#[tactic(auto, using(step_code::proofs::Found::find_placed, step_code::proofs::Found::find_missing))]
+#[tactic(auto, using(base_types::proofs::Found::find_placed, base_types::proofs::Found::find_missing))]
 pub fn position_of(feeds: &[Feed], bot: &BotName) -> u64
     ensures { result ≡ unwrap_or (option_map (λ f. f.position) (find (is_feed bot.now) feeds.now)) 0 }
 {
@@ -25,7 +25,7 @@ pub fn position_of(feeds: &[Feed], bot: &BotName) -> u64
     }
 }
 
-#[tactic(auto, using(step_code::proofs::Found::find_placed, step_code::proofs::Found::find_missing))]
+#[tactic(auto, using(base_types::proofs::Found::find_placed, base_types::proofs::Found::find_missing))]
 pub fn has_finished(feeds: &[Feed], bot: &BotName) -> bool
     ensures { result ≡ passes (λ f. f.finished) (find (is_feed bot.now) feeds.now) }
 {
@@ -36,7 +36,7 @@ pub fn has_finished(feeds: &[Feed], bot: &BotName) -> bool
 }
 
 /// The feed was collected up to this offset.
-#[tactic(auto, using(step_code::proofs::Found::changed_missing))]
+#[tactic(auto, using(base_types::proofs::Found::changed_missing))]
 pub fn go_to(feeds: &mut Vec<Feed>, bot: &BotName, position: u64)
     ensures { feeds.new.items ≡ changed (is_feed bot.now) (λ f. record f { position = position }) feeds.old.items }
 {
@@ -46,7 +46,7 @@ pub fn go_to(feeds: &mut Vec<Feed>, bot: &BotName, position: u64)
 }
 
 /// The feed was collected to its end.
-#[tactic(auto, using(step_code::proofs::Found::changed_missing))]
+#[tactic(auto, using(base_types::proofs::Found::changed_missing))]
 pub fn finish(feeds: &mut Vec<Feed>, bot: &BotName)
     ensures { feeds.new.items ≡ changed (is_feed bot.now) (λ f. record f { finished = true }) feeds.old.items }
 {

@@ -4,7 +4,6 @@
 mod acts;
 mod base_lists;
 mod caches;
-mod code_length;
 mod content;
 mod copies;
 mod distinct;

@@ -1,10 +1,10 @@
 //! What bots have written: so much that is sealed, and the lines behind it.
 ghost use Rattle.std.specs.Prelude.{◌≡◌, ◌+◌, ◌<◌, ◌++◌, ◌∷◌, [], true, length, min, sum_by, position, vec_len, vec_capacity, IfOk, OnOk};
-ghost use Rattle.step_code.specs.Spent.{last_u64};
+ghost use Rattle.base_types.specs.Number.{last_u64};
 ghost use Rattle.step_code.specs.After.{written};
 ghost use Rattle.journal_book.specs.Outputs.{HasLength, HasLineRoom, HaveLengths, is_written_by, out_of, outs_of};
 
-use base_types::{Blob, BotName, LineList};
+use base_types::{Blob, BotName, LineList, OutOfMemory};
 use std::alloc::{AllocError, Global};
 use step_code::{OutList, Output};
 
@@ -57,26 +57,19 @@ pub fn write_line(outs: &mut Vec<Written>, bot: &BotName, line: Blob)
     }
 }
 
-fn copy_of_output(written: &Written, alloc: Global) -> Result<Output, AllocError>
+fn copy_of_output(written: &Written, alloc: Global) -> Result<Output, OutOfMemory>
     ensures { IfOk result (λ copy. copy ≡ out_of written.now) }
 {
-    let mut lines = Vec::with_capacity(alloc, written.lines.len())?;
-    'lines: for line in &written.lines {
-        let Ok(copy) = line.copy(alloc) else {
-            return Err(AllocError);
-        };
-        lines.push(copy)?;
-    }
     Ok(Output {
         bot: written.bot,
         sealed_bytes: written.sealed_bytes,
         sealed_lines: written.sealed_lines,
-        lines: LineList::from(lines),
+        lines: LineList::from(base_types::copies(alloc, &written.lines)?),
     })
 }
 
 /// The outputs as lists.
-pub fn copies(outs: &[Written], alloc: Global) -> Result<OutList, AllocError>
+pub fn copies(outs: &[Written], alloc: Global) -> Result<OutList, OutOfMemory>
     ensures { IfOk result (λ list. list ≡ outs_of outs.now) }
 {
     let mut list = Vec::with_capacity(alloc, outs.len())?;
@@ -119,7 +112,7 @@ fn from_list(out: Output) -> Written
 }
 
 /// The outputs of these lists.
-pub fn from_lists(list: OutList, alloc: Global) -> Result<Vec<Written>, AllocError>
+pub fn from_lists(list: OutList, alloc: Global) -> Result<Vec<Written>, OutOfMemory>
     ensures same { IfOk result (λ outs. outs_of outs.items ≡ list) }
     ensures lengths { IfOk result (λ outs. HaveLengths outs.items) }
 {

@@ -1,9 +1,9 @@
 //! The queues of a pipeline, and the messages that wait in them.
 ghost use Rattle.std.specs.Prelude.{◌≡◌, ◌+◌, ◌≤◌, ◌^◌, ℕ, List, [], ◌∷◌, length, position, take, drop, OnOk, OnErr, MatchOption, min, sum_by, if◌then◌else◌, Some, None};
-ghost use Rattle.step_code.specs.After.{put_all};
+ghost use Rattle.base_types.specs.Queue.{put_all, bytes_in, is_queue, queued};
 ghost use Rattle.step_code.specs.Content.{IsFront};
-ghost use Rattle.step_code.specs.Lists.{changed};
-ghost use Rattle.step_code.specs.State.{bytes_in, is_live_queue, is_queue, live_bytes, queued};
+ghost use Rattle.base_types.specs.Lists.{changed};
+ghost use Rattle.step_code.specs.State.{is_live_queue, live_bytes};
 ghost use Rattle.base_types.specs.declared.message.Msg.{Msg};
 ghost use Rattle.journal_book.specs.Room.{is_named, HasRoom, HaveRoom, with_queue, with_queues, appended, all_appended};
 ghost use Rattle.journal_book.specs.State.{queue_of, queues_of};

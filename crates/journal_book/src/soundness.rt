@@ -3,17 +3,19 @@ ghost use Rattle.std.specs.Prelude.{◌≡◌, ◌&&◌, ◌↔◌, true, nat_le
 ghost use Rattle.std.specs.List.{list_all, list_any};
 ghost use Rattle.step_code.specs.Rules.{Meaning};
 ghost use Rattle.step_code.specs.Sound.{IsSound};
-ghost use Rattle.step_code.specs.State.{is_feed, is_out, is_queue};
+ghost use Rattle.step_code.specs.State.{is_feed, is_out};
+ghost use Rattle.base_types.specs.Queue.{is_queue};
 ghost use Rattle.journal_book.specs.SoundTests.{bots_have_places, counts_are_within, do_not_fall, dumps_are_sound, hands_are_sound, has_feed, has_output, is_sound_cache, is_short, is_sound_hand, is_sound_under, is_within, parts_are_within, rise};
 
-use crate::code_length::base_length;
 use crate::content::LAST_MOMENT;
 use crate::distinct::{are_apart_below, hands_differ, keys_differ, names_differ};
 use crate::facts::{collects, is_instance, writes};
 use crate::standing::standing;
-use base_types::{BotName, Dump, Moment, OutOfMemory, QueueName, queue_of};
+use base_types::{
+    BotName, Coded, Dump, Hand, Mark, Moment, OutOfMemory, Queue, QueueName, queue_of,
+};
 use std::alloc::Global;
-use step_code::{Base, BotCache, Facts, Feed, Hand, Mark, Output, Queue};
+use step_code::{Base, BotCache, Facts, Feed, Output};
 
 /// No number in a state goes past this one, so that sums with lengths fit 64 bits.
 const LAST_NUMBER: u64 = 4_611_686_018_427_387_905;
@@ -38,6 +40,7 @@ fn counts_are_within(base: &Base) -> bool
         && is_within(base.steps)
         && is_within(base.next_message)
         && is_within(base.next_dump)
+        && is_within(base.discarded)
         && is_within(base.bundle_no)
 }
 
@@ -224,7 +227,7 @@ fn bots_have_places(bots: &[Facts], base: &Base) -> bool
 fn is_short(base: &Base) -> bool
     ensures { result ≡ is_short base.now }
 {
-    base_length(base) <= LONGEST_BASE
+    base.code_len() <= LONGEST_BASE
 }
 
 fn is_sound_under(alloc: Global, bots: &[Facts], base: &Base) -> Result<bool, OutOfMemory>

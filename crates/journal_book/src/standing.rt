@@ -2,9 +2,9 @@
 ghost use Rattle.std.specs.Prelude.{◌≡◌, ◌++◌, map, IfOk, OnOk};
 ghost use Rattle.step_code.specs.Places.{standing, waiting_numbers};
 
-use base_types::{Dump, Msg};
+use base_types::{Dump, Hand, Msg, Queue};
 use std::alloc::{AllocError, Global};
-use step_code::{Base, Hand, Queue};
+use step_code::Base;
 
 fn push_messages(numbers: &mut Vec<u64>, messages: &[Msg]) -> Result<(), AllocError>
     ensures { OnOk result (numbers.new.items ≡ numbers.old.items ++ map (λ message. message.no) messages.now) }

@@ -5,11 +5,12 @@ use Rattle.std.proofs.lemmas.List.Sums.{sum_by-append}
 use Rattle.base_types.specs.declared.message.Msg.{Msg}
 use Rattle.base_types.specs.declared.message.FaultNote.{FaultNote}
 use Rattle.base_types.specs.declared.message.Moment.{Moment}
-use Rattle.step_code.specs.declared.base.Queue.{Queue}
-use Rattle.step_code.specs.declared.base.Hand.{Hand}
-use Rattle.step_code.specs.Lists.{changed, without}
-use Rattle.step_code.specs.State.{queued, is_queue, is_hand}
-use Rattle.step_code.specs.After.{put, put_all, numbered}
+use Rattle.base_types.specs.declared.queue.Queue.{Queue}
+use Rattle.base_types.specs.declared.hand.Hand.{Hand}
+use Rattle.base_types.specs.Lists.{changed, without}
+use Rattle.base_types.specs.Queue.{queued, is_queue, put, put_all}
+use Rattle.base_types.specs.Hand.{is_hand}
+use Rattle.step_code.specs.After.{numbered}
 use Rattle.step_code.specs.Places.{waiting_numbers}
 
 -- how often n stands in a list

@@ -8,7 +8,7 @@ use Rattle.step_code.specs.declared.rules.Role.TheVariants as role
 use Rattle.step_code.specs.declared.step.Step.{Step}
 use Rattle.step_code.specs.declared.step.StepKind.TheVariants as kind
 use Rattle.step_code.specs.declared.step.StepRefusal.TheVariants as refusal
-use Rattle.step_code.specs.Lists.{AreBytes}
+use Rattle.base_types.specs.Lists.{AreBytes}
 use Rattle.step_code.specs.Rules.{Meaning}
 use Rattle.step_code.specs.Fits.{parts, first_failing}
 use Rattle.step_code.specs.Content.{IsInTime, May}
@@ -42,6 +42,7 @@ end : replay m start steps ≡ record {
   steps = 5;
   next_message = 2;
   next_dump = 1;
+  discarded = 0;
   latest = record { 0 = 100 };
   bundle_no = 1;
   bundle = [];

@@ -11,13 +11,14 @@ use Rattle.step_code.specs.declared.base.Base.{Base}
 use Rattle.step_code.specs.declared.step.Step.{Step}
 use Rattle.step_code.specs.declared.step.StepKind.{StepKind}
 use Rattle.step_code.specs.declared.step.StepKind.TheVariants as kind
-use Rattle.step_code.specs.Lists.{IsIn}
+use Rattle.base_types.specs.Lists.{IsIn}
 use Rattle.step_code.specs.Rules.{Meaning}
-use Rattle.step_code.specs.State.{queue_name, waiting}
+use Rattle.base_types.specs.Name.{queue_name}
+use Rattle.step_code.specs.State.{waiting}
 use Rattle.step_code.specs.After.{after, taken_first}
 use Rattle.step_code.specs.History.{Legal, replay}
 use Rattle.step_code.specs.Places.{settled, settled_by, dumps_of, places, standing, IsMade}
-use Rattle.step_code.proofs.Everywhere.{all-append, all_in, all_wider}
+use Rattle.base_types.proofs.Everywhere.{all-append, all_in, all_wider}
 use Rattle.step_code.proofs.Counts.{times, times-append, times-cons, numbers_from, numbers_from-append}
 use Rattle.step_code.proofs.Steps.{conserves, made, next_after, stands}
 

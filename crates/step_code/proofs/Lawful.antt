@@ -5,21 +5,24 @@ use Rattle.base_types.specs.declared.message.Msg.{Msg}
 use Rattle.base_types.specs.declared.message.Moment.{Moment}
 use Rattle.base_types.specs.declared.message.FaultNote.{FaultNote}
 use Rattle.step_code.specs.declared.base.Base.{Base}
-use Rattle.step_code.specs.declared.base.Hand.{Hand}
-use Rattle.step_code.specs.declared.base.Queue.{Queue}
-use Rattle.step_code.specs.declared.base.Output.{Output}
+use Rattle.base_types.specs.declared.hand.Hand.{Hand}
+use Rattle.base_types.specs.declared.queue.Queue.{Queue}
+use Rattle.step_code.specs.declared.output.Output.{Output}
 use Rattle.step_code.specs.declared.rules.Facts.{Facts}
 use Rattle.step_code.specs.declared.step.Step.{Step}
 use Rattle.step_code.specs.declared.step.StepKind.{StepKind}
 use Rattle.step_code.specs.declared.step.StepKind.TheVariants as kind
-use Rattle.step_code.specs.Lists.{AreBytes, changed, without}
+use Rattle.base_types.specs.Lists.{AreBytes, changed, without}
 use Rattle.step_code.specs.Rules.{Meaning, Task, FitsBot, IsLawful, bot_named, is_collector, last_moment}
-use Rattle.step_code.specs.State.{is_instance, bots_in_force, queue_name, waiting, is_queue, is_feed, is_hand, is_out, hand_of}
-use Rattle.step_code.specs.After.{cached, cache_rule, body_in_hand, after, put, put_all, numbered, sent, dumped, reports, taken_first, written}
+use Rattle.step_code.specs.State.{is_instance, bots_in_force, waiting, is_feed, is_out, hand_of}
+use Rattle.base_types.specs.Name.{queue_name}
+use Rattle.base_types.specs.Queue.{is_queue, put, put_all}
+use Rattle.base_types.specs.Hand.{is_hand}
+use Rattle.step_code.specs.After.{cached, cache_rule, body_in_hand, after, numbered, sent, dumped, reports, taken_first, written}
 use Rattle.step_code.specs.Content.{Carries, May, is_duplicate}
 use Rattle.step_code.specs.History.{Legal, replay}
 use Rattle.step_code.specs.Places.{AreLawful}
-use Rattle.step_code.proofs.Everywhere.{all-append, all_changed, all_changed_or_added, all_without, all_found}
+use Rattle.base_types.proofs.Everywhere.{all-append, all_changed, all_changed_or_added, all_without, all_found}
 use Rattle.step_code.proofs.Parts.{done_fits, collect_fits, passes_there}
 
 module _ (m : Meaning) where

@@ -1,13 +1,8 @@
-mod Appended
-mod Counted
 mod Counts
-mod Everywhere
-mod Fields
-pub mod Found
 mod Histories
 mod Lawful
+mod Lengths
 mod Parts
-mod Readers
 mod Replayable
 mod StateLaws
 mod StepLaws

@@ -1,33 +1,25 @@
 -- A step that is read is the step that was written, and what was written is read again.
-use Rattle.std.proofs.Common.{◌≡◌, ◌≢◌, ℕ, ◌^◌, ◌<◌, ◌≤◌, Bool, true, eqb, List, [], ◌∷◌, ◌++◌, Option, Some, None, refl, sym, ap, subst, ◌∙◌, append_assoc, arith}
-use Rattle.std.specs.Prelude.{IfSome}
-use Rattle.std.specs.Int.{w16, w64}
+use Rattle.std.proofs.Common.{◌≡◌, ◌≢◌, ℕ, ◌<◌, ◌≤◌, Bool, true, eqb, List, ◌++◌, Option, Some, None, refl, sym, ap, subst, ◌∙◌, append_assoc, arith}
 use Rattle.std.proofs.lemmas.Option.{none-some}
 use Rattle.std.proofs.lemmas.Bool.{eqb-true, eqb-false}
 use Rattle.base_types.specs.declared.message.FaultNote.{FaultNote}
+use Rattle.base_types.specs.Code.{byte, moment, byte_at, moment_at, IsBlob, IsBot, IsByte, IsList, IsNumber, IsOptional}
+use Rattle.base_types.specs.Coded.{◌>>=◌, Reader}
+use Rattle.base_types.specs.Lists.{AreBytes}
+use Rattle.base_types.proofs.Readers.{bind_some, some_is, Takes, Takes-then, Law, both_law, made_law, choice_law}
+use Rattle.base_types.proofs.FieldLaws.{byte_law, u64_law, moment_law, blob_law, bot_law, queue_name_law, flag_law, optional_law, list_law}
+use Rattle.base_types.proofs.Laws.{note_law}
 use Rattle.step_code.specs.declared.step.Step.{Step}
 use Rattle.step_code.specs.declared.step.StepKind.{StepKind}
 use Rattle.step_code.specs.declared.step.StepKind.TheVariants as kind
-use Rattle.step_code.specs.Code.{number, note, send, bad_part, kind_byte, kind_fields, code_of_step, IsNumber, IsBot, IsBlob, IsList, IsNote, IsSend, IsBadPart, IsWritableKind, IsWritable}
-use Rattle.step_code.specs.Reading.{◌>>=◌, Reader, both, byte_at, number_at, note_at, send_at, bad_part_at, collect_at, feed_end_at, take_at, done_at, kind_at, step_at}
-use Rattle.step_code.proofs.Readers.{IsBytes, bind_some, some_is, Takes, Takes-then, Law, both_law, made_law, same_law, choice_law}
-use Rattle.step_code.proofs.Fields.{byte_law, wide16, wide64, number_law, blob_law, bot_law, queue_name_law, text_law, flag_law, optional_law, list_law}
-
-pub u64_law : Law (number_at w64) number IsNumber
-u64_law = number_law w64 (2 ^ 64) wide64
-
-pub note_law : Law note_at note IsNote
-unfolding note_at
-note_law = made_law (λ n. record { code = n.0; text = n.1 }) (both_law (number_law w16 (2 ^ 16) wide16) text_law) note IsNote (λ a. refl)
-    (λ a fit. record { code = fit.0; text = fit.1.0; utf8 = fit.1.1 }) (λ n fit. ((n.code, n.text), refl, (fit.code, (fit.text, fit.utf8))))
+use Rattle.step_code.specs.Code.{send, bad_part, kind_byte, kind_fields, code_of_step, IsSend, IsBadPart, IsWritableKind, IsWritable}
+use Rattle.step_code.specs.Reading.{send_at, bad_part_at, collect_at, feed_end_at, take_at, done_at, kind_at, step_at}
 
 pub send_law : Law send_at send IsSend
-unfolding send_at
-send_law = same_law (both_law queue_name_law blob_law) (λ a fit. record { queue = fit.0; body = fit.1 }) (λ s fit. (fit.queue, fit.body))
+send_law = both_law queue_name_law blob_law
 
 pub bad_part_law : Law bad_part_at bad_part IsBadPart
-unfolding bad_part_at
-bad_part_law = same_law (both_law blob_law note_law) (λ a fit. record { body = fit.0; note = fit.1 }) (λ d fit. (fit.body, fit.note))
+bad_part_law = both_law blob_law note_law
 
 -- ---- kinds of steps
 
@@ -38,7 +30,7 @@ IsOf byte k = (kind_byte k ≡ byte) × IsWritableKind k
 abbrev start_read : Reader StepKind
 start_read bytes = Some (kind.Start, bytes)
 
-start_takes : (bytes : List ℕ) (x : StepKind × List ℕ) → IsBytes bytes → start_read bytes ≡ Some x → Takes bytes (kind_fields x.0) x.1 × IsOf 1 x.0
+start_takes : (bytes : List ℕ) (x : StepKind × List ℕ) → AreBytes bytes → start_read bytes ≡ Some x → Takes bytes (kind_fields x.0) x.1 × IsOf 1 x.0
 start_takes bytes x whole e =
     subst (λ (y : StepKind × List ℕ). Takes bytes (kind_fields y.0) y.1 × IsOf 1 y.0) (some_is (kind.Start, bytes) x e) (record { parts = refl; rest_fits = whole }, (refl, tt))
 
@@ -58,7 +50,7 @@ collect_fields k fit = absurd (omega (arith, fit.0))
 
 collect_law : Law collect_at kind_fields (IsOf 2)
 unfolding collect_at
-collect_law = made_law (λ f. kind.Collect f.0.0.0 f.0.0.1 f.0.1 f.1) (both_law (both_law (both_law bot_law u64_law) u64_law) blob_law) kind_fields (IsOf 2) (λ a. refl)
+collect_law = made_law (λ (((bot, from), upto), piece). kind.Collect bot from upto piece) (both_law (both_law (both_law bot_law u64_law) u64_law) blob_law) kind_fields (IsOf 2) (λ a. refl)
     (λ a fit. (refl, (fit.0.0.0, fit.0.0.1, fit.0.1, fit.1))) collect_fields
 
 feed_end_fields : (k : StepKind) → IsOf 3 k → (f : List ℕ × ℕ) × (kind.FeedEnd f.0 f.1 ≡ k) × (IsBot f.0 × IsNumber f.1)
@@ -67,52 +59,42 @@ feed_end_fields k fit = absurd (omega (arith, fit.0))
 
 feed_end_law : Law feed_end_at kind_fields (IsOf 3)
 unfolding feed_end_at
-feed_end_law = made_law (λ f. kind.FeedEnd f.0 f.1) (both_law bot_law u64_law) kind_fields (IsOf 3) (λ a. refl) (λ a fit. (refl, fit)) feed_end_fields
+feed_end_law = made_law (λ (bot, position). kind.FeedEnd bot position) (both_law bot_law u64_law) kind_fields (IsOf 3) (λ a. refl) (λ a fit. (refl, fit)) feed_end_fields
 
-take_fields : (k : StepKind) → IsOf 4 k → (f : List ℕ × (ℕ × ℕ)) × (kind.Take f.0 f.1.0 f.1.1 ≡ k) × (IsBot f.0 × ((f.1.0 < 256) × IsNumber f.1.1))
-take_fields (kind.Take bot instance message) fit = ((bot, (instance, message)), refl, (fit.1.0, (fit.1.1, fit.1.2)))
+take_fields : (k : StepKind) → IsOf 4 k → (f : (List ℕ × ℕ) × ℕ) × (kind.Take f.0.0 f.0.1 f.1 ≡ k) × ((IsBot f.0.0 × IsByte f.0.1) × IsNumber f.1)
+take_fields (kind.Take bot instance message) fit = (((bot, instance), message), refl, ((fit.1.0, fit.1.1), fit.1.2))
 take_fields k fit = absurd (omega (arith, fit.0))
 
 take_law : Law take_at kind_fields (IsOf 4)
 unfolding take_at
-take_law = made_law (λ f. kind.Take f.0 f.1.0 f.1.1) (both_law bot_law (both_law byte_law u64_law)) kind_fields (IsOf 4) (λ a. refl) (λ a fit. (refl, (fit.0, fit.1.0, fit.1.1))) take_fields
+take_law = made_law (λ ((bot, instance), message). kind.Take bot instance message) (both_law (both_law bot_law byte_law) u64_law) kind_fields (IsOf 4) (λ a. refl) (λ a ((bot, instance), message). (refl, (bot, instance, message))) take_fields
 
 -- the fields of a step of the fifth kind, as they are read
 abbrev DoneFields : Type 0
-DoneFields = ((((((List ℕ × (ℕ × ℕ)) × ℕ) × List (List ℕ × List ℕ)) × List (List ℕ × FaultNote)) × Option (List ℕ)) × Bool)
+DoneFields = (((((((List ℕ × ℕ) × ℕ) × ℕ) × List (List ℕ × List ℕ)) × List (List ℕ × FaultNote)) × Option (List ℕ)) × Bool)
 
 abbrev done_of : DoneFields → StepKind
-done_of f = kind.Done f.0.0.0.0.0.0 f.0.0.0.0.0.1.0 f.0.0.0.0.0.1.1 f.0.0.0.0.1 f.0.0.0.1 f.0.0.1 f.0.1 f.1
+done_of = λ (((((((bot, instance), message), bundle), sends), dumps), key), line). kind.Done bot instance message bundle sends dumps key line
 
 abbrev AreDone : DoneFields → Type 0
-AreDone f =
-    (((((((IsBot f.0.0.0.0.0.0 × ((f.0.0.0.0.0.1.0 < 256) × IsNumber f.0.0.0.0.0.1.1)) × IsNumber f.0.0.0.0.1) × IsList IsSend f.0.0.0.1) × IsList IsBadPart f.0.0.1) × IfSome f.0.1 IsBlob) × Unit {0}))
+AreDone = λ (((((((bot, instance), message), bundle), sends), dumps), key), line).
+    (((((((IsBot bot × IsByte instance) × IsNumber message) × IsNumber bundle) × IsList IsSend sends) × IsList IsBadPart dumps) × IsOptional key) × Unit {0})
 
 done_fields : (k : StepKind) → IsOf 5 k → (f : DoneFields) × (done_of f ≡ k) × AreDone f
 done_fields (kind.Done bot instance message bundle sends dumps key line) fit = (
-  ((((((bot, (instance, message)), bundle), sends), dumps), key), line),
+  (((((((bot, instance), message), bundle), sends), dumps), key), line),
   refl,
-  ((((((fit.1.bot_name, (fit.1.instance_byte, fit.1.message_number)), fit.1.bundle_number), fit.1.send_list), fit.1.dump_list), fit.1.key_blob), tt),
+  (((((((fit.1.bot_name, fit.1.instance_byte), fit.1.message_number), fit.1.bundle_number), fit.1.send_list), fit.1.dump_list), fit.1.key_blob), tt),
 )
 done_fields k fit = absurd (omega (arith, fit.0))
 
 are_done : (f : DoneFields) → AreDone f → IsOf 5 (done_of f)
-are_done f fit = (
-  refl,
-  record {
-    bot_name = fit.0.0.0.0.0.0;
-    instance_byte = fit.0.0.0.0.0.1.0;
-    message_number = fit.0.0.0.0.0.1.1;
-    bundle_number = fit.0.0.0.0.1;
-    send_list = fit.0.0.0.1;
-    dump_list = fit.0.0.1;
-    key_blob = fit.0.1;
-  },
-)
+are_done f (((((((bot, instance), message), bundle), sends), dumps), key), line) =
+    (refl, record { bot_name = bot; instance_byte = instance; message_number = message; bundle_number = bundle; send_list = sends; dump_list = dumps; key_blob = key })
 
 done_law : Law done_at kind_fields (IsOf 5)
 unfolding done_at
-done_law = made_law done_of (both_law (both_law (both_law (both_law (both_law (both_law bot_law (both_law byte_law u64_law)) u64_law) (list_law send_law)) (list_law bad_part_law)) optional_law) flag_law)
+done_law = made_law done_of (both_law (both_law (both_law (both_law (both_law (both_law (both_law bot_law byte_law) u64_law) u64_law) (list_law send_law)) (list_law bad_part_law)) optional_law) flag_law)
     kind_fields (IsOf 5) (λ a. refl) are_done done_fields
 
 -- no kind has another byte
@@ -143,28 +125,28 @@ kind_law byte =
 
 -- ---- steps
 
-head_law : Law (both byte_at (number_at w64)) (λ p. (p.0 ∷ []) ++ number p.1) (λ p. (p.0 < 256) × IsNumber p.1)
-head_law = both_law byte_law u64_law
-
-step_takes : (bytes : List ℕ) (x : Step × List ℕ) → IsBytes bytes → step_at bytes ≡ Some x → Takes bytes (code_of_step x.0) x.1 × IsWritable x.0
+step_takes : (bytes : List ℕ) (x : Step × List ℕ) → AreBytes bytes → step_at bytes ≡ Some x → Takes bytes (code_of_step x.0) x.1 × IsWritable x.0
 unfolding step_at
 step_takes bytes x whole e =
-    let h = bind_some (both byte_at (number_at w64) bytes) (λ head. kind_at head.0.0 head.1 >>= λ what. Some (record { moment = record { 0 = head.0.1 }; what = what.0 }, what.1)) x e in
-    let k = bind_some (kind_at h.0.0.0 h.0.1) (λ what. Some (record { moment = record { 0 = h.0.0.1 }; what = what.0 }, what.1)) x h.2 in
-    let t = head_law.takes bytes h.0 whole h.1 in
-    let u = (kind_law h.0.0.0).takes h.0.1 k.0 t.0.rest_fits k.1 in
-    let joined = Takes-then bytes (h.0.0.0 ∷ number h.0.0.1) h.0.1 (kind_fields k.0.0) k.0.1 t.0 u.0 in
-    let coded = subst (λ (b : ℕ). Takes bytes (b ∷ number h.0.0.1 ++ kind_fields k.0.0) k.0.1) (sym u.1.0) joined in
-    let made : Step × List ℕ = (record { moment = record { 0 = h.0.0.1 }; what = k.0.0 }, k.0.1) in
-    subst (λ (y : Step × List ℕ). Takes bytes (code_of_step y.0) y.1 × IsWritable y.0) (some_is made x k.2) (coded, record { moment = t.1.1; what = u.1.1 })
+    let b = bind_some (byte_at bytes) (λ byte. moment_at byte.1 >>= λ moment. kind_at byte.0 moment.1 >>= λ what. Some (record { moment = moment.0; what = what.0 }, what.1)) x e in
+    let m = bind_some (moment_at b.0.1) (λ moment. kind_at b.0.0 moment.1 >>= λ what. Some (record { moment = moment.0; what = what.0 }, what.1)) x b.2 in
+    let k = bind_some (kind_at b.0.0 m.0.1) (λ what. Some (record { moment = m.0.0; what = what.0 }, what.1)) x m.2 in
+    let s = byte_law.takes bytes b.0 whole b.1 in
+    let t = moment_law.takes b.0.1 m.0 s.0.rest_fits m.1 in
+    let u = (kind_law b.0.0).takes m.0.1 k.0 t.0.rest_fits k.1 in
+    let head = Takes-then bytes (byte b.0.0) b.0.1 (moment m.0.0) m.0.1 s.0 t.0 in
+    let joined = Takes-then bytes (byte b.0.0 ++ moment m.0.0) m.0.1 (kind_fields k.0.0) k.0.1 head u.0 in
+    let coded = subst (λ (n : ℕ). Takes bytes (byte n ++ moment m.0.0 ++ kind_fields k.0.0) k.0.1) (sym u.1.0) joined in
+    let made : Step × List ℕ = (record { moment = m.0.0; what = k.0.0 }, k.0.1) in
+    subst (λ (y : Step × List ℕ). Takes bytes (code_of_step y.0) y.1 × IsWritable y.0) (some_is made x k.2) (coded, record { moment = t.1; what = u.1.1 })
 
 step_again : (step : Step) (rest : List ℕ) → IsWritable step → step_at (code_of_step step ++ rest) ≡ Some (step, rest)
 unfolding step_at
 step_again step rest fit =
-    let head : ℕ × ℕ = (kind_byte step.what, step.moment.0) in
     let low : kind_byte step.what < 256 = omega (arith, kind_byte_low step.what) in
-    ap step_at (append_assoc (kind_byte step.what ∷ number step.moment.0) (kind_fields step.what) rest)
-    ∙ rw (head_law.again head (kind_fields step.what ++ rest) (low, fit.moment), (kind_law (kind_byte step.what)).again step.what rest (refl, fit.what)) refl
+    let tail = kind_fields step.what ++ rest in
+    ap step_at (append_assoc (byte (kind_byte step.what) ++ moment step.moment) (kind_fields step.what) rest ∙ append_assoc (byte (kind_byte step.what)) (moment step.moment) tail)
+    ∙ rw (byte_law.again (kind_byte step.what) (moment step.moment ++ tail) low, moment_law.again step.moment tail fit.moment, (kind_law (kind_byte step.what)).again step.what rest (refl, fit.what)) refl
 
 pub step_law : Law step_at code_of_step IsWritable
 step_law = record { takes = step_takes; again = step_again }

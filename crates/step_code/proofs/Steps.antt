@@ -9,13 +9,13 @@ use Rattle.step_code.specs.declared.step.Step.{Step}
 use Rattle.step_code.specs.declared.step.StepKind.{StepKind}
 use Rattle.step_code.specs.declared.step.StepKind.TheVariants as kind
 use Rattle.step_code.specs.Rules.{Meaning}
-use Rattle.step_code.specs.State.{queue_name, waiting}
+use Rattle.base_types.specs.Name.{queue_name}
+use Rattle.step_code.specs.State.{waiting, is_feed, hand_of}
 use Rattle.step_code.specs.Fits.{Fits}
-use Rattle.step_code.specs.Lists.{changed, without}
-use Rattle.step_code.specs.State.{is_feed, is_hand, hand_of}
-use Rattle.step_code.specs.After.{cached, cache_rule, written, body_in_hand}
+use Rattle.base_types.specs.Lists.{changed, without}
+use Rattle.base_types.specs.Hand.{is_hand}
+use Rattle.step_code.specs.After.{cached, cache_rule, written, body_in_hand, taken, after, reports, sent, dumped, numbered, taken_first}
 use Rattle.step_code.proofs.Parts.{done_fits, passes_number}
-use Rattle.step_code.specs.After.{taken, after, reports, sent, dumped, numbered, taken_first}
 use Rattle.step_code.specs.Content.{Matches, IsFront}
 use Rattle.step_code.specs.Places.{standing, settled_by, waiting_numbers}
 use Rattle.step_code.proofs.Counts.{times, times-append, numbers_from, numbers_from-append, waits-put_all, waits-taken, numbers-numbered, holds-without}

@@ -1,31 +1,27 @@
 -- What a step leaves.
-use Rattle.std.specs.Prelude.{◌+◌, ◌-◌, ℕ, suc, Bool, true, List, [], ◌∷◌, ◌++◌, length, map, drop, Option, Some, None, option_map, option_and_then, unwrap_or, if◌then◌else◌}
+use Rattle.std.specs.Prelude.{◌+◌, ℕ, suc, Bool, true, List, [], ◌∷◌, ◌++◌, length, map, drop, Option, Some, None, option_map, option_and_then, unwrap_or, if◌then◌else◌}
 use Rattle.base_types.specs.declared.message.Moment.{Moment}
 use Rattle.base_types.specs.declared.message.Msg.{Msg}
 use Rattle.base_types.specs.declared.message.Dump.{Dump}
 use Rattle.base_types.specs.declared.message.FaultNote.{FaultNote}
 use Rattle.step_code.specs.declared.base.Base.{Base}
-use Rattle.step_code.specs.declared.base.Queue.{Queue}
-use Rattle.step_code.specs.declared.base.Mark.{Mark}
-use Rattle.step_code.specs.declared.base.BotCache.{BotCache}
-use Rattle.step_code.specs.declared.base.Output.{Output}
+use Rattle.base_types.specs.declared.mark.Mark.{Mark}
+use Rattle.step_code.specs.declared.cache.BotCache.{BotCache}
+use Rattle.step_code.specs.declared.output.Output.{Output}
 use Rattle.step_code.specs.declared.rules.CacheRule.{CacheRule}
 use Rattle.step_code.specs.declared.rules.Facts.{Facts}
 use Rattle.step_code.specs.declared.step.Step.{Step}
 use Rattle.step_code.specs.declared.step.StepKind.{StepKind}
 use Rattle.step_code.specs.declared.step.StepKind.TheVariants as kind
-use Rattle.step_code.specs.Lists.{changed, changed_or_added, without}
+use Rattle.base_types.specs.Lists.{changed, changed_or_added, without}
+use Rattle.base_types.specs.Queue.{put_all}
+use Rattle.base_types.specs.Mark.{trimmed}
 use Rattle.step_code.specs.Rules.{Meaning, bot_named}
-use Rattle.step_code.specs.State.{bots_in_force, queue_name, is_queue, is_hand, is_feed, is_cache, is_out, waiting, hand_of, fresh}
-
--- a message at the end of the queue of this name; a queue that isn't there is made at the end
-abbrev pub put : List ℕ → Msg → List Queue → List Queue
-put name message queues = changed_or_added (is_queue name) (λ q. record q { messages = q.messages ++ message ∷ [] }) (record { name = name; messages = message ∷ [] }) queues
-
--- bodies on queues, one after the other, as messages with the numbers from this one on
-abbrev pub put_all : ℕ → List (List ℕ × List ℕ) → List Queue → List Queue
-put_all next [] queues = queues
-put_all next (send ∷ sends) queues = put_all (suc next) sends (put send.0 (record { no = next; body = send.1 }) queues)
+use Rattle.step_code.specs.State.{bots_in_force, is_feed, is_cache, is_out, waiting, hand_of}
+use Rattle.base_types.specs.Name.{queue_name}
+use Rattle.base_types.specs.Queue.{is_queue}
+use Rattle.base_types.specs.Hand.{is_hand}
+use Rattle.base_types.specs.Mark.{fresh}
 
 -- bodies and their faults as dumps, with the numbers of messages and of dumps from these on
 abbrev pub numbered : ℕ → ℕ → List ℕ → Moment → List (List ℕ × FaultNote) → List Dump
@@ -44,10 +40,6 @@ dumped bot moment items s = record s {
   next_message = s.next_message + length items;
   next_dump = s.next_dump + length items;
 }
-
--- the oldest marks leave until fewer than so many are there
-abbrev pub trimmed : ℕ → List Mark → List Mark
-trimmed below marks = drop (suc (length marks) - below) marks
 
 -- old marks leave, and the key is marked
 abbrev pub marked : CacheRule → Moment → List ℕ → List Mark → List Mark

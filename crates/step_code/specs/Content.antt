@@ -3,16 +3,18 @@ use Rattle.std.specs.Prelude.{◌≡◌, ◌≤◌, ◌<◌, ℕ, Bool, true, fa
 use Rattle.base_types.specs.declared.message.Msg.{Msg}
 use Rattle.base_types.specs.declared.message.FaultNote.{FaultNote}
 use Rattle.step_code.specs.declared.base.Base.{Base}
-use Rattle.step_code.specs.declared.base.Hand.{Hand}
-use Rattle.step_code.specs.declared.base.Mark.{Mark}
+use Rattle.base_types.specs.declared.hand.Hand.{Hand}
+use Rattle.base_types.specs.declared.mark.Mark.{Mark}
 use Rattle.step_code.specs.declared.rules.CacheRule.{CacheRule}
 use Rattle.step_code.specs.declared.rules.Given.TheVariants as given
 use Rattle.step_code.specs.declared.step.Step.{Step}
 use Rattle.step_code.specs.declared.step.StepKind.{StepKind}
 use Rattle.step_code.specs.declared.step.StepKind.TheVariants as kind
-use Rattle.step_code.specs.Lists.{AreBytes}
+use Rattle.base_types.specs.Lists.{AreBytes}
 use Rattle.step_code.specs.Rules.{Meaning, bot_named, last_moment, writes, passes}
-use Rattle.step_code.specs.State.{bots_in_force, queue_name, waiting, hand_of, marks_of, fresh, is_marked}
+use Rattle.step_code.specs.State.{bots_in_force, waiting, hand_of, marks_of}
+use Rattle.base_types.specs.Name.{queue_name}
+use Rattle.base_types.specs.Mark.{fresh, is_marked}
 use Rattle.step_code.specs.After.{cache_rule}
 use Rattle.step_code.specs.Fits.{Fits}
 

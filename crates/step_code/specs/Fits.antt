@@ -8,7 +8,8 @@ use Rattle.step_code.specs.declared.step.StepKind.TheVariants as kind
 use Rattle.step_code.specs.declared.step.StepRefusal.{StepRefusal}
 use Rattle.step_code.specs.declared.step.StepRefusal.TheVariants as refusal
 use Rattle.step_code.specs.Rules.{Meaning, is_collector, passes}
-use Rattle.step_code.specs.State.{bots_in_force, queue_name, waiting, held, position_of, has_finished, is_halted, is_instance, backlog}
+use Rattle.step_code.specs.State.{bots_in_force, waiting, held, position_of, has_finished, is_halted, is_instance, backlog}
+use Rattle.base_types.specs.Name.{queue_name}
 
 -- the bodies in live queues have fewer bytes together than this, or nothing is collected
 abbrev pub backlog_limit : ℕ

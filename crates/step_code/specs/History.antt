@@ -5,7 +5,8 @@ use Rattle.step_code.specs.declared.base.Base.{Base}
 use Rattle.step_code.specs.declared.rules.Facts.{Facts}
 use Rattle.step_code.specs.declared.step.Step.{Step}
 use Rattle.step_code.specs.Rules.{Meaning, collects, writes}
-use Rattle.step_code.specs.State.{bots_in_force, queue_name, waiting, has_finished}
+use Rattle.step_code.specs.State.{bots_in_force, waiting, has_finished}
+use Rattle.base_types.specs.Name.{queue_name}
 use Rattle.step_code.specs.After.{after}
 use Rattle.step_code.specs.Content.{May}
 
@@ -15,6 +16,7 @@ first bots bundle = record {
   steps = 0;
   next_message = 1;
   next_dump = 1;
+  discarded = 0;
   latest = record { 0 = 0 };
   bundle_no = 1;
   bundle = bundle;

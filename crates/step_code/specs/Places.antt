@@ -3,11 +3,11 @@ use Rattle.std.specs.Prelude.{◌≡◌, ◌+◌, ◌≤◌, ◌<◌, ◌==◌, 
 use Rattle.std.specs.List.{AllByRecursion}
 use Rattle.base_types.specs.declared.message.Dump.{Dump}
 use Rattle.step_code.specs.declared.base.Base.{Base}
-use Rattle.step_code.specs.declared.base.Queue.{Queue}
+use Rattle.base_types.specs.declared.queue.Queue.{Queue}
 use Rattle.step_code.specs.declared.step.Step.{Step}
 use Rattle.step_code.specs.declared.step.StepKind.{StepKind}
 use Rattle.step_code.specs.declared.step.StepKind.TheVariants as kind
-use Rattle.step_code.specs.Lists.{IsIn}
+use Rattle.base_types.specs.Lists.{IsIn}
 use Rattle.step_code.specs.Rules.{Meaning, IsLawful}
 use Rattle.step_code.specs.After.{after, numbered}
 use Rattle.step_code.specs.History.{replay}

@@ -5,14 +5,16 @@ use Rattle.std.specs.Str.{bytes_eq}
 use Rattle.std.specs.List.Sorted.{IsSorted, IsStrictlySortedBy}
 use Rattle.std.specs.Ordering.{nat_cmp}
 use Rattle.step_code.specs.declared.base.Base.{Base}
-use Rattle.step_code.specs.declared.base.BotCache.{BotCache}
-use Rattle.step_code.specs.declared.base.Hand.{Hand}
+use Rattle.step_code.specs.declared.cache.BotCache.{BotCache}
+use Rattle.base_types.specs.declared.hand.Hand.{Hand}
 use Rattle.step_code.specs.declared.rules.Facts.{Facts}
-use Rattle.step_code.specs.Code.{code_of_base}
-use Rattle.step_code.specs.Lists.{IsIn}
+use Rattle.step_code.specs.Code.{code_of_base, first_format}
+use Rattle.base_types.specs.Lists.{IsIn}
 use Rattle.step_code.specs.Places.{standing}
 use Rattle.step_code.specs.Rules.{Meaning, collects, last_moment, writes}
-use Rattle.step_code.specs.State.{is_hand, is_instance, queue_name}
+use Rattle.base_types.specs.Hand.{is_hand}
+use Rattle.step_code.specs.State.{is_instance}
+use Rattle.base_types.specs.Name.{queue_name}
 
 -- the longest code of a state
 abbrev pub longest_base : ℕ
@@ -44,7 +46,7 @@ pub record IsSoundCache (latest : ℕ) (c : BotCache) : Type 0 where
 -- each number of 64 bits in a state
 abbrev pub numbers_of : Base → List ℕ
 numbers_of b =
-    b.steps ∷ b.next_message ∷ b.next_dump ∷ b.latest.0 ∷ b.bundle_no ∷ standing b
+    b.steps ∷ b.next_message ∷ b.next_dump ∷ b.discarded ∷ b.latest.0 ∷ b.bundle_no ∷ standing b
     ++ map (λ h. h.since.0) b.hands
     ++ flat_map (λ c. map (λ mark. mark.moment.0) c.marks) b.caches
     ++ flat_map (λ d. d.no ∷ d.moment.0 ∷ []) b.dumps
@@ -77,4 +79,4 @@ pub record IsSoundState (m : Meaning) (b : Base) : Type 0 where
 -- a state that the core takes in: its code has a length that a store may hold
 pub record IsSound (m : Meaning) (b : Base) : Type 0 where
   pub state : IsSoundState m b
-  pub short : length (code_of_base b) ≤ longest_base
+  pub short : length (code_of_base first_format b) ≤ longest_base

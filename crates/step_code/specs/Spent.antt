@@ -1,8 +1,9 @@
 -- The numbers that a step brings, and the first of them that passes the last one that may be given.
-use Rattle.std.specs.Prelude.{◌≡◌, ◌+◌, ◌-◌, ◌^◌, ℕ, Bool, List, [], ◌∷◌, length, map, min, sum_by, Option, None, find, nat_lt}
+use Rattle.std.specs.Prelude.{◌≡◌, ◌+◌, ◌-◌, ◌^◌, ℕ, Bool, List, ◌∷◌, length, map, min, sum_by, Option, None, find, nat_lt}
 use Rattle.step_code.specs.declared.base.Base.{Base}
-use Rattle.step_code.specs.declared.base.Output.{Output}
+use Rattle.step_code.specs.declared.output.Output.{Output}
 use Rattle.step_code.specs.declared.step.Step.{Step}
+use Rattle.base_types.specs.Number.{last_u64}
 use Rattle.step_code.specs.Rules.{Meaning}
 use Rattle.step_code.specs.After.{after}
 
@@ -13,10 +14,6 @@ last_given = 2 ^ 62
 -- numbers are given one by one: the first one behind the last is the first that can't be given
 abbrev pub up_to_spent : ℕ → ℕ
 up_to_spent n = min n (last_given + 1)
-
--- the greatest number of 64 bits
-abbrev pub last_u64 : ℕ
-last_u64 = 0xffff_ffff_ffff_ffff
 
 -- the length of an output in bytes: what is sealed, and each line behind it with its newline
 abbrev pub out_length : Output → ℕ

@@ -1,32 +1,24 @@
 -- The parts of a state, as steps look at them.
-use Rattle.std.specs.Prelude.{◌-◌, ◌&&◌, ◌==◌, ℕ, Bool, not, List, [], ◌++◌, length, Option, option_map, unwrap_or, find, filter, sum_by, nat_le, nat_lt}
+use Rattle.std.specs.Prelude.{◌&&◌, ℕ, Bool, not, List, [], Option, option_map, unwrap_or, find, filter, sum_by, nat_le}
 use Rattle.std.specs.List.{list_any}
 use Rattle.std.specs.Str.{bytes_eq}
-use Rattle.base_types.specs.Name.{queue_ending}
 use Rattle.base_types.specs.declared.message.Msg.{Msg}
 use Rattle.step_code.specs.declared.base.Base.{Base}
-use Rattle.step_code.specs.declared.base.Queue.{Queue}
-use Rattle.step_code.specs.declared.base.Hand.{Hand}
-use Rattle.step_code.specs.declared.base.Feed.{Feed}
-use Rattle.step_code.specs.declared.base.Mark.{Mark}
-use Rattle.step_code.specs.declared.base.BotCache.{BotCache}
-use Rattle.step_code.specs.declared.base.Output.{Output}
+use Rattle.base_types.specs.declared.queue.Queue.{Queue}
+use Rattle.base_types.specs.declared.hand.Hand.{Hand}
+use Rattle.step_code.specs.declared.feed.Feed.{Feed}
+use Rattle.base_types.specs.declared.mark.Mark.{Mark}
+use Rattle.step_code.specs.declared.cache.BotCache.{BotCache}
+use Rattle.step_code.specs.declared.output.Output.{Output}
 use Rattle.step_code.specs.declared.rules.Facts.{Facts}
+use Rattle.base_types.specs.Hand.{is_hand}
+use Rattle.base_types.specs.Name.{queue_name}
+use Rattle.base_types.specs.Queue.{bytes_in, queued}
 use Rattle.step_code.specs.Rules.{Meaning, bot_named, collects, passes}
 
 -- the bots of the bundle in force
 abbrev pub bots_in_force : Meaning → Base → List Facts
 bots_in_force m s = unwrap_or (m.facts s.bundle) []
-
--- the name of a bot's queue
-abbrev pub queue_name : List ℕ → List ℕ
-queue_name bot = bot ++ queue_ending
-
-abbrev pub is_queue : List ℕ → Queue → Bool
-is_queue name q = bytes_eq q.name name
-
-abbrev pub is_hand : List ℕ → ℕ → Hand → Bool
-is_hand bot instance h = bytes_eq h.bot bot && (h.instance == instance)
 
 abbrev pub is_feed : List ℕ → Feed → Bool
 is_feed bot f = bytes_eq f.bot bot
@@ -36,10 +28,6 @@ is_cache bot c = bytes_eq c.bot bot
 
 abbrev pub is_out : List ℕ → Output → Bool
 is_out bot o = bytes_eq o.bot bot
-
--- the messages in the queue of this name, the oldest first
-abbrev pub queued : List ℕ → List Queue → List Msg
-queued name queues = unwrap_or (option_map (λ q. q.messages) (find (is_queue name) queues)) []
 
 -- the messages that wait in the queue of this name
 abbrev pub waiting : List ℕ → Base → List Msg
@@ -71,10 +59,6 @@ is_instance bots bot instance = passes (λ f. not (collects f) && nat_le 1 insta
 abbrev pub is_live_queue : List Facts → List ℕ → Bool
 is_live_queue bots name = list_any (λ f. not (collects f) && bytes_eq (queue_name f.bot) name) bots
 
--- the lengths of the bodies in a queue together
-abbrev pub bytes_in : Queue → ℕ
-bytes_in q = sum_by (λ message. length message.body) q.messages
-
 -- the lengths of the bodies in the queues that are live, together
 abbrev pub live_bytes : List Facts → List Queue → ℕ
 live_bytes bots queues = sum_by bytes_in (filter (λ q. is_live_queue bots q.name) queues)
@@ -85,11 +69,3 @@ backlog bots s = live_bytes bots s.queues
 -- a bot's marks, the oldest first
 abbrev pub marks_of : List ℕ → List BotCache → List Mark
 marks_of bot caches = unwrap_or (option_map (λ c. c.marks) (find (is_cache bot) caches)) []
-
--- the marks that haven't reached this age in seconds
-abbrev pub fresh : ℕ → ℕ → List Mark → List Mark
-fresh ttl now marks = filter (λ mark. nat_lt (now - mark.moment.0) ttl) marks
-
--- the key is marked
-abbrev pub is_marked : List ℕ → List Mark → Bool
-is_marked key marks = list_any (λ mark. bytes_eq mark.key key) marks

@@ -1,5 +1,5 @@
 ghost use Rattle.std.specs.Prelude.{◌≡◌, ◌++◌, List, ℕ};
-ghost use Rattle.step_code.specs.Code.{code_of_step, code_of_base, IsWritable, IsWritableBase};
+ghost use Rattle.step_code.specs.Code.{code_of_step, code_of_base, first_format, IsWritable, IsWritableBase};
 
 use crate::{Base, Step};
 
@@ -10,5 +10,5 @@ pub fn steps_have_one_code()
 
 /// No code of a state begins another, so what was written is read back, whatever follows it.
 pub fn bases_have_one_code()
-    ensures { (a b : Base) (x y : List ℕ) → IsWritableBase a → IsWritableBase b → code_of_base a ++ x ≡ code_of_base b ++ y → (a ≡ b) × (x ≡ y) }
+    ensures { (a b : Base) (x y : List ℕ) → IsWritableBase first_format a → IsWritableBase first_format b → code_of_base first_format a ++ x ≡ code_of_base first_format b ++ y → (a ≡ b) × (x ≡ y) }
 {}

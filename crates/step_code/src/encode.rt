@@ -1,11 +1,9 @@
 ghost use Rattle.std.specs.Prelude.{◌≡◌, IfOk, OnOk};
-ghost use Rattle.step_code.specs.Code.{code_of_step, code_of_base, IsWritable, IsWritableBase};
+ghost use Rattle.step_code.specs.Code.{code_of_step, code_of_base, first_format, IsWritable, IsWritableBase};
 
 use crate::base::Base;
-use crate::encode_states::put_base;
-use crate::encode_steps::put_step;
 use crate::step::Step;
-use base_types::{Blob, OutOfMemory};
+use base_types::{Blob, Coded, OutOfMemory};
 use std::alloc::Global;
 
 /// The code of a step. Where a length can't be written in its bytes, there is no code, as where memory runs out.
@@ -14,16 +12,16 @@ pub fn encode_step(alloc: Global, step: &Step) -> Result<Blob, OutOfMemory>
     ensures writable { OnOk result (IsWritable step.now) }
 {
     let mut code = Blob::from(Vec::new(alloc));
-    put_step(&mut code, step)?;
+    step.put(&mut code)?;
     Ok(code)
 }
 
 /// The code of a state. Where a length can't be written in its bytes, there is no code, as where memory runs out.
 pub fn encode_base(alloc: Global, base: &Base) -> Result<Blob, OutOfMemory>
-    ensures code { IfOk result (λ code. code ≡ code_of_base base.now) }
-    ensures writable { OnOk result (IsWritableBase base.now) }
+    ensures code { IfOk result (λ code. code ≡ code_of_base first_format base.now) }
+    ensures writable { OnOk result (IsWritableBase first_format base.now) }
 {
     let mut code = Blob::from(Vec::new(alloc));
-    put_base(&mut code, base)?;
+    base.put(&mut code)?;
     Ok(code)
 }

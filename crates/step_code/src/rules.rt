@@ -1,5 +1,5 @@
 ghost use Rattle.std.specs.Prelude.{◌≡◌, ◌≤◌, ℕ, List, true, Some, None, IfOk, IsErrOf};
-ghost use Rattle.step_code.specs.Lists.{AreBytes};
+ghost use Rattle.base_types.specs.Lists.{AreBytes};
 ghost use Rattle.step_code.specs.Rules.{Meaning, Task, IsLawful, IsPlanOf, is_collector, is_worker, bot_named, last_moment, AreSound, FitsBot};
 
 use base_types::{

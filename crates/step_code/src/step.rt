@@ -1,4 +1,14 @@
-use base_types::{Blob, BotName, Moment, NoteList, SendList};
+ghost use Rattle.std.specs.Prelude.{◌≡◌, ◌+◌, ◌++◌, ◌∷◌, length, min, OnOk, IfOk};
+ghost use Rattle.base_types.specs.Code.{byte, flag, list, name, number, optional, IsBot, IsList, IsOptional};
+ghost use Rattle.base_types.specs.Coded.{Gives};
+ghost use Rattle.base_types.specs.Number.{last_u64};
+ghost use Rattle.step_code.specs.Code.{bad_part, code_of_step, kind_byte, kind_fields, send, IsBadPart, IsSend, IsWritable, IsWritableKind};
+ghost use Rattle.step_code.specs.Reading.{collect_at, done_at, feed_end_at, kind_at, step_at, take_at};
+
+use base_types::{
+    Blob, BotName, CodeFault, Coded, ListOf, Moment, NoteList, OutOfMemory, SendList,
+};
+use std::alloc::Global;
 
 /// One step of the pipeline, taken whole or not at all.
 #[derive(Debug, Drop)]
@@ -66,4 +76,303 @@ pub enum StepRefusal {
     /// The bodies in the queues have so many bytes together.
     Backlog { bytes: u64 },
     OutOfMemory,
+}
+
+impl Coded for Step {
+    ghost code = { code_of_step };
+
+    ghost has_code = { IsWritable };
+
+    ghost read = { step_at };
+
+    fn code_len(&self) -> u64 {
+        fields_len(&self.what).saturating_add(9)
+    }
+
+    fn put(&self, to: &mut Blob) -> Result<(), OutOfMemory> {
+        kind_byte(&self.what).put(to)?;
+        self.moment.put(to)?;
+        put_kind(to, &self.what)
+    }
+
+    #[tactic(auto, unfolding(crate::specs::Reading::step_at))]
+    fn take(alloc: Global, bytes: &[u8]) -> Result<(Self, &[u8]), CodeFault> {
+        let (byte, rest) = u8::take(alloc, bytes)?;
+        let (moment, rest) = Moment::take(alloc, rest)?;
+        let (what, rest) = kind_of(alloc, byte, rest)?;
+        Ok((Step { moment, what }, rest))
+    }
+
+    fn copy(&self, alloc: Global) -> Result<Self, OutOfMemory> {
+        Ok(Step {
+            moment: self.moment,
+            what: copy_of_kind(alloc, &self.what)?,
+        })
+    }
+}
+
+fn kind_byte(what: &StepKind) -> u8
+    ensures { result ≡ kind_byte what.now }
+{
+    match what {
+        StepKind::Start => 1,
+        StepKind::Collect { .. } => 2,
+        StepKind::FeedEnd { .. } => 3,
+        StepKind::Take { .. } => 4,
+        StepKind::Done { .. } => 5,
+    }
+}
+
+fn put_kind(to: &mut Blob, what: &StepKind) -> Result<(), OutOfMemory>
+    ensures code { OnOk result (to.new ≡ to.old ++ kind_fields what.now) }
+    ensures writable { OnOk result (IsWritableKind what.now) }
+{
+    match what {
+        StepKind::Start => Ok(()),
+        StepKind::Collect {
+            bot,
+            from,
+            upto,
+            piece,
+        } => {
+            bot.put(to)?;
+            from.put(to)?;
+            upto.put(to)?;
+            piece.put(to)
+        }
+        StepKind::FeedEnd { bot, position } => {
+            bot.put(to)?;
+            position.put(to)
+        }
+        StepKind::Take {
+            bot,
+            instance,
+            message,
+        } => put_taken(to, bot, *instance, *message),
+        StepKind::Done {
+            bot,
+            instance,
+            message,
+            bundle,
+            sends,
+            dumps,
+            key,
+            line,
+        } => {
+            put_taken(to, bot, *instance, *message)?;
+            bundle.put(to)?;
+            put_given(to, sends, dumps, key, *line)
+        }
+    }
+}
+
+// A bot's instance, and the message that it has.
+fn put_taken(to: &mut Blob, bot: &BotName, instance: u8, message: u64) -> Result<(), OutOfMemory>
+    ensures code { OnOk result (to.new ≡ to.old ++ name bot.now ++ byte instance ++ number message) }
+    ensures bot { OnOk result (IsBot bot.now) }
+{
+    bot.put(to)?;
+    instance.put(to)?;
+    message.put(to)
+}
+
+// What a bot made of a message.
+fn put_given(
+    to: &mut Blob,
+    sends: &SendList,
+    dumps: &NoteList,
+    key: &Option<Blob>,
+    line: bool,
+) -> Result<(), OutOfMemory>
+    ensures code { OnOk result (to.new ≡ to.old ++ list send sends.now ++ list bad_part dumps.now ++ optional key.now ++ flag line) }
+    ensures sends { OnOk result (IsList IsSend sends.now) }
+    ensures dumps { OnOk result (IsList IsBadPart dumps.now) }
+    ensures key { OnOk result (IsOptional key.now) }
+{
+    sends.put(to)?;
+    dumps.put(to)?;
+    key.put(to)?;
+    line.put(to)
+}
+
+#[tactic(auto, unfolding(crate::specs::Reading::kind_at))]
+fn kind_of(alloc: Global, byte: u8, bytes: &[u8]) -> Result<(StepKind, &[u8]), CodeFault>
+    ensures { Gives (λ x. (x.0, x.1.now)) result (kind_at byte bytes.now) }
+{
+    match byte {
+        1 => Ok((StepKind::Start, bytes)),
+        2 => collect_of(alloc, bytes),
+        3 => feed_end_of(alloc, bytes),
+        4 => take_of(alloc, bytes),
+        5 => done_of(alloc, bytes),
+        _ => Err(CodeFault::Bad),
+    }
+}
+
+#[tactic(auto, unfolding(crate::specs::Reading::collect_at))]
+fn collect_of(alloc: Global, bytes: &[u8]) -> Result<(StepKind, &[u8]), CodeFault>
+    ensures { Gives (λ x. (x.0, x.1.now)) result (collect_at bytes.now) }
+{
+    let (bot, rest) = match BotName::take(alloc, bytes) {
+        Ok(found) => found,
+        Err(fault) => return Err(fault),
+    };
+    let (from, rest) = u64::take(alloc, rest)?;
+    let (upto, rest) = u64::take(alloc, rest)?;
+    let (piece, rest) = Blob::take(alloc, rest)?;
+    let what = StepKind::Collect {
+        bot,
+        from,
+        upto,
+        piece,
+    };
+    Ok((what, rest))
+}
+
+#[tactic(auto, unfolding(crate::specs::Reading::feed_end_at))]
+fn feed_end_of(alloc: Global, bytes: &[u8]) -> Result<(StepKind, &[u8]), CodeFault>
+    ensures { Gives (λ x. (x.0, x.1.now)) result (feed_end_at bytes.now) }
+{
+    let (bot, rest) = match BotName::take(alloc, bytes) {
+        Ok(found) => found,
+        Err(fault) => return Err(fault),
+    };
+    let (position, rest) = u64::take(alloc, rest)?;
+    Ok((StepKind::FeedEnd { bot, position }, rest))
+}
+
+#[tactic(auto, unfolding(crate::specs::Reading::take_at))]
+fn take_of(alloc: Global, bytes: &[u8]) -> Result<(StepKind, &[u8]), CodeFault>
+    ensures { Gives (λ x. (x.0, x.1.now)) result (take_at bytes.now) }
+{
+    let (bot, rest) = match BotName::take(alloc, bytes) {
+        Ok(found) => found,
+        Err(fault) => return Err(fault),
+    };
+    let (instance, rest) = u8::take(alloc, rest)?;
+    let (message, rest) = u64::take(alloc, rest)?;
+    let what = StepKind::Take {
+        bot,
+        instance,
+        message,
+    };
+    Ok((what, rest))
+}
+
+#[tactic(auto, unfolding(crate::specs::Reading::done_at))]
+fn done_of(alloc: Global, bytes: &[u8]) -> Result<(StepKind, &[u8]), CodeFault>
+    ensures { Gives (λ x. (x.0, x.1.now)) result (done_at bytes.now) }
+{
+    let (bot, rest) = match BotName::take(alloc, bytes) {
+        Ok(found) => found,
+        Err(fault) => return Err(fault),
+    };
+    let (instance, rest) = u8::take(alloc, rest)?;
+    let (message, rest) = u64::take(alloc, rest)?;
+    let (bundle, rest) = u64::take(alloc, rest)?;
+    let (sends, rest) = SendList::take(alloc, rest)?;
+    let (dumps, rest) = NoteList::take(alloc, rest)?;
+    let (key, rest) = <Option<Blob> as Coded>::take(alloc, rest)?;
+    let (line, rest) = bool::take(alloc, rest)?;
+    let what = StepKind::Done {
+        bot,
+        instance,
+        message,
+        bundle,
+        sends,
+        dumps,
+        key,
+        line,
+    };
+    Ok((what, rest))
+}
+
+fn fields_len(what: &StepKind) -> u64
+    ensures { result ≡ min (length (kind_fields what.now)) last_u64 }
+{
+    match what {
+        StepKind::Start => 0,
+        StepKind::Collect {
+            bot,
+            from: _,
+            upto: _,
+            piece,
+        } => bot
+            .code_len()
+            .saturating_add(16)
+            .saturating_add(piece.code_len()),
+        StepKind::FeedEnd { bot, position: _ } => bot.code_len().saturating_add(8),
+        StepKind::Take {
+            bot,
+            instance: _,
+            message: _,
+        } => bot.code_len().saturating_add(9),
+        StepKind::Done {
+            bot,
+            instance: _,
+            message: _,
+            bundle: _,
+            sends,
+            dumps,
+            key,
+            line: _,
+        } => bot
+            .code_len()
+            .saturating_add(17)
+            .saturating_add(sends.code_len())
+            .saturating_add(dumps.code_len())
+            .saturating_add(key.code_len())
+            .saturating_add(1),
+    }
+}
+
+fn copy_of_kind(alloc: Global, what: &StepKind) -> Result<StepKind, OutOfMemory>
+    ensures { IfOk result (λ copy. copy ≡ what.now) }
+{
+    match what {
+        StepKind::Start => Ok(StepKind::Start),
+        StepKind::Collect {
+            bot,
+            from,
+            upto,
+            piece,
+        } => Ok(StepKind::Collect {
+            bot: *bot,
+            from: *from,
+            upto: *upto,
+            piece: piece.copy(alloc)?,
+        }),
+        StepKind::FeedEnd { bot, position } => Ok(StepKind::FeedEnd {
+            bot: *bot,
+            position: *position,
+        }),
+        StepKind::Take {
+            bot,
+            instance,
+            message,
+        } => Ok(StepKind::Take {
+            bot: *bot,
+            instance: *instance,
+            message: *message,
+        }),
+        StepKind::Done {
+            bot,
+            instance,
+            message,
+            bundle,
+            sends,
+            dumps,
+            key,
+            line,
+        } => Ok(StepKind::Done {
+            bot: *bot,
+            instance: *instance,
+            message: *message,
+            bundle: *bundle,
+            sends: sends.copy(alloc)?,
+            dumps: dumps.copy(alloc)?,
+            key: key.copy(alloc)?,
+            line: *line,
+        }),
+    }
 }

@@ -1,13 +1,13 @@
 use base_types::{
-    Blob, BotName, Dump, DumpList, FaultNote, ListOf, Moment, Msg, NoteList, QueueName, SendList,
-    Text,
+    Blob, BotName, CodeFault, Dump, DumpList, FaultNote, Hand, HandList, ListOf, Mark, Moment, Msg,
+    NoteList, Queue, QueueName, SendList, Text, WaitingList,
 };
 use std::alloc::Global;
 use std::process::Abort;
 use std::test::Fail;
 use step_code::{
-    Base, BotCache, BotList, CacheList, CodeFault, Feed, FeedList, Hand, HandList, Mark, OutList,
-    Output, Queue, Step, StepKind, WaitingList, decode_base, decode_step, encode_base, encode_step,
+    Base, BotCache, BotList, CacheList, Feed, FeedList, OutList, Output, Step, StepKind,
+    decode_base, decode_step, encode_base, encode_step,
 };
 
 // What bytes are to be the code of.
@@ -571,6 +571,7 @@ fn a_state_is_written_and_read(rt: HostRuntime) -> Result<(), Fail> {
         steps: 0x0102_0304_0506_0708,
         next_message: 12,
         next_dump: 3,
+        discarded: 0,
         latest: Moment(1_700_000_000),
         bundle_no: 256,
         bundle: Blob::new(alloc, b"bundle")?,
@@ -598,6 +599,7 @@ fn an_empty_state_is_written_and_read(rt: HostRuntime) -> Result<(), Fail> {
         steps: 0,
         next_message: 1,
         next_dump: 1,
+        discarded: 0,
         latest: Moment(0),
         bundle_no: 1,
         bundle: Blob::new(alloc, b"")?,

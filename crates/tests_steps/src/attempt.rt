@@ -3,15 +3,17 @@ ghost use Rattle.std.specs.Prelude.{◌≡◌, ◌⊎◌, [], true, IfOk, find, 
 ghost use Rattle.step_code.specs.Content.{IsFront, IsInTime, MayReplay, Shows};
 ghost use Rattle.step_code.specs.Fits.{Fits};
 ghost use Rattle.step_code.specs.Rules.{bot_named, is_worker, passes, writes};
-ghost use Rattle.step_code.specs.State.{bots_in_force, is_queue, queue_name, queued};
+ghost use Rattle.step_code.specs.State.{bots_in_force};
+ghost use Rattle.base_types.specs.Queue.{is_queue, queued};
+ghost use Rattle.base_types.specs.Name.{queue_name};
 
 use crate::rules::bot_named;
 use crate::text::text_of;
-use base_types::{Blob, BotName, Moment, OutOfMemory, QueueName, queue_of};
+use base_types::{Blob, BotName, Moment, OutOfMemory, Queue, QueueName, queue_of};
 use journal_book::Core;
 use std::alloc::Global;
 use std::test::Fail;
-use step_code::{Base, Given, Queue, Role, Rules, Step, StepKind, StepRefusal};
+use step_code::{Base, Given, Role, Rules, Step, StepKind, StepRefusal};
 
 const LAST_MOMENT: u64 = 253_402_300_799;
 
@@ -29,7 +31,7 @@ fn place_of_queue(queues: &[Queue], name: &QueueName) -> Option<usize>
     queues.iter().position(|queue| queue.name == *name)
 }
 
-#[tactic(auto, using(step_code::proofs::Found::find_placed, step_code::proofs::Found::find_missing))]
+#[tactic(auto, using(base_types::proofs::Found::find_placed, base_types::proofs::Found::find_missing))]
 fn queue_named<'q>(queues: &'q [Queue], name: &QueueName) -> Option<&'q Queue>
     ensures { MatchOption result (find (is_queue name.now) queues.now ≡ None) (λ queue. find (is_queue name.now) queues.now ≡ Some queue.now) }
 {

@@ -1,14 +1,13 @@
 //! States and steps of the tests.
 
 use base_types::{
-    Blob, BotName, Dump, DumpList, FaultNote, LineList, ListOf, Moment, Msg, NoteList, QueueName,
-    SendList, Text,
+    Blob, BotName, Dump, DumpList, FaultNote, Hand, HandList, LineList, ListOf, Mark, MarkList,
+    Moment, Msg, MsgList, NoteList, Queue, QueueName, SendList, Text, WaitingList,
 };
 use std::alloc::Global;
 use std::test::Fail;
 use step_code::{
-    Base, BotCache, BotList, CacheList, Feed, FeedList, Hand, HandList, Mark, MarkList, MsgList,
-    OutList, Output, Queue, Step, StepKind, WaitingList,
+    Base, BotCache, BotList, CacheList, Feed, FeedList, OutList, Output, Step, StepKind,
 };
 
 /// What a step does, as it stands in tables.
@@ -85,6 +84,7 @@ pub fn empty(alloc: Global, bundle: &str) -> Result<Base, Fail> {
         steps: 0,
         next_message: 1,
         next_dump: 1,
+        discarded: 0,
         latest: Moment(0),
         bundle_no: 1,
         bundle: blob(alloc, bundle)?,

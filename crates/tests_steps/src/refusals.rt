@@ -4,10 +4,10 @@ use crate::build::{
     Act, NOTHING, empty, first, halt, push, put_feed, put_hand, put_output, put_queue,
 };
 use crate::tiny_core::TinyCore;
-use base_types::{Blob, Moment, Msg, QueueName};
+use base_types::{Blob, Moment, Msg, MsgList, Queue, QueueName};
 use std::alloc::Global;
 use std::test::Fail;
-use step_code::{Base, MsgList, Queue, StepRefusal};
+use step_code::{Base, StepRefusal};
 
 // A state with two halted bots, one of them with a full hand and nothing in its queue.
 const BUSY: &'static str =

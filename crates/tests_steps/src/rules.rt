@@ -180,7 +180,7 @@ fn place_of_bot(bots: &[Facts], name: &BotName) -> Option<usize>
 }
 
 /// The bot of this name.
-#[tactic(auto, using(step_code::proofs::Found::find_placed, step_code::proofs::Found::find_missing))]
+#[tactic(auto, using(base_types::proofs::Found::find_placed, base_types::proofs::Found::find_missing))]
 pub fn bot_named<'f>(bots: &'f [Facts], name: &BotName) -> Option<&'f Facts>
     ensures { MatchOption result (bot_named name.now bots.now ≡ None) (λ f. bot_named name.now bots.now ≡ Some f.now) }
 {

@@ -1,10 +1,10 @@
 //! A state as a line of text: its numbers, and behind them each entry of its lists.
 
-use base_types::{Dump, Msg};
+use base_types::{Dump, Hand, Msg, Queue};
 use std::alloc::Global;
 use std::str;
 use std::test::Fail;
-use step_code::{Base, BotCache, Feed, Hand, Output, Queue};
+use step_code::{Base, BotCache, Feed, Output};
 
 fn text(bytes: &[u8]) -> Result<&str, Fail> {
     match str::from_utf8(bytes) {

@@ -1,7 +1,9 @@
 use Rattle.std.proofs.Common.{◌≡◌, List, [], sym, ◌∙◌, ap}
 use Rattle.base_types.specs.declared.message.Msg.{Msg}
 use Rattle.step_code.specs.After.{taken_first}
-use Rattle.step_code.specs.State.{queue_name, queued, waiting}
+use Rattle.base_types.specs.Name.{queue_name}
+use Rattle.base_types.specs.Queue.{queued}
+use Rattle.step_code.specs.State.{waiting}
 use Rattle.journal_book.specs.State.{queues_of, state_of}
 use Rattle.journal_book.proofs.Waiting.{nothing_taken}
 use Rattle.journal_book.proofs.acts.take.Goals as goal

@@ -1,6 +1,7 @@
 use Rattle.std.proofs.Common.{sym, ◌∙◌, ap, position}
-use Rattle.step_code.specs.declared.base.BotCache.{BotCache}
-use Rattle.step_code.specs.State.{fresh, is_cache}
+use Rattle.step_code.specs.declared.cache.BotCache.{BotCache}
+use Rattle.base_types.specs.Mark.{fresh}
+use Rattle.step_code.specs.State.{is_cache}
 use Rattle.journal_book.specs.Caches.{cache_of, has_bot}
 use Rattle.journal_book.proofs.Seen.{changed_at, unchanged}
 use Rattle.journal_book.proofs.caches.drop_old.Goals as goal

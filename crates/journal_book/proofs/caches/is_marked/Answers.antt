@@ -1,6 +1,7 @@
 use Rattle.std.proofs.Common.{[], sym, ◌∙◌, ap, option_map, unwrap_or, Option}
-use Rattle.step_code.specs.declared.base.BotCache.{BotCache}
-use Rattle.step_code.specs.State.{fresh, is_cache, is_marked}
+use Rattle.step_code.specs.declared.cache.BotCache.{BotCache}
+use Rattle.base_types.specs.Mark.{fresh, is_marked}
+use Rattle.step_code.specs.State.{is_cache}
 use Rattle.journal_book.specs.declared.caches.Marks.{Marks}
 use Rattle.journal_book.specs.Caches.{cache_of}
 use Rattle.journal_book.proofs.Seen.{found_at, found_nowhere}

@@ -1,8 +1,8 @@
 use Rattle.std.proofs.Common.{◌≡◌, List, [], ◌∷◌, ◌++◌, set, sym, ◌∙◌, ap, position}
-use Rattle.step_code.specs.declared.base.BotCache.{BotCache}
-use Rattle.step_code.specs.declared.base.Mark.{Mark}
+use Rattle.step_code.specs.declared.cache.BotCache.{BotCache}
+use Rattle.base_types.specs.declared.mark.Mark.{Mark}
 use Rattle.step_code.specs.After.{marked}
-use Rattle.step_code.specs.Lists.{changed_or_added}
+use Rattle.base_types.specs.Lists.{changed_or_added}
 use Rattle.step_code.specs.State.{is_cache}
 use Rattle.journal_book.specs.declared.caches.Marks.{Marks}
 use Rattle.journal_book.specs.Caches.{cache_of, caches_of, has_bot}

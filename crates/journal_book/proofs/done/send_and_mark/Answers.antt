@@ -1,5 +1,5 @@
 use Rattle.std.proofs.Common.{◌≡◌, ◌+◌, sym, ◌∙◌, ap, arith, length}
-use Rattle.step_code.specs.After.{put_all}
+use Rattle.base_types.specs.Queue.{put_all}
 use Rattle.journal_book.specs.Room.{all_appended, with_queues}
 use Rattle.journal_book.specs.State.{queues_of, state_of}
 use Rattle.journal_book.proofs.Waiting.{put_all_is}

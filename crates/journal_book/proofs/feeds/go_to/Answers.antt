@@ -1,5 +1,5 @@
 use Rattle.std.proofs.Common.{sym, ◌∙◌, ap, position}
-use Rattle.step_code.proofs.Found.{changed_placed}
+use Rattle.base_types.proofs.Found.{changed_placed}
 use Rattle.step_code.specs.State.{is_feed}
 use Rattle.journal_book.proofs.feeds.go_to.Goals as goal
 

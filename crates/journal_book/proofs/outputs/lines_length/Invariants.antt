@@ -1,5 +1,5 @@
 use Rattle.std.proofs.Common.{◌≡◌, ◌+◌, length, min, sum_by, take}
-use Rattle.step_code.specs.Spent.{last_u64}
+use Rattle.base_types.specs.Number.{last_u64}
 use Rattle.journal_book.proofs.outputs.lines_length.Given as goal
 
 abbrev pub invariant-lines : goal.invariant-lines

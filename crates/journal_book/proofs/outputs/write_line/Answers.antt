@@ -1,5 +1,5 @@
-use Rattle.std.proofs.Common.{ℕ, List, [], ◌∷◌, ◌++◌, sym, ◌∙◌, ap, position}
-use Rattle.step_code.specs.declared.base.Output.{Output}
+use Rattle.std.proofs.Common.{[], ◌∷◌, ◌++◌, sym, ◌∙◌, ap, position}
+use Rattle.step_code.specs.declared.output.Output.{Output}
 use Rattle.step_code.specs.State.{is_out}
 use Rattle.journal_book.specs.Outputs.{HasLength, is_written_by, out_of}
 use Rattle.journal_book.proofs.Seen.{all_set, changed_at, unchanged}

@@ -1,6 +1,6 @@
 use Rattle.std.proofs.Common.{List, refl, sym, ◌∙◌, ap, arith, position}
 use Rattle.base_types.specs.declared.message.Msg.{Msg}
-use Rattle.step_code.proofs.Found.{first_at}
+use Rattle.base_types.proofs.Found.{first_at}
 use Rattle.journal_book.specs.Room.{is_named}
 use Rattle.journal_book.proofs.Waiting.{after_err, queues_same, room_here, room_kept, with_queue_there}
 use Rattle.journal_book.proofs.queues.make_room.Goals as goal

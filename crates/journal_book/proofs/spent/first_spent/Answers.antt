@@ -1,4 +1,4 @@
-use Rattle.std.proofs.Common.{sym, ◌∙◌, ◌+◌, ◌-◌, arith, refl, find, map, length}
+use Rattle.std.proofs.Common.{sym, ◌∙◌, ◌+◌, ◌-◌, arith, refl, find, map}
 use Rattle.std.proofs.lemmas.List.{length-map}
 use Rattle.step_code.specs.Spent.{is_past, up_to_spent}
 use Rattle.journal_book.specs.Outputs.{out_of}
