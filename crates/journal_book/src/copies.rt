@@ -1,5 +1,6 @@
 //! Copies of what a step carries, made before anything changes.
-ghost use Rattle.std.specs.Prelude.{◌≡◌, ◌+◌, ◌≤◌, ◌^◌, List, length, map, IfOk};
+ghost use Rattle.std.specs.Prelude.{◌≡◌, ◌+◌, ◌≤◌, List, length, map, IfOk};
+ghost use Rattle.base_types.specs.Number.{last_u64};
 ghost use Rattle.step_code.specs.After.{numbered};
 
 use base_types::{Blob, BotName, Coded, Dump, FaultNote, Moment, Msg, OutOfMemory, QueueName};
@@ -68,8 +69,8 @@ pub fn new_dumps(
     now: Moment,
     items: &[(Blob, FaultNote)],
 ) -> Result<Vec<Dump>, OutOfMemory>
-    requires messages { no + length items.now ≤ 2 ^ 63 }
-    requires dumps { dump + length items.now ≤ 2 ^ 63 }
+    requires messages { no + length items.now ≤ last_u64 }
+    requires dumps { dump + length items.now ≤ last_u64 }
     ensures { IfOk result (λ dumps. dumps.items ≡ numbered no dump bot.now now items.now) }
 {
     let mut dumps = Vec::with_capacity(alloc, items.len())?;

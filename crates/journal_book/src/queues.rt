@@ -1,5 +1,6 @@
 //! The queues of a pipeline, and the messages that wait in them.
-ghost use Rattle.std.specs.Prelude.{◌≡◌, ◌+◌, ◌≤◌, ◌^◌, ℕ, List, [], ◌∷◌, length, position, take, drop, OnOk, OnErr, MatchOption, min, sum_by, if◌then◌else◌, Some, None};
+ghost use Rattle.std.specs.Prelude.{◌≡◌, ◌+◌, ◌≤◌, ℕ, List, [], ◌∷◌, length, position, take, drop, OnOk, OnErr, MatchOption, min, sum_by, if◌then◌else◌, Some, None};
+ghost use Rattle.base_types.specs.Number.{last_u64};
 ghost use Rattle.base_types.specs.Queue.{put_all, bytes_in, is_queue, queued};
 ghost use Rattle.step_code.specs.Content.{IsFront};
 ghost use Rattle.base_types.specs.Lists.{changed};
@@ -100,7 +101,7 @@ fn append(queues: &mut Vec<Waiting>, name: &QueueName, message: Msg)
 /// Puts messages on queues that have room, with the numbers from `next` on.
 pub fn append_all(queues: &mut Vec<Waiting>, next: u64, sends: Vec<(QueueName, Blob)>)
     requires room { HaveRoom sends.items (length sends.items) queues.old.items }
-    requires numbers { next + length sends.items ≤ 2 ^ 63 }
+    requires numbers { next + length sends.items ≤ last_u64 }
     ensures { queues_of queues.new.items ≡ all_appended next sends.items (queues_of queues.old.items) }
 {
     let mut no = next;
@@ -180,7 +181,7 @@ pub fn take_front(queues: &mut Vec<Waiting>, name: &QueueName) -> Option<Msg>
 
 // The lengths of the bodies together, or the greatest number where they pass it.
 fn bytes_of(messages: &[Msg]) -> u64
-    ensures { result ≡ min (sum_by (λ message. length message.body) messages.now) 0xffff_ffff_ffff_ffff }
+    ensures { result ≡ min (sum_by (λ message. length message.body) messages.now) last_u64 }
 {
     let mut bytes: u64 = 0;
     'messages: for message in messages {
@@ -190,7 +191,7 @@ fn bytes_of(messages: &[Msg]) -> u64
 }
 
 fn bytes_in(queue: &Waiting) -> u64
-    ensures { result ≡ min (bytes_in (queue_of queue.now)) 0xffff_ffff_ffff_ffff }
+    ensures { result ≡ min (bytes_in (queue_of queue.now)) last_u64 }
 {
     let (front, back) = queue.messages.as_slices();
     bytes_of(front).saturating_add(bytes_of(back))
@@ -198,7 +199,7 @@ fn bytes_in(queue: &Waiting) -> u64
 
 // The same of a queue that is live, and 0 of another.
 fn live_bytes_in(queue: &Waiting, bots: &[Facts]) -> u64
-    ensures { result ≡ min (if is_live_queue bots.now queue.now.name then bytes_in (queue_of queue.now) else 0) 0xffff_ffff_ffff_ffff }
+    ensures { result ≡ min (if is_live_queue bots.now queue.now.name then bytes_in (queue_of queue.now) else 0) last_u64 }
 {
     if is_live_queue(bots, &queue.name) {
         bytes_in(queue)
@@ -209,7 +210,7 @@ fn live_bytes_in(queue: &Waiting, bots: &[Facts]) -> u64
 
 /// The lengths of the bodies in all live queues together, or the greatest number where they pass it.
 pub fn live_bytes(queues: &[Waiting], bots: &[Facts]) -> u64
-    ensures { result ≡ min (live_bytes bots.now (queues_of queues.now)) 0xffff_ffff_ffff_ffff }
+    ensures { result ≡ min (live_bytes bots.now (queues_of queues.now)) last_u64 }
 {
     let mut bytes: u64 = 0;
     'queues: for queue in queues {
