@@ -1,20 +1,13 @@
 -- A call that changes one file, and its sync.
-use Rattle.std.proofs.Common.{◌≢◌, ℕ, List, length, Result, Ok, Err, OnOk, refl, arith}
+use Rattle.std.proofs.Common.{◌≢◌, ℕ, List, Result, Ok, Err, OnOk}
 use Rattle.std.specs.Prelude.{⊤}
-use Rattle.std.proofs.lemmas.List.{take_all, take_min}
-use Rattle.edge_traits.specs.Disk.{DiskView, Image, Torn, Cut, LeavesAfter, Adds, IsImage, Elapses, Leaves}
+use Rattle.edge_traits.specs.Disk.{DiskView, Image, LeavesAfter, Adds, IsImage, Elapses, Leaves}
 use Rattle.edge_traits.proofs.Moments.{started, goes_on}
 use Rattle.disk_journal.specs.Durable.{IsStepped}
 
 pub on_ok : {T E P : Type 0} (r : Result T E) → P → OnOk r P
 on_ok (Ok x) p = p
 on_ok (Err e) p = tt
-
-pub torn_itself : (at n : ℕ) (c : List ℕ) → Torn at n c c
-torn_itself at n c = record { before = take_min at c; behind = refl; no_shorter = omega arith; no_longer = omega arith }
-
-pub cut_itself : (len : ℕ) (c : List ℕ) → Cut len c c
-cut_itself len c = record { front = take_all (length c) c (omega arith); no_shorter = omega arith }
 
 -- the call
 pub changed : {D : Type 0} {disk : D → DiskView} {may_leave : D → ℕ → List ℕ → Type 0} {left_since : D → ℕ → Image → Type 0} {old mid : D} (file : ℕ) (step : List ℕ → List ℕ → Type 0) → ((c : List ℕ) → step c c)

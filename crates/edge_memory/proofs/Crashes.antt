@@ -9,7 +9,8 @@ use Rattle.edge_memory.specs.declared.choice.Choice.{Choice}
 use Rattle.edge_memory.specs.declared.change.Change.{Change}
 use Rattle.edge_memory.specs.declared.change.Change.TheVariants as did
 use Rattle.edge_memory.specs.declared.change.Entry.{Entry}
-use Rattle.edge_memory.specs.Torn.{cut_same, cut_take}
+use Rattle.edge_traits.proofs.Outcomes.{cut_itself}
+use Rattle.edge_memory.specs.Torn.{cut_take}
 use Rattle.edge_memory.specs.Entries.{content, left, left_by}
 use Rattle.edge_memory.specs.Crashed.{lengthened, filled, enlarged, torn, shortened, crashed_by, crashed, image, pending_by, is_pending, durable_by, durable}
 use Rattle.edge_memory.specs.Moments.{content_left}
@@ -55,7 +56,7 @@ torn_by_choice true at n filler old = torn_again at n old (lengthened (at + n) f
 torn_by_choice false at n filler old = torn_filled at n filler old
 
 cut_by_choice : (longest : Bool) (len : ℕ) (old : List ℕ) → Cut len old (if longest then old else take len old)
-cut_by_choice true len old = cut_same len old
+cut_by_choice true len old = cut_itself len old
 cut_by_choice false len old = cut_take len old
 
 left_step : (choice : Choice) (change : Change) (seen : List ℕ) (before : List ℕ → Type 0) (old : List ℕ) → before old → left_by change seen before (crashed_by choice change seen old)

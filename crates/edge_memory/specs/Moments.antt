@@ -9,7 +9,8 @@ use Rattle.edge_memory.specs.declared.change.Change.{Change}
 use Rattle.edge_memory.specs.declared.change.Change.TheVariants as did
 use Rattle.edge_memory.specs.declared.change.Entry.{Entry}
 use Rattle.edge_memory.specs.Entries.{changed, content, left_by, left, made}
-use Rattle.edge_memory.specs.Torn.{torn_same, torn_overwritten, cut_same, cut_take}
+use Rattle.edge_traits.proofs.Outcomes.{torn_itself, cut_itself}
+use Rattle.edge_memory.specs.Torn.{torn_overwritten, cut_take}
 
 -- what a crash might have left since a moment: what one may leave after some number of calls from that one on
 abbrev pub left_since : List Entry → ℕ → ℕ → Image → Type 0
@@ -21,9 +22,9 @@ numbered_to calls entries = list_all (λ e. nat_le e.number calls) entries
 
 changed_left : (change : Change) (seen : List ℕ) (before : List ℕ → Type 0) → before seen → left_by change seen before (changed change seen)
 changed_left (did.Write at bytes) seen before was = (seen, was, torn_overwritten at bytes.items seen)
-changed_left (did.FailedWrite at len) seen before was = (seen, was, torn_same at len seen)
+changed_left (did.FailedWrite at len) seen before was = (seen, was, torn_itself at len seen)
 changed_left (did.Cut len) seen before was = (seen, was, cut_take len seen)
-changed_left (did.FailedCut len) seen before was = (seen, was, cut_same len seen)
+changed_left (did.FailedCut len) seen before was = (seen, was, cut_itself len seen)
 changed_left did.Sync seen before was = refl
 changed_left (did.Found bytes) seen before was = refl
 

@@ -1,8 +1,8 @@
 -- What a call does is one of the outcomes of a crash during it.
 use Rattle.std.specs.Prelude.{◌≡◌, ◌≤◌, ◌+◌, ◌-◌, ℕ, List, [], ◌++◌, length, take, drop, min}
-use Rattle.std.proofs.Common.{refl, arith, length-append, length-drop}
-use Rattle.std.proofs.Math.Seq.{take-append_seam, take-length}
-use Rattle.std.proofs.lemmas.List.{length-take}
+use Rattle.std.proofs.Common.{arith, length-append, length-drop}
+use Rattle.std.proofs.Math.Seq.{take-append_seam}
+use Rattle.std.proofs.lemmas.List.{length-take, take_min}
 use Rattle.std.proofs.lemmas.Grind.{common_steps}
 use Rattle.edge_traits.specs.Disk.{overwritten, Torn, Cut}
 
@@ -11,12 +11,6 @@ take_whole n l le = grind (arith, common_steps)
 
 drop_whole : (n : ℕ) (l : List ℕ) → length l ≤ n → drop n l ≡ []
 drop_whole n l le = grind (arith, common_steps)
-
-take_min : (n : ℕ) (l : List ℕ) → take (min n (length l)) l ≡ take n l
-take_min n l = grind (arith, common_steps)
-
-pub torn_same : (at n : ℕ) (old : List ℕ) → Torn at n old old
-torn_same at n old = record { before = take_min at old; behind = refl; no_shorter = omega arith; no_longer = omega arith }
 
 length_overwritten : (at : ℕ) (bytes old : List ℕ) → length (overwritten old at bytes) ≡ min at (length old) + length bytes + (length old - (at + length bytes))
 length_overwritten at bytes old = simp (length-append, length-take, length-drop)
@@ -34,9 +28,6 @@ torn_overwritten at bytes old = record {
   no_shorter = omega (arith, length_overwritten at bytes old);
   no_longer = omega (arith, length_overwritten at bytes old);
 }
-
-pub cut_same : (len : ℕ) (old : List ℕ) → Cut len old old
-cut_same len old = record { front = take-length old; no_shorter = omega arith }
 
 pub cut_take : (len : ℕ) (old : List ℕ) → Cut len old (take len old)
 cut_take len old = record { front = grind (arith, common_steps, take_min); no_shorter = omega (arith, length-take len old) }

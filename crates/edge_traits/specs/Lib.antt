@@ -5,6 +5,5 @@ pub mod Named
 pub mod Shelf
 pub mod Sink
 pub mod Source
-
 -- what only proofs use
 pub mod NoFiles

@@ -148,16 +148,15 @@ const CRASHES: [Crash; 7] = [
     },
 ];
 
-#[test]
-fn an_append_makes_four_calls(rt: HostRuntime) -> Result<(), Fail> {
-    let alloc = rt.alloc();
-    let mut disk = MemDisk::new(alloc);
-    assert_eq!(rt; create_and_append(alloc, &mut disk)?, Ok(()));
-    assert_eq!(rt; APPENDED.len(), 38);
-    assert_eq!(rt; disk.calls(), 7);
-    check_durable(&rt, alloc, &disk, APPENDED)?;
-    for crash in &CRASHES {
-        let crashed = crashed(alloc, &disk, crash.after, &crash.choice)?;
+// Crashes the disk, and looks at the file.
+fn check_files(
+    rt: &impl Abort,
+    alloc: Global,
+    disk: &MemDisk,
+    crashes: &[Crash],
+) -> Result<(), Fail> {
+    for crash in crashes {
+        let crashed = crashed(alloc, disk, crash.after, &crash.choice)?;
         assert_eq!(rt;
             crashed.file(alloc, FILE)?.as_slice(),
             crash.file,
@@ -168,6 +167,17 @@ fn an_append_makes_four_calls(rt: HostRuntime) -> Result<(), Fail> {
     }
     assert!(rt; !disk.starved());
     Ok(())
+}
+
+#[test]
+fn an_append_makes_four_calls(rt: HostRuntime) -> Result<(), Fail> {
+    let alloc = rt.alloc();
+    let mut disk = MemDisk::new(alloc);
+    assert_eq!(rt; create_and_append(alloc, &mut disk)?, Ok(()));
+    assert_eq!(rt; APPENDED.len(), 38);
+    assert_eq!(rt; disk.calls(), 7);
+    check_durable(&rt, alloc, &disk, APPENDED)?;
+    check_files(&rt, alloc, &disk, &CRASHES)
 }
 
 // The same of the calls of a `create` over an old file: a cut, a write and a sync.
@@ -211,18 +221,7 @@ fn a_create_makes_three_calls(rt: HostRuntime) -> Result<(), Fail> {
     let journal = create(alloc, &mut disk)?;
     assert_eq!(rt; journal.len(), CREATED.len() as u64);
     assert_eq!(rt; disk.calls(), 3);
-    for crash in &CRASHES_OF_CREATE {
-        let crashed = crashed(alloc, &disk, crash.after, &crash.choice)?;
-        assert_eq!(rt;
-            crashed.file(alloc, FILE)?.as_slice(),
-            crash.file,
-            "after {} calls, {:?}",
-            crash.after,
-            crash.choice
-        );
-    }
-    assert!(rt; !disk.starved());
-    Ok(())
+    check_files(&rt, alloc, &disk, &CRASHES_OF_CREATE)
 }
 
 // What the write of a gate may leave in its place, and the bodies and the file that `reopen` makes of it.

@@ -1,6 +1,7 @@
 use Rattle.std.proofs.Common.{sym, ◌∙◌}
 use Rattle.edge_traits.specs.Disk.{Cut}
-use Rattle.disk_journal.proofs.Steps.{on_ok, cut_itself, changed, changed_synced}
+use Rattle.edge_traits.proofs.Outcomes.{cut_itself}
+use Rattle.disk_journal.proofs.Steps.{on_ok, changed, changed_synced}
 use Rattle.disk_journal.proofs.durable.cut_durably.Goals as goal
 
 pub returns-in_err-cut-clause-any_moment : goal.returns-in_err-cut-clause-any_moment

@@ -1,6 +1,7 @@
 use Rattle.std.proofs.Common.{length, sym, ◌∙◌}
 use Rattle.edge_traits.specs.Disk.{Torn}
-use Rattle.disk_journal.proofs.Steps.{on_ok, torn_itself, changed, changed_synced}
+use Rattle.edge_traits.proofs.Outcomes.{torn_itself}
+use Rattle.disk_journal.proofs.Steps.{on_ok, changed, changed_synced}
 use Rattle.disk_journal.proofs.durable.write_durably.Goals as goal
 
 pub returns-in_err-write_at-clause-any_moment : goal.returns-in_err-write_at-clause-any_moment

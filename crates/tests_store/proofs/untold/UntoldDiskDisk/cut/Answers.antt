@@ -1,9 +1,9 @@
 use Rattle.std.proofs.Common.{inl, arith}
-use Rattle.edge_memory.specs.Torn.{cut_same}
+use Rattle.edge_traits.proofs.Outcomes.{cut_itself}
 use Rattle.tests_store.proofs.untold.UntoldDiskDisk.cut.Goals as goal
 
 pub returns-clause-time : goal.returns-clause-time
 returns-clause-time c = record { later = omega arith; nothing_else = λ t image le left. inl tt; keeps = λ t image le left. tt }
 
 pub returns-clause-crash : goal.returns-clause-crash
-returns-clause-crash c = λ left _. (left, tt, cut_same c.args._len left)
+returns-clause-crash c = λ left _. (left, tt, cut_itself c.args._len left)
