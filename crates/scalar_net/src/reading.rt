@@ -1,8 +1,8 @@
-ghost use Rattle.std.specs.Prelude.{◌≡◌, ◌≢◌, ◌≤◌, ℕ, ◌+◌, ◌∷◌, ◌++◌, ◌<◌, length, slice_index, Contains, EachIndex, IfNone, IfSome, MatchOption, MatchResult, option_map};
+ghost use Rattle.std.specs.Prelude.{◌≡◌, ◌≢◌, ◌≤◌, ℕ, ◌+◌, ◌∷◌, ◌++◌, ◌<◌, length, slice_index, Contains, EachIndex, IfNone, IfOk, false, IfSome, MatchOption, MatchResult, option_map};
 ghost use Rattle.std.specs.Result.{result_ok};
 ghost use Rattle.std.specs.Net.Grammar.{Parses};
 ghost use Rattle.scalar_net.specs.Family.{width};
-ghost use Rattle.scalar_net.specs.Address.{IsIpText, ip_in};
+ghost use Rattle.scalar_net.specs.Address.{IsIpText, ip_in, ip_text};
 ghost use Rattle.scalar_net.specs.Network.{IsNetworkText, IsNetworkOf, network_in};
 
 use crate::inside::{width, without_host_bits};
@@ -14,6 +14,7 @@ use std::net::{Ipv4Addr, Ipv6Addr};
 pub fn read_ip(text: &[u8]) -> Result<Ip, Bad>
     ensures writes { Parses IsIpText text.now result }
     ensures value { option_map (λ ip. (ip.six, ip.bits)) (result_ok result) ≡ ip_in text.now }
+    ensures four { IfOk result (λ ip. ip.six ≡ false → ip_text ip ≡ text.now) }
 {
     if let Ok(four) = Ipv4Addr::parse_ascii(text) {
         return Ok(Ip {

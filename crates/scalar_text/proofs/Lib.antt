@@ -1,8 +1,13 @@
+pub mod DayTexts
+pub mod Forms
+pub mod NumberForms
 pub mod Numerals
 pub mod Ports
 pub mod PrintedDecimals
+pub mod PrintedNumbers
 pub mod PrintedTimes
 pub mod Quoted
 pub mod Requoted
 pub mod Spellings
+pub mod TimeForms
 pub mod Times

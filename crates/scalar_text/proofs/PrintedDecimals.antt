@@ -14,22 +14,22 @@ use Rattle.scalar_text.specs.Number.{has_minus, behind_minus, signed, point_in, 
 use Rattle.scalar_text.proofs.Numerals.{digit_is}
 
 -- a digit is no minus and no point
-no_minus_byte : (b : ℕ) → digit_value b < 10 → b ≡ 45 → ⊥
+pub no_minus_byte : (b : ℕ) → digit_value b < 10 → b ≡ 45 → ⊥
 no_minus_byte b h e = let no : digit_value 45 < 10 = subst (λ c. digit_value c < 10) e h in absurd (omega arith)
 
-no_point_byte : (b : ℕ) → digit_value b < 10 → b ≡ 46 → ⊥
+pub no_point_byte : (b : ℕ) → digit_value b < 10 → b ≡ 46 → ⊥
 no_point_byte b h e = let no : digit_value 46 < 10 = subst (λ c. digit_value c < 10) e h in absurd (omega arith)
 
 -- a text that begins with a digit has no minus
-numeral_first : (ds rest : List ℕ) → IsNumeral 10 ds → (has_minus (ds ++ rest) ≡ false) × (behind_minus (ds ++ rest) ≡ ds ++ rest)
+pub numeral_first : (ds rest : List ℕ) → IsNumeral 10 ds → (has_minus (ds ++ rest) ≡ false) × (behind_minus (ds ++ rest) ≡ ds ++ rest)
 numeral_first [] rest h = absurd (omega (arith, h.0))
 numeral_first (d ∷ ds) rest h = rw (ne_eqb d 45 (no_minus_byte d h.1.0)) (refl, refl)
 
-minus_of : (b : Bool) (text : List ℕ) → has_minus text ≡ false → has_minus (if b then 45 ∷ text else text) ≡ b
+pub minus_of : (b : Bool) (text : List ℕ) → has_minus text ≡ false → has_minus (if b then 45 ∷ text else text) ≡ b
 minus_of true text none = refl
 minus_of false text none = none
 
-behind_of : (b : Bool) (text : List ℕ) → behind_minus text ≡ text → behind_minus (if b then 45 ∷ text else text) ≡ text
+pub behind_of : (b : Bool) (text : List ℕ) → behind_minus text ≡ text → behind_minus (if b then 45 ∷ text else text) ≡ text
 behind_of true text none = refl
 behind_of false text none = none
 
@@ -38,14 +38,14 @@ point_from : (ds rest : List ℕ) (i : ℕ) → AllDigits 10 ds → position_fro
 point_from [] rest i all = ap Some (omega arith)
 point_from (d ∷ ds) rest i all = rw (ne_eqb d 46 (no_point_byte d all.0)) (point_from ds rest (i + 1) all.1 ∙ ap Some (omega arith))
 
-point_behind : (ds rest : List ℕ) → AllDigits 10 ds → point_in (ds ++ 46 ∷ rest) ≡ Some (length ds)
+pub point_behind : (ds rest : List ℕ) → AllDigits 10 ds → point_in (ds ++ 46 ∷ rest) ≡ Some (length ds)
 point_behind ds rest all = position_from-zero (λ b. b == 46) (ds ++ 46 ∷ rest) ∙ point_from ds rest 0 all ∙ ap Some (omega arith)
 
 some : (n : ℕ) → suc n ≡ 0 → ⊥
 some n e = absurd (omega arith)
 
 -- the digits behind the point
-until_digits : (k n : ℕ) → n < 1000000 → AllDigits 10 (digits_until_zero k n)
+pub until_digits : (k n : ℕ) → n < 1000000 → AllDigits 10 (digits_until_zero k n)
 until_digits zero n below = tt
 until_digits (suc k) zero below = tt
 until_digits (suc k) (suc n) below = rw (ne_eqb (suc n) 0 (some n)) (let d = digit_is (suc n / 100000) (omega arith) in omega (arith, d), until_digits k (behind_first (suc n)) (omega arith))
@@ -98,7 +98,7 @@ until_value (suc k) (suc n) acc few below none =
     ∙ ap (λ j. acc * 10 ^ suc k + suc n / 10 ^ j) (sym places)
     )
 
-part_numeral : (p : ℕ) → p < 1000000 → IsNumeral 10 (part_text p)
+pub part_numeral : (p : ℕ) → p < 1000000 → IsNumeral 10 (part_text p)
 part_numeral p below = (omega arith, (let d = digit_is (p / 100000) (omega arith) in omega (arith, d), until_digits 5 (behind_first p) (omega arith)))
 
 part_value : (p : ℕ) → p < 1000000 → millionths (part_text p) ≡ p
@@ -111,7 +111,7 @@ part_value p below =
     ∙ value
     ∙ omega (arith, d)
 
-signed_is : (z : ℤ) → z ≡ signed (is_negative z) (unsigned_abs z)
+pub signed_is : (z : ℤ) → z ≡ signed (is_negative z) (unsigned_abs z)
 signed_is (pos n) = rw (le-ltb n 0 (omega arith)) refl
 signed_is (negsuc n) = refl
 

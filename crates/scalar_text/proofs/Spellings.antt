@@ -11,7 +11,7 @@ passes_at : (P : List ℕ → Bool) (word : List ℕ) (words : List (List ℕ)) 
 passes_at P word words text w true found all later = subst (λ v. P v ≡ true) (cc) (and_parts (P word) (list_all P words) all).0
 passes_at P word words text w false found all later = later found (and_parts (P word) (list_all P words) all).1
 
-passes : (P : List ℕ → Bool) (words : List (List ℕ)) (text w : List ℕ) → spelled words text ≡ Some w → list_all P words ≡ true → P w ≡ true
+pub passes : (P : List ℕ → Bool) (words : List (List ℕ)) (text w : List ℕ) → spelled words text ≡ Some w → list_all P words ≡ true → P w ≡ true
 passes P [] text w found all = cc
 passes P (word ∷ words) text w found all = passes_at P word words text w (str_eq_ignore_ascii_case word text) found all (passes P words text w)
 
@@ -52,14 +52,14 @@ registry_at text w (Some v) spelling found =
 pub registry_stays : (text w : List ℕ) → registry_of text ≡ Some w → registry_of w ≡ Some w
 registry_stays text w found = registry_at text w (spelled registry_words text) refl found
 
-class_is_spelled : (rows : List (List ℕ × List ℕ)) (text : List ℕ) → class_in rows text ≡ spelled (map (λ row. row.0) rows) text
+pub class_is_spelled : (rows : List (List ℕ × List ℕ)) (text : List ℕ) → class_in rows text ≡ spelled (map (λ row. row.0) rows) text
 class_is_spelled [] text = refl
 class_is_spelled (row ∷ rows) text = ap (λ o. if str_eq_ignore_ascii_case row.0 text then Some row.0 else o) (class_is_spelled rows text)
 
 pub class_stays : (text w : List ℕ) → class_in classes text ≡ Some w → class_in classes w ≡ Some w
 class_stays text w found = the_word w (class_in classes w) (passes (λ w. is_word w (class_in classes w)) (map (λ row. row.0) classes) text w (sym (class_is_spelled classes text) ∙ found) class_rule)
 
-taxonomy_is_spelled : (rows : List (List ℕ × List ℕ)) (text : List ℕ) → taxonomy_word_in rows text ≡ spelled (map (λ row. row.1) rows) text
+pub taxonomy_is_spelled : (rows : List (List ℕ × List ℕ)) (text : List ℕ) → taxonomy_word_in rows text ≡ spelled (map (λ row. row.1) rows) text
 taxonomy_is_spelled [] text = refl
 taxonomy_is_spelled (row ∷ rows) text = ap (λ o. if str_eq_ignore_ascii_case row.1 text then Some row.1 else o) (taxonomy_is_spelled rows text)
 

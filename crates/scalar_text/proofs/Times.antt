@@ -104,7 +104,7 @@ same_fraction_tail text a b (ds, r, et, hd, _, h) (es, s, es-is, kd, _, k) =
     same_offset s a b (subst (λ t. IsOffset t a) same h) k
 
 -- an offset begins with no point
-no_point : (rest : List ℕ) (z : ℤ) → ¬ (IsOffset (46 ∷ rest) z)
+pub no_point : (rest : List ℕ) (z : ℤ) → ¬ (IsOffset (46 ∷ rest) z)
 no_point rest z (inl h) = absurd (omega (arith, h.0))
 no_point rest z (inr (inl h)) = absurd (omega (arith, h.1))
 no_point rest z (inr (inr h)) = absurd (omega (arith, h.1))
@@ -165,11 +165,11 @@ in_64_bits day offset clock d c o =
 pub same_parts : {day day₂ offset offset₂ : ℤ} {clock clock₂ n : ℕ} → day ≡ day₂ → clock ≡ clock₂ → offset ≡ offset₂ → pos n ≡ day *ℤ pos 86400 +ℤ pos clock -ℤ offset → pos n ≡ day₂ *ℤ pos 86400 +ℤ pos clock₂ -ℤ offset₂
 same_parts d c o value = cc
 
-point_then : (text : List ℕ) → take 1 text ≡ 46 ∷ [] → text ≡ 46 ∷ drop 1 text
+pub point_then : (text : List ℕ) → take 1 text ≡ 46 ∷ [] → text ≡ 46 ∷ drop 1 text
 point_then [] e = absurd (cc)
 point_then (b ∷ bs) e = ap (λ x. x ∷ bs) (first_same b 46 [] [] e)
 
-no_point_tail : (text : List ℕ) (z : ℤ) → text ≡ 46 ∷ drop 1 text → ¬ (IsFractionTail (drop 1 text) z) → ¬ (IsTail text z)
+pub no_point_tail : (text : List ℕ) (z : ℤ) → text ≡ 46 ∷ drop 1 text → ¬ (IsFractionTail (drop 1 text) z) → ¬ (IsTail text z)
 no_point_tail text z e bad (inl h) = no_point (drop 1 text) z (subst (λ t. IsOffset t z) e h)
 no_point_tail text z e bad (inr (r, f, h)) = bad (subst (λ t. IsFractionTail t z) (sym (ap (λ t. drop 1 t) f)) h)
 

@@ -1,6 +1,7 @@
 -- Numbers as texts.
-use Rattle.std.specs.Prelude.{unsigned_abs, ◌≡◌, ℕ, zero, suc, ◌+◌, ◌-◌, ◌*◌, ◌/◌, ◌%◌, ◌^◌, ◌++◌, ◌==◌, ◌<◌, nat_lt, option_and_then, decimal, Bool, true, false, List, [], ◌∷◌, length, take, drop, position, Option, Some, None, ℤ, pos, neg_ℤ, if◌then◌else◌}
+use Rattle.std.specs.Prelude.{unsigned_abs, ◌≡◌, ℕ, zero, suc, ◌+◌, ◌-◌, ◌*◌, ◌/◌, ◌%◌, ◌^◌, ◌++◌, ◌==◌, ◌<◌, nat_lt, ◌&&◌, option_and_then, option_map, decimal, Bool, true, false, List, [], ◌∷◌, length, take, drop, position, Option, Some, None, ℤ, pos, neg_ℤ, if◌then◌else◌}
 use Rattle.std.specs.Int.{is_negative}
+use Rattle.std.specs.Str.{all_ascii_digits}
 use Rattle.std.specs.Str.Parse.{IsNumeral, digits_value}
 use Rattle.base_types.specs.Digits.{IsDigits, digits_in}
 
@@ -47,6 +48,26 @@ AreMillionths (Some i) text n =
 -- the text writes the decimal with so many millionths, perhaps behind a minus
 abbrev pub IsDecimalText : List ℕ → ℤ → Type 0
 IsDecimalText text z = let digits = behind_minus text in (n : ℕ) × AreMillionths (point_in digits) digits n × (z ≡ signed (has_minus text) n)
+
+-- that whole number, if there is one
+unfoldable pub whole_in : List ℕ → Option ℤ
+whole_in text = option_map (signed (has_minus text)) (digits_in 18 (behind_minus text))
+
+-- one decimal digit or more, and nothing else
+abbrev pub is_numeral : List ℕ → Bool
+is_numeral text = nat_lt 0 (length text) && all_ascii_digits text
+
+-- the millionths that the text with its first point there writes, if it writes any
+unfoldable pub millionths_in : Option ℕ → List ℕ → Option ℕ
+millionths_in None text = option_map (λ w. w * 1000000) (digits_in 12 text)
+millionths_in (Some i) text =
+    if is_numeral (drop (i + 1) text)
+    then option_map (λ w. w * 1000000 + millionths (drop (i + 1) text)) (digits_in 12 (take i text)) else None
+
+-- the decimal that the text writes, in millionths, if it writes one
+unfoldable pub decimal_in : List ℕ → Option ℤ
+decimal_in text =
+    let digits = behind_minus text in option_map (signed (has_minus text)) (millionths_in (point_in digits) digits)
 
 -- the first of the six digits of a number below a million
 abbrev pub first_digit : ℕ → ℕ

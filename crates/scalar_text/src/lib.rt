@@ -8,12 +8,18 @@ mod raw;
 mod time;
 mod words;
 
-pub use number::{decimal_of_a_text_is_one, read_decimal, read_port, read_whole};
+pub use number::{
+    decimal_of_a_text_is_one, number_forms_are_exact, read_decimal, read_port, read_whole,
+};
 pub use printing::{print_decimal, printed_decimal_reads_back};
 pub use quote::{quote_decimals, quoting_again_changes_nothing};
 pub use raw::{read_raw, write_raw};
-pub use time::{TimeFault, print_time, printed_time_reads_back, read_time, time_of_a_text_is_one};
+pub use time::{
+    TimeFault, print_time, printed_time_reads_back, read_time, time_forms_are_exact,
+    time_of_a_text_is_one,
+};
 pub use words::{
-    CLASSES, FLAG_WORDS, REGISTRY_WORDS, TLP_WORDS, clean_words_stay, read_class, read_flag,
-    read_registry, read_taxonomy, read_tlp, taxonomy_of,
+    CLASSES, FLAG_WORDS, REGISTRY_WORDS, TLP_WORDS, class_word, clean_words_stay, read_class,
+    read_flag, read_registry, read_taxonomy, read_tlp, registry_word, tables_are_those_defined,
+    taxonomy_of, taxonomy_word, tlp_word,
 };

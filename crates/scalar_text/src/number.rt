@@ -1,9 +1,9 @@
-ghost use Rattle.std.specs.Prelude.{ℤ, ◌≡◌, ◌≤◌, ◌<◌, ◌+◌, ◌^◌, ◌*◌, ℕ, IfSome, MatchOption, IsTrue, ◌↔◌, length, take, drop};
+ghost use Rattle.std.specs.Prelude.{ℤ, ◌≡◌, ◌≤◌, ◌<◌, ◌+◌, ◌^◌, ◌*◌, ℕ, IfSome, MatchOption, IsTrue, Some, ◌↔◌, length, take, drop};
 ghost use Rattle.std.specs.Result.{result_ok};
 ghost use Rattle.std.specs.Net.Grammar.{Parses};
 ghost use Rattle.std.specs.Str.Parse.{IsNumeral};
 ghost use Rattle.base_types.specs.Digits.{IsDigits};
-ghost use Rattle.scalar_text.specs.Number.{IsWholeText, IsPortText, port_in, IsDecimalText, AreMillionths, behind_minus, has_minus, signed, point_in, millionths};
+ghost use Rattle.scalar_text.specs.Number.{IsWholeText, whole_in, IsPortText, port_in, IsDecimalText, decimal_in, AreMillionths, behind_minus, has_minus, signed, point_in, millionths};
 
 use base_types::{Bad, read_digits};
 
@@ -33,8 +33,10 @@ fn signed(negative: bool, n: u64) -> i64
 }
 
 /// A whole number: perhaps a minus, and 1 to 18 digits.
+#[tactic(auto, using(crate::proofs::NumberForms::whole_none))]
 pub fn read_whole(text: &[u8]) -> Result<i64, Bad>
-    ensures { Parses IsWholeText text.now result }
+    ensures writes { Parses IsWholeText text.now result }
+    ensures value { result_ok result ≡ whole_in text.now }
 {
     match read_digits(behind_minus(text), 18) {
         Some(n) => Ok(signed(has_minus(text), n)),
@@ -137,14 +139,22 @@ fn read_millionths(text: &[u8]) -> Option<u64>
 
 /// A decimal in millionths: perhaps a minus, 1 to 12 digits, and perhaps a point and one digit or more. Digits behind
 /// the sixth are dropped. There is no exponent.
+#[tactic(auto, using(crate::proofs::NumberForms::decimal_none))]
 pub fn read_decimal(text: &[u8]) -> Result<i64, Bad>
-    ensures { Parses IsDecimalText text.now result }
+    ensures writes { Parses IsDecimalText text.now result }
+    ensures value { result_ok result ≡ decimal_in text.now }
 {
     match read_millionths(behind_minus(text)) {
         Some(n) => Ok(signed(has_minus(text), n)),
         None => Err(Bad),
     }
 }
+
+/// The function forms give what the texts write, and nothing where they write nothing.
+pub fn number_forms_are_exact(text: &[u8])
+    ensures whole { (z : ℤ) → IsWholeText text.now z ↔ whole_in text.now ≡ Some z }
+    ensures decimal { (z : ℤ) → IsDecimalText text.now z ↔ decimal_in text.now ≡ Some z }
+{}
 
 /// A text writes one decimal at most.
 pub fn decimal_of_a_text_is_one(text: &[u8])

@@ -1,10 +1,11 @@
 ghost use Rattle.std.specs.Prelude.{◌≡◌, ◌≤◌, ◌<◌, ◌^◌, ◌+ℤ◌, ◌*ℤ◌, ◌-ℤ◌, ◌/◌, ◌++◌, ℕ, ℤ, pos, neg_ℤ, false, codes, Some, None, IfOk, IfSome, MatchOption, IsTrue, ◌↔◌, length, take, drop, ◌∷◌, []};
 ghost use Rattle.std.specs.Str.Parse.{AllDigits};
+ghost use Rattle.std.specs.Result.{result_ok};
 ghost use Rattle.std.specs.Net.Grammar.{Parses};
 ghost use Rattle.jiff_core.specs.Calendar.{IsBetween, days_from_civil};
 ghost use Rattle.jiff_core.specs.Date.{epoch_day};
 ghost use Rattle.jiff_fmt.specs.Text.{datetime_text};
-ghost use Rattle.scalar_text.specs.Time.{IsExactly, IsTwoDigits, part, IsDayOf, IsFullDate, IsClock, IsSeparator, IsNoDigitAhead, behind_colon, IsShift, IsOffset, IsFractionTail, IsTail, IsTimeText, IsPrintedTime};
+ghost use Rattle.scalar_text.specs.Time.{IsExactly, IsTwoDigits, part, IsDayOf, IsFullDate, IsClock, IsSeparator, IsNoDigitAhead, behind_colon, IsShift, IsOffset, IsFractionTail, IsTail, IsTimeText, time_in, IsPrintedTime, time_text};
 
 use base_types::{OutOfMemory, Text, read_digits};
 use jiff_core::civil::{Date, DateTime, Time};
@@ -266,8 +267,11 @@ fn seconds_of(text: &[u8]) -> Option<u64>
 /// A time in seconds since 0001-01-01T00:00:00 UTC (RFC 3339, section 5.6): a date, `T` or a space, hour, minute and
 /// second, perhaps a point and 1 to 9 digits, which are dropped, and perhaps `Z` or an offset as `+hh:mm` or `+hhmm`.
 /// With no offset it is UTC. The year is 0001 to 9999, here and in UTC, and there is no leap second. It takes no memory.
+#[tactic(auto, using(crate::proofs::TimeForms::time_some, crate::proofs::TimeForms::time_none))]
 pub fn read_time(text: &[u8]) -> Result<u64, TimeFault>
-    ensures { Parses IsTimeText text.now result }
+    ensures writes { Parses IsTimeText text.now result }
+    ensures value { result_ok result ≡ time_in text.now }
+    ensures last { IfOk result (λ seconds. seconds ≤ 315_537_897_599) }
 {
     match seconds_of(text) {
         Some(seconds) => Ok(seconds),
@@ -296,7 +300,8 @@ fn utc_text(alloc: Global, civil: DateTime) -> Result<Text, OutOfMemory>
 /// minute and second in UTC, and `+00:00` (RFC 3339, section 5.6).
 pub fn print_time(alloc: Global, seconds: u64) -> Result<Text, OutOfMemory>
     requires { seconds ≤ 315_537_897_599 }
-    ensures { IfOk result (IsPrintedTime seconds) }
+    ensures printed { IfOk result (IsPrintedTime seconds) }
+    ensures text { IfOk result (λ text. text ≡ time_text seconds) }
 {
     let date = date_at(seconds);
     let time = Time::from_second((seconds % 86_400) as u32, 0);
@@ -308,6 +313,13 @@ pub fn printed_time_reads_back(seconds: u64, text: &[u8])
     requires last { seconds ≤ 315_537_897_599 }
     requires printed { IsPrintedTime seconds text.now }
     ensures { IsTimeText text.now seconds }
+{}
+
+/// The function forms give the times that texts write and the texts that times have, and nothing where there is none.
+pub fn time_forms_are_exact(seconds: u64, text: &[u8])
+    ensures read { IsTimeText text.now seconds ↔ time_in text.now ≡ Some seconds }
+    ensures printed { seconds ≤ 315_537_897_599 → (IsPrintedTime seconds text.now ↔ text.now ≡ time_text seconds) }
+    ensures back { seconds ≤ 315_537_897_599 → time_in (time_text seconds) ≡ Some seconds }
 {}
 
 /// A text writes one time at most.

@@ -2,7 +2,8 @@ ghost use Rattle.std.specs.Prelude.{◌≡◌, ℕ, List, Some, map};
 ghost use Rattle.std.specs.Option.{option_copied};
 ghost use Rattle.std.specs.Str.{str_eq_ignore_ascii_case};
 ghost use Rattle.base_types.specs.Scalar.{IsReadAs, IsReadPlainly};
-ghost use Rattle.scalar_text.specs.Words.{spelled, tlp_of, registry_of, registry_name, classes, class_in, taxonomy_word_in, taxonomy_in, flag_of};
+ghost use Rattle.scalar_text.specs.Words.{spelled, tlp_words, registry_words, flag_words, tlp_of, registry_of, registry_name, classes, class_in, taxonomy_word_in, taxonomy_in, flag_of};
+ghost use Rattle.scalar_text.specs.declared.words.TheConstants as table;
 
 use base_types::{Bad, ScalarFault, Text};
 use std::alloc::Global;
@@ -101,11 +102,18 @@ fn text_of(alloc: Global, word: Option<&'static str>) -> Result<Text, ScalarFaul
     }
 }
 
+/// The word of a mark of the Traffic Light Protocol, in upper case, which the text spells in any case. It takes no memory.
+pub fn tlp_word(text: &[u8]) -> Option<&'static str>
+    ensures { option_copied result ≡ tlp_of text.now }
+{
+    spelled(&TLP_WORDS, text)
+}
+
 /// A mark of the Traffic Light Protocol, in any case: its word in upper case.
 pub fn read_tlp(alloc: Global, text: &[u8]) -> Result<Text, ScalarFault>
     ensures { IsReadAs (tlp_of text.now) result }
 {
-    text_of(alloc, spelled(&TLP_WORDS, text))
+    text_of(alloc, tlp_word(text))
 }
 
 // The name of a registry, by a spelling of it.
@@ -119,7 +127,8 @@ fn registry_name(word: &'static str) -> &'static str
     }
 }
 
-fn registry(text: &[u8]) -> Option<&'static str>
+/// The name of a regional Internet registry, in upper case, which the text spells in any case. It takes no memory.
+pub fn registry_word(text: &[u8]) -> Option<&'static str>
     ensures { option_copied result ≡ registry_of text.now }
 {
     match spelled(&REGISTRY_WORDS, text) {
@@ -132,7 +141,7 @@ fn registry(text: &[u8]) -> Option<&'static str>
 pub fn read_registry(alloc: Global, text: &[u8]) -> Result<Text, ScalarFault>
     ensures { IsReadAs (registry_of text.now) result }
 {
-    text_of(alloc, registry(text))
+    text_of(alloc, registry_word(text))
 }
 
 // The first type of these that the text spells.
@@ -171,18 +180,32 @@ fn taxonomy_in(rows: &[Row], class: &[u8]) -> Option<&'static str>
     None
 }
 
+/// The word of a type of incidents, in lower case, which the text spells in any case. It takes no memory.
+pub fn class_word(text: &[u8]) -> Option<&'static str>
+    ensures { option_copied result ≡ class_in classes text.now }
+{
+    class_in(&CLASSES, text)
+}
+
 /// The type of an incident, in any case: its word in lower case.
 pub fn read_class(alloc: Global, text: &[u8]) -> Result<Text, ScalarFault>
     ensures { IsReadAs (class_in classes text.now) result }
 {
-    text_of(alloc, class_in(&CLASSES, text))
+    text_of(alloc, class_word(text))
+}
+
+/// The word of a taxonomy, in lower case, which the text spells in any case. It takes no memory.
+pub fn taxonomy_word(text: &[u8]) -> Option<&'static str>
+    ensures { option_copied result ≡ taxonomy_word_in classes text.now }
+{
+    taxonomy_word_in(&CLASSES, text)
 }
 
 /// The taxonomy of an incident, in any case: its word in lower case.
 pub fn read_taxonomy(alloc: Global, text: &[u8]) -> Result<Text, ScalarFault>
     ensures { IsReadAs (taxonomy_word_in classes text.now) result }
 {
-    text_of(alloc, taxonomy_word_in(&CLASSES, text))
+    text_of(alloc, taxonomy_word(text))
 }
 
 /// The taxonomy of a type of incidents, by the type's canonical word. It takes no memory.
@@ -209,4 +232,12 @@ pub fn clean_words_stay(text: &[u8])
     ensures registry { (word : List ℕ) → registry_of text.now ≡ Some word → registry_of word ≡ Some word }
     ensures class { (word : List ℕ) → class_in classes text.now ≡ Some word → class_in classes word ≡ Some word }
     ensures taxonomy { (word : List ℕ) → taxonomy_word_in classes text.now ≡ Some word → taxonomy_word_in classes word ≡ Some word }
+{}
+
+/// The tables of the code are those of the definitions, row by row.
+pub fn tables_are_those_defined()
+    ensures tlp { map (λ word. word.now) table.TLP_WORDS ≡ tlp_words }
+    ensures registry { map (λ word. word.now) table.REGISTRY_WORDS ≡ registry_words }
+    ensures flag { map (λ word. word.now) table.FLAG_WORDS ≡ flag_words }
+    ensures class { map (λ row. (row.0.now, row.1.now)) table.CLASSES ≡ classes }
 {}

@@ -1,6 +1,7 @@
 use Rattle.std.proofs.Common.{true, false, Some, sym, ap, ◌∙◌}
 use Rattle.scalar_net.proofs.Addresses.{no_ip}
 use Rattle.scalar_net.proofs.WholeTexts.{ip_in-ipv4, ip_in-ipv6, ip_in-none}
+use Rattle.scalar_net.proofs.Texts.{four_text}
 use Rattle.scalar_net.proofs.reading.read_ip.Goals as goal
 
 pub returns-in-Ok-clause-value : goal.returns-in-Ok-clause-value
@@ -16,3 +17,6 @@ returns-in-Err-clause-writes c = no_ip c.args.text.now c.in_default.ensures c.in
 
 pub returns-in-Err-clause-value : goal.returns-in-Err-clause-value
 returns-in-Err-clause-value c = sym (ip_in-none c.args.text.now c.in_default.ensures c.in-Err.ensures)
+
+pub returns-in-Ok-clause-four : goal.returns-in-Ok-clause-four
+returns-in-Ok-clause-four c = λ _. four_text c.args.text.now c.in-Ok.four c.to_bits.result c.to_bits.ensures c.in-Ok.ensures
