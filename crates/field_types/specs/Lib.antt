@@ -1,0 +1,6 @@
+pub mod Cleaning
+pub mod Faults
+pub mod Field
+pub mod Kept
+pub mod Strip
+pub mod Writing

@@ -1,0 +1,19 @@
+//! The fields of a message: their names, kinds and canonical values.
+#![tactic(auto)]
+
+mod blanks;
+mod cleaning;
+mod fault;
+mod field;
+mod kind;
+mod texts;
+mod value;
+mod writing;
+
+pub use blanks::strip;
+pub use cleaning::{sanitise, sanitise_own, sanitise_text};
+pub use fault::FieldFault;
+pub use field::{FIELDS, type_of, type_of_bytes};
+pub use kind::FieldType;
+pub use value::{Item, ItemList, Value};
+pub use writing::{push_quoted, push_value};
