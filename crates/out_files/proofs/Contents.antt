@@ -1,6 +1,7 @@
 -- What a write, or a cut, leaves at a file's front.
-use Rattle.std.proofs.Common.{◌≡◌, ◌<◌, ◌≤◌, ◌+◌, ℕ, min, List, [], ◌∷◌, ◌++◌, length, get_or, take, drop, sym, ◌∙◌, ap, arith, length-append, append_assoc}
-use Rattle.std.proofs.lemmas.List.{length-take, length-take-le, take-take, take_at, take_more, take-append-drop, append-nil, nil_from_length}
+use Rattle.std.proofs.Common.{◌≡◌, ◌<◌, ◌≤◌, ◌+◌, ⊎_elim, ℕ, min, List, [], ◌∷◌, ◌++◌, length, get_or, take, drop, sym, ◌∙◌, ap, arith, length-append, append_assoc}
+use Rattle.std.proofs.lemmas.List.{get_or_default, length-take, length-take-le, take-take, take_at, take_more, take-append-drop, append-nil, nil_from_length}
+use Rattle.std.proofs.lemmas.Bool.{cases_lt}
 use Rattle.edge_traits.specs.Count.{Rose}
 use Rattle.std.proofs.lemmas.Grind.{flat_map-append}
 use Rattle.edge_traits.specs.Disk.{Torn, Cut, overwritten}
@@ -89,3 +90,13 @@ size_more at sealed gathered more lines i line within is pushed before =
 -- a count that rose later rose
 pub rose_later : (old mid new : ℕ) → old ≤ mid → mid ≤ new → Rose mid new → Rose old new
 rose_later old mid new before after rose = grind arith
+
+-- no line is longer, one line later
+pub longest_more : (lines : List (List ℕ)) (i : ℕ) (item : List ℕ) (before now : ℕ) → i < length lines → item ≡ get_or lines i item
+    → ((k : ℕ) (line : List ℕ) → k < i → line ≡ get_or lines k line → length line ≤ before) → before ≤ now → length item ≤ now
+    → (k : ℕ) (line : List ℕ) → k < i + 1 → line ≡ get_or lines k line → length line ≤ now
+longest_more lines i item before now within is each rose fits k line lt here =
+    ⊎_elim (λ earlier. (let le = each k line earlier here in omega (arith, le, rose))) (λ last.
+    let at : k ≡ i = omega (arith, last, lt) in
+    let same : line ≡ item = here ∙ ap (λ j. get_or lines j line) at ∙ get_or_default lines i line item within ∙ sym is in
+    omega (arith, ap length same, fits)) (cases_lt k i)

@@ -1,5 +1,5 @@
 -- What calls do that write one file only, from a sealed length on.
-use Rattle.std.specs.Prelude.{◌≡◌, ◌≢◌, ◌≤◌, ℕ, List, ◌++◌, length, take, Some, None}
+use Rattle.std.specs.Prelude.{◌≡◌, ◌≢◌, ◌<◌, ◌≤◌, ◌+◌, ℕ, List, ◌++◌, length, take, get_or, Some, None}
 use Rattle.edge_traits.specs.Disk.{DiskView, Image, ChangesOnly, Adds, Leaves}
 use Rattle.out_files.specs.Output.{KeepsFront}
 
@@ -16,6 +16,14 @@ pub record RunsAbove {D : Type 0} (disk : D → DiskView) (may_leave : D → ℕ
   pub any_moment : (front : List ℕ) → length front ≡ sealed → EachBegins sealed front (may_leave old file)
       → Leaves disk left_since old new (KeepsFront may_leave old file front)
   pub count : (disk old).faults ≤ (disk new).faults
+
+-- how many bytes are gathered at least before they are written out
+abbrev pub piece_length : ℕ
+piece_length = 65_536
+
+-- so much room is enough for a piece, and for any one of the lines behind it
+abbrev pub HasRoom : ℕ → List (List ℕ) → Type 0
+HasRoom capacity lines = (i : ℕ) (line : List ℕ) → i < length lines → line ≡ get_or lines i line → piece_length + length line ≤ capacity
 
 -- the file up to an offset, and then the gathered bytes, are this text
 pub record IsSoFar (content : List ℕ) (at : ℕ) (gathered text : List ℕ) : Type 0 where

@@ -1,8 +1,9 @@
-ghost use Rattle.std.specs.Prelude.{◌≡◌, ◌≢◌, ◌<◌, ◌≤◌, ◌+◌, ◌++◌, [], ◌∷◌, ℕ, List, length, take, Some, None, IfOk, IfErr, OnOk, IsErr, IsErrOf};
+ghost use Rattle.std.specs.Prelude.{◌≡◌, ◌≢◌, ◌<◌, ◌≤◌, ◌+◌, ◌++◌, [], ◌∷◌, ℕ, List, length, max, take, Some, None, IfOk, IfErr, OnOk, IsErr, IsErrOf};
 ghost use Rattle.edge_traits.specs.Count.{Rose};
 ghost use Rattle.edge_traits.specs.Disk.{Image, longest_file, ChangesOnly, Adds, Only, Leaves};
 ghost use Rattle.out_files.specs.Output.{lines_text, completed, KeepsFront, IsFaultOf};
-ghost use Rattle.out_files.specs.Run.{RunsAbove, IsSoFar};
+ghost use Rattle.out_files.specs.Run.{HasRoom, RunsAbove, IsSoFar};
+ghost use Rattle.std.specs.Vec.{vec_capacity};
 
 use base_types::LineList;
 use edge_traits::{Disk, Failed};
@@ -46,7 +47,8 @@ impl From<AllocError> for OutFault {
 ///
 /// # Errors
 ///
-/// `Short` where the file has fewer bytes than are sealed; it stays as it is. `Disk`, `OutOfMemory`.
+/// `Short` where the file has fewer bytes than are sealed; it stays as it is. `Disk`. `OutOfMemory`, before the disk is
+/// touched.
 pub fn bring_up<D: Disk>(
     alloc: Global,
     disk: &mut D,
@@ -72,49 +74,73 @@ pub fn bring_up<D: Disk>(
         (KeepsFront D.may_leave disk.old file front) }
     ensures failed { IsErrOf result OutFault.Disk → Rose (D.disk disk.old).faults (D.disk disk.new).faults }
     ensures count { (D.disk disk.old).faults ≤ (D.disk disk.new).faults }
+
+    // Memory is taken before the disk is touched.
+    ensures no_memory { IsErrOf result OutFault.OutOfMemory → disk.new ≡ disk.old }
 {
+    let mut buffer = buffer_for(alloc, lines)?;
     let have = disk.len(file)?;
     if have < sealed {
         return Err(OutFault::Short { have });
     }
-    let end = write_lines(alloc, disk, file, sealed, lines)?;
+    let end = write_lines(disk, file, sealed, lines, &mut buffer)?;
     disk.cut(file, end)?;
     disk.sync(file)?;
     Ok(end)
 }
 
+// An empty buffer with room for a piece, and for any one of the lines behind it.
+fn buffer_for(alloc: Global, lines: &LineList) -> Result<Vec<u8>, AllocError>
+    ensures empty { IfOk result (λ buffer. buffer.items ≡ []) }
+    ensures room { IfOk result (λ buffer. HasRoom (vec_capacity buffer) lines.now) }
+{
+    let mut longest = 0;
+    'lines: for line in lines.as_slice() {
+        longest = longer(longest, line.bytes().len());
+    }
+    Vec::with_capacity(alloc, PIECE + longest)
+}
+
+fn longer(a: usize, b: usize) -> usize
+    ensures { result ≡ max a b }
+{
+    if a < b { b } else { a }
+}
+
 // Writes the lines from the sealed length on, and answers the offset behind them. Older bytes may be left there.
 fn write_lines<D: Disk>(
-    alloc: Global,
     disk: &mut D,
     file: u64,
     sealed: u64,
     lines: &LineList,
-) -> Result<u64, OutFault>
+    buffer: &mut Vec<u8>,
+) -> Result<u64, Failed>
+    requires empty { buffer.old.items ≡ [] }
+    requires room { HasRoom (vec_capacity buffer.old) lines.now }
     requires small { sealed + length (lines_text lines.now) ≤ longest_file }
     requires within { (files : Image) → (D.disk disk.old).told ≡ Some files → sealed ≤ length (files file) }
     ensures end { IfOk result (λ n. n ≡ sealed + length (lines_text lines.now)) }
     ensures written { (files after : Image) → (D.disk disk.old).told ≡ Some files → (D.disk disk.new).told ≡ Some after
         → IfOk result (λ n. IsSoFar (after file) n [] (completed (files file) sealed lines.now)) }
     ensures run { RunsAbove D.disk D.may_leave D.left_since disk.old disk.new file sealed }
-    ensures not_short { (have : ℕ) → IsErrOf result (OutFault.Short have) → ⊥ }
-    ensures failed { IsErrOf result OutFault.Disk → Rose (D.disk disk.old).faults (D.disk disk.new).faults }
+    ensures failed { IsErr result → Rose (D.disk disk.old).faults (D.disk disk.new).faults }
 {
-    let mut buffer = Vec::new(alloc);
     let mut at = sealed;
     'lines: for line in lines.as_slice() {
-        push_line(&mut buffer, line.bytes())?;
-        at = write_out(disk, file, at, &mut buffer, PIECE)?;
+        push_line(buffer, line.bytes());
+        at = write_out(disk, file, at, buffer, PIECE)?;
     }
-    Ok(write_out(disk, file, at, &mut buffer, 1)?)
+    Ok(write_out(disk, file, at, buffer, 1)?)
 }
 
-fn push_line(buffer: &mut Vec<u8>, line: &[u8]) -> Result<(), AllocError>
-    ensures { OnOk result (buffer.new.items ≡ buffer.old.items ++ line.now ++ 10 ∷ []) }
+// Gathers a line for which there is room, and so takes no memory.
+fn push_line(buffer: &mut Vec<u8>, line: &[u8])
+    requires room { length buffer.old.items + length line.now + 1 ≤ vec_capacity buffer.old }
+    ensures items { buffer.new.items ≡ buffer.old.items ++ line.now ++ 10 ∷ [] }
+    ensures capacity { vec_capacity buffer.old ≤ vec_capacity buffer.new }
 {
-    buffer.extend_from_slice(line)?;
-    buffer.push(b'\n')?;
-    Ok(())
+    let _ = buffer.extend_from_slice(line);
+    let _ = buffer.push(b'\n');
 }
 
 // Writes the gathered bytes at the offset `at` and empties the buffer, where it has at least so many. Answers the
@@ -130,6 +156,7 @@ fn write_out<D: Disk>(
     requires small { at + length buffer.old.items ≤ longest_file }
     requires within { (files : Image) → (D.disk disk.old).told ≡ Some files → at ≤ length (files file) }
     ensures less { OnOk result (length buffer.new.items < least) }
+    ensures capacity { vec_capacity buffer.new ≡ vec_capacity buffer.old }
     ensures end { IfOk result (λ n. (at ≤ n) × (n + length buffer.new.items ≡ at + length buffer.old.items)) }
     ensures written { (files after : Image) (text : List ℕ) → (D.disk disk.old).told ≡ Some files → (D.disk disk.new).told ≡ Some after
         → IsSoFar (files file) at buffer.old.items text → IfOk result (λ n. IsSoFar (after file) n buffer.new.items text) }

@@ -1,4 +1,4 @@
-use Rattle.std.proofs.Common.{◌≡◌, ◌+◌, ℕ, List, length, take, true, refl, ap, ◌∙◌, arith}
+use Rattle.std.proofs.Common.{◌≡◌, ◌<◌, ◌+◌, ℕ, List, length, take, get_or, true, refl, ap, ◌∙◌, subst, arith}
 use Rattle.std.proofs.lemmas.List.{take_all}
 use Rattle.edge_traits.specs.Disk.{Image}
 use Rattle.out_files.specs.Output.{lines_text, completed}
@@ -9,17 +9,24 @@ use Rattle.out_files.proofs.out_files.write_lines.Goals as goal
 pub lines-init : goal.lines-init
 lines-init g c = record {
   above = omega arith;
-  size = omega (arith, ap length c.new-buffer.ensures.items);
+  size = omega (arith, ap length c.requires.empty);
   text = λ files after told told_after.
       let same : files ≡ after = cc in
-      nothing_gathered c.args.sealed _ (files c.args.file) (after c.args.file) c.new-buffer.ensures.items (c.requires.within files told) (ap (λ (f : Image). f c.args.file) same);
+      nothing_gathered c.args.sealed _ (files c.args.file) (after c.args.file) c.requires.empty (c.requires.within files told) (ap (λ (f : Image). f c.args.file) same);
+  less = omega (arith, ap length c.requires.empty);
+  room = omega arith;
   run = no_call c.args.file c.args.sealed (g.met.D.Disk.only_now c.args.disk.now);
 }
+
+pub push_line-requires : goal.push_line-requires
+push_line-requires g c =
+    let enough = c.requires.room c.lines.line-index c.line-item.result (subst (λ (ls : List (List ℕ)). c.lines.line-index < length ls) c.as_slice-line-items.ensures c.lines-test.true) (c.line-item.is ∙ ap (λ (ls : List (List ℕ)). get_or ls c.lines.line-index c.line-item.result) c.as_slice-line-items.ensures) in
+    omega (arith, enough, c.lines.invariant.room, c.lines.invariant.less, ap length c.bytes.ensures)
 
 pub write_out-requires-clause-small : goal.write_out-requires-clause-small
 write_out-requires-clause-small g c =
     let whole = lines_no_longer c.as_slice-line-items.result.now (c.lines.line-index + 1) in
-    let pushed = pushed_same c.push_line.new.buffer.items c.lines.buffer.items c.bytes.result.now c.line-item.result c.in_ok-push_line.ensures c.bytes.ensures in
+    let pushed = pushed_same c.push_line.new.buffer.items c.lines.buffer.items c.bytes.result.now c.line-item.result c.push_line.ensures.items c.bytes.ensures in
     let size = size_more c.lines.at c.args.sealed c.lines.buffer.items c.push_line.new.buffer.items c.as_slice-line-items.result.now c.lines.line-index c.line-item.result c.lines-test.true c.line-item.is pushed c.lines.invariant.size in
     omega (arith, size, whole, ap (λ (ls : List (List ℕ)). length (lines_text ls)) c.as_slice-line-items.ensures)
 
@@ -39,7 +46,7 @@ returns-in_err-at-clause-failed g c _ =
 pub lines-preserved : goal.lines-preserved
 lines-preserved g c =
     let items = c.as_slice-line-items.result.now in
-    let pushed = pushed_same c.push_line.new.buffer.items c.lines.buffer.items c.bytes.result.now c.line-item.result c.in_ok-push_line.ensures c.bytes.ensures in
+    let pushed = pushed_same c.push_line.new.buffer.items c.lines.buffer.items c.bytes.result.now c.line-item.result c.push_line.ensures.items c.bytes.ensures in
     let size = size_more c.lines.at c.args.sealed c.lines.buffer.items c.push_line.new.buffer.items items c.lines.line-index c.line-item.result c.lines-test.true c.line-item.is pushed c.lines.invariant.size in
     record {
       above = omega (arith, c.in_ok-at.ensures.end.0, c.lines.invariant.above);
@@ -49,6 +56,8 @@ lines-preserved g c =
           let before = c.lines.invariant.text files mid.0 told mid.1 in
           c.in_ok-at.ensures.written mid.0 after _ mid.1 told_after
           (gathered_more (mid.0 c.args.file) c.lines.at c.lines.buffer.items c.push_line.new.buffer.items (files c.args.file) c.args.sealed items c.lines.line-index c.line-item.result c.lines-test.true c.line-item.is pushed before);
+      less = c.in_ok-at.ensures.less;
+      room = omega (arith, c.push_line.ensures.capacity, c.in_ok-at.ensures.capacity, c.lines.invariant.room);
       run = then_run c.lines.invariant.run (c.write_out.ensures.run c.args.sealed c.lines.invariant.above);
     }
 
@@ -61,9 +70,6 @@ pub write_out-requires-2-clause-within : goal.write_out-requires-2-clause-within
 write_out-requires-2-clause-within g c files told =
     let old = told_before _ _ c.lines.invariant.run.untold files told in
     (c.lines.invariant.text old.0 files old.1 told).within
-
-pub returns-in_err-push_line-clause-run : goal.returns-in_err-push_line-clause-run
-returns-in_err-push_line-clause-run g c = c.lines.invariant.run
 
 pub returns-in_err-write_out-clause-run : goal.returns-in_err-write_out-clause-run
 returns-in_err-write_out-clause-run g c = then_run c.lines.invariant.run (c.write_out-2.ensures.run c.args.sealed c.lines.invariant.above)
