@@ -1,6 +1,5 @@
 ghost use Rattle.std.specs.Prelude.{◌≡◌, ◌==◌, [], ℕ, OnOk, OnErr, position};
 ghost use Rattle.edge_memory.specs.Entries.{content_after};
-ghost use Rattle.edge_memory.specs.Files.{bytes_in};
 
 use crate::change::Entry;
 use crate::replay::change;
