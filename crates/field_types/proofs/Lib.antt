@@ -1,8 +1,12 @@
 pub mod Cases
+pub mod CleanedTwice
 pub mod Ends
 pub mod Joined
 pub mod KindByKind
 pub mod Utf8
 pub mod Plain
 pub mod Stripped
+pub mod Twice
+pub mod TwiceMore
+pub mod TwiceTexts
 pub mod Wholes

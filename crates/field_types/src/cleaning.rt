@@ -1,8 +1,9 @@
 ghost use Rattle.std.specs.Prelude.{◌≡◌, List, ℕ, Some};
 ghost use Rattle.std.specs.List.{list_all};
 ghost use Rattle.field_types.specs.declared.kind.FieldType.TheVariants as kind;
+ghost use Rattle.field_types.specs.declared.value.Value.{Value as AnyValue};
 ghost use Rattle.field_types.specs.declared.value.Value.TheVariants as value;
-ghost use Rattle.field_types.specs.Cleaning.{clean, is_extra_item, is_short, IsCleaned};
+ghost use Rattle.field_types.specs.Cleaning.{clean, is_extra_item, is_short, IsCleaned, IsOfKind};
 ghost use Rattle.field_types.specs.Kept.{takes_words, takes_items};
 ghost use Rattle.field_types.specs.Writing.{flag_word};
 
@@ -269,3 +270,9 @@ fn clean_items(kind: FieldType, items: ItemList) -> Result<Value, FieldFault>
         Err(FieldFault::BadValue)
     }
 }
+
+/// To clean a value twice is to clean it once: what is kept of a value is canonical. Of addresses and networks this
+/// isn't said here.
+pub fn clean_values_stay(field_type: FieldType)
+    ensures { (u v : AnyValue) → (field_type ≡ kind.Ip → ⊥) → (field_type ≡ kind.Network → ⊥) → clean field_type u ≡ Some v → IsOfKind field_type v }
+{}

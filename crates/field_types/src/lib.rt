@@ -11,7 +11,7 @@ mod value;
 mod writing;
 
 pub use blanks::strip;
-pub use cleaning::{sanitise, sanitise_own, sanitise_text};
+pub use cleaning::{clean_values_stay, sanitise, sanitise_own, sanitise_text};
 pub use fault::FieldFault;
 pub use field::{FIELDS, type_of, type_of_bytes};
 pub use kind::FieldType;

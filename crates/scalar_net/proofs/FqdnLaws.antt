@@ -93,3 +93,10 @@ fqdn-no_ipv4 text name e a h =
     let none : is_ipv4 name ≡ false = fourth (nat_le (length name) 253) (list_any is_dot name) (list_all is_label (slice_split is_dot name)) _ is_name in
     let some : is_ipv4 name ≡ true = ap is_some (read_ipv4-complete name _ h) in
     cc)
+
+pub fqdn_labels : (text name : List ℕ) → fqdn text ≡ Some name → list_all is_label (slice_split is_dot name) ≡ true
+unfolding fqdn
+fqdn_labels text name e =
+    and_then_some (if_passes is_domain_name) (domain_to_ascii EMPTY (without_final_dot text)) name e (λ ascii read kept.
+    let (passes, same) = cond_some (is_domain_name ascii) ascii name kept in
+    name_labels name (ap is_domain_name (sym same) ∙ passes))

@@ -21,7 +21,7 @@ part_below value (suc (suc (suc (suc (suc zero))))) few below = omega arith
 part_below value (suc (suc (suc (suc (suc (suc zero)))))) few below = omega arith
 part_below value (suc (suc (suc (suc (suc (suc (suc len))))))) few below = absurd (omega arith)
 
-front_digits : (n : ℕ) (ds : List ℕ) → AllDigits 10 ds → AllDigits 10 (take n ds)
+pub front_digits : (n : ℕ) (ds : List ℕ) → AllDigits 10 ds → AllDigits 10 (take n ds)
 front_digits zero ds all = tt
 front_digits (suc n) [] all = tt
 front_digits (suc n) (d ∷ ds) all = (all.0, front_digits n ds all.1)
