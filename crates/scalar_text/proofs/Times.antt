@@ -3,7 +3,6 @@ use Rattle.std.proofs.Common.{◌≡◌, ℕ, zero, suc, ◌≤◌, ◌<◌, inl
 use Rattle.std.proofs.lemmas.Int.{to_z_pos}
 use Rattle.std.specs.Char.{digit_value}
 use Rattle.std.specs.Str.Parse.{AllDigits}
-use Rattle.std.proofs.Math.ListN.{drop_of_length-le}
 use Rattle.std.proofs.lemmas.List.{length-take-le, take-append-drop}
 use Rattle.jiff_core.specs.Calendar.{IsDate, IsBetween, days_from_civil, day_count}
 use Rattle.jiff_core.proofs.SignedLemmas.{signed_arith}
@@ -131,9 +130,6 @@ pub ahead_at : (text : List ℕ) (i byte : ℕ) → i < length text → byte ≡
 ahead_at [] i byte within at other = absurd (omega arith)
 ahead_at (b ∷ bs) zero byte within at other = subst (λ x. ¬ (digit_value x < 10)) at other
 ahead_at (b ∷ bs) (suc i) byte within at other = ahead_at bs i byte (omega arith) at other
-
-pub ahead_end : (text : List ℕ) (n : ℕ) → n ≡ length text → IsNoDigitAhead (drop n text)
-ahead_end text n e = subst IsNoDigitAhead (sym (drop_of_length-le text {i = n} (omega arith))) tt
 
 no_east : (b : ℕ) (bs : List ℕ) (z : ℤ) → b ≡ 43 → ((n : ℕ) → ¬ (IsShift bs n)) → ¬ (IsOffset (b ∷ bs) z)
 no_east b bs z plus h (inl k) = absurd (omega (arith, k.0))
