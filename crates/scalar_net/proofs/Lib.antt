@@ -1,9 +1,11 @@
 pub mod Addresses
+pub mod Again
 pub mod Booleans
 pub mod Bytes
 pub mod FqdnLaws
 pub mod NetworkTexts
 pub mod Networks
+pub mod Ranges
 pub mod Runs
 pub mod Slashes
 pub mod Systems

@@ -11,11 +11,11 @@ use Rattle.scalar_net.specs.Network.{IsInside, IsNetworkOf, IsNetworkText, netwo
 use Rattle.scalar_net.proofs.Texts.{IsIpText-ip_text}
 use Rattle.scalar_net.proofs.Networks.{IsNetworkText_unique}
 
-width-le : (six : Bool) → width six ≤ 128
+pub width-le : (six : Bool) → width six ≤ 128
 width-le false = omega arith
 width-le true = omega arith
 
-IsDigits-decimal : (len : ℕ) → len ≤ 128 → IsDigits 3 (decimal len) len
+pub IsDigits-decimal : (len : ℕ) → len ≤ 128 → IsDigits 3 (decimal len) len
 IsDigits-decimal len most = (decimal_is_IsNumeral len (omega arith), length-decimal-le 3 len (omega arith) (omega arith) (omega arith))
 
 -- bits with no host bits stay

@@ -97,7 +97,7 @@ unfolding network_in
 network_in-past text address digits six bits len parts ip number past =
     rw (network_in-parts text address digits parts, ip, number, lt-leb len (width six) past)
 
-network_in-some : (text address digits : List ℕ) (six : Bool) (bits len : ℕ) → (text ≡ address ++ 47 ∷ digits) × ¬ (Contains digits 47) → ip_in address ≡ Some (six, bits) → digits_in 3 digits ≡ Some len → len ≤ width six → network_in text ≡ Some (six, without_host_bits (width six - len) bits, len)
+pub network_in-some : (text address digits : List ℕ) (six : Bool) (bits len : ℕ) → (text ≡ address ++ 47 ∷ digits) × ¬ (Contains digits 47) → ip_in address ≡ Some (six, bits) → digits_in 3 digits ≡ Some len → len ≤ width six → network_in text ≡ Some (six, without_host_bits (width six - len) bits, len)
 unfolding network_in
 network_in-some text address digits six bits len parts ip number within =
     rw (network_in-parts text address digits parts, ip, number, le-leb len (width six) within)

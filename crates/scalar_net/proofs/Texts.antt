@@ -13,15 +13,15 @@ use Rattle.scalar_net.specs.Address.{IsIpText, octets, groups, text_of_bits, ip_
 use Rattle.scalar_net.proofs.Addresses.{IsIpText_unique}
 use Rattle.scalar_net.proofs.Bytes.{AllBytes-bytes_high_first, length-bytes_high_first, octets_of-segments_of, segments_of-lt, length-segments_of, from_be_bytes-to_be_bytes_16}
 
-octets_written : (bits : ℕ) → IsDotted (ipv4_text (octets bits)) (octets bits)
+pub octets_written : (bits : ℕ) → IsDotted (ipv4_text (octets bits)) (octets bits)
 unfolding octets
 octets_written bits = IsDotted-ipv4_text _ (length-bytes_high_first 4 bits) (AllBytes-bytes_high_first 4 bits)
 
-octets_number : (bits : ℕ) → bits < 2 ^ 32 → bits ≡ ipv4_bits (record { octets = octets bits })
+pub octets_number : (bits : ℕ) → bits < 2 ^ 32 → bits ≡ ipv4_bits (record { octets = octets bits })
 unfolding octets ipv4_bits
 octets_number bits fits = sym (from_be_bytes-to_be_bytes_4 bits fits)
 
-groups_written : (bits : ℕ) → IsColonHex (hex_groups_text (groups bits)) (groups bits)
+pub groups_written : (bits : ℕ) → IsColonHex (hex_groups_text (groups bits)) (groups bits)
 unfolding groups
 groups_written bits =
     let bytes = to_be_bytes w128 bits in
@@ -29,7 +29,7 @@ groups_written bits =
     let small = segments_of-lt bytes (AllBytes-bytes_high_first 16 bits) in
     IsColonHex-hex_groups_text (segments_of bytes) len small
 
-groups_number : (bits : ℕ) → bits < 2 ^ 128 → bits ≡ ipv6_bits (record { segments = groups bits })
+pub groups_number : (bits : ℕ) → bits < 2 ^ 128 → bits ≡ ipv6_bits (record { segments = groups bits })
 unfolding groups ipv6_bits
 groups_number bits fits =
     let bytes = to_be_bytes w128 bits in
