@@ -7,6 +7,7 @@ pub mod Utf8
 pub mod Plain
 pub mod Stripped
 pub mod Twice
+pub mod TwiceAddresses
 pub mod TwiceMore
 pub mod TwiceTexts
 pub mod Wholes

@@ -271,8 +271,7 @@ fn clean_items(kind: FieldType, items: ItemList) -> Result<Value, FieldFault>
     }
 }
 
-/// To clean a value twice is to clean it once: what is kept of a value is canonical. Of addresses and networks this
-/// isn't said here.
+/// To clean a value twice is to clean it once: what is kept of a value is canonical.
 pub fn clean_values_stay(field_type: FieldType)
-    ensures { (u v : AnyValue) → (field_type ≡ kind.Ip → ⊥) → (field_type ≡ kind.Network → ⊥) → clean field_type u ≡ Some v → IsOfKind field_type v }
+    ensures { (u v : AnyValue) → clean field_type u ≡ Some v → IsOfKind field_type v }
 {}
