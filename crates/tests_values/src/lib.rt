@@ -8,6 +8,8 @@ mod domains;
 #[cfg(test)]
 mod fields;
 #[cfg(test)]
+mod messages;
+#[cfg(test)]
 mod texts;
 #[cfg(test)]
 mod times;

@@ -1,0 +1,228 @@
+ghost use Rattle.std.specs.Prelude.{◌≡◌, ◌<◌, length, slice_set, filter, is_some, IfOk, IfSome, OnOk, OnErr};
+ghost use Rattle.std.specs.Str.{bytes_eq};
+ghost use Rattle.std.specs.List.{list_any, remove as without_item};
+ghost use Rattle.std.specs.Option.{option_copied};
+ghost use Rattle.event_model.specs.Fields.{IsField, AreFieldsInOrder};
+ghost use Rattle.event_model.specs.Edits.{wanted, set_to, added, updated, is_kept, restricted, IsEdit, IsWanted};
+
+use crate::EventFault;
+use crate::place::place_of;
+use base_types::{OutOfMemory, Text, TextList};
+use field_types::{FieldFault, Value, sanitise, type_of};
+use std::alloc::Global;
+use std::marker::Model;
+
+/// The fields of a message. Contracts see a finite map from the names to the values.
+#[derive(Debug, Drop)]
+pub struct Fields {
+    // In byte order of the names.
+    pairs: Vec<(Text, Value)>,
+}
+
+impl Model for Fields {
+    ghost use Rattle.std.specs.Coded.{coded_ℕ, coded_list};
+    ghost use Rattle.std.specs.FinMap as map;
+    ghost use Rattle.field_types.specs.contracts.value.Value as value;
+    ghost use Rattle.event_model.specs.Fields.{FieldMap, AreFieldsInOrder};
+
+    ghost Value = { FieldMap };
+
+    ghost coded = { map.code (coded_list coded_ℕ) value.the_row.coded };
+
+    ghost view = { λ f. map.from_entries f.pairs.items };
+
+    ghost invariant = { λ f. AreFieldsInOrder f.pairs.items };
+}
+
+// Puts a pair in place of the one that stands there.
+fn overwrite(pairs: &mut Vec<(Text, Value)>, i: usize, pair: (Text, Value))
+    requires { i < length pairs.old.items }
+    ensures { pairs.new.items ≡ slice_set pairs.old.items i pair }
+{
+    pairs[i] = pair;
+}
+
+// Takes the pair out that stands there.
+fn take_out(pairs: &mut Vec<(Text, Value)>, i: usize)
+    requires { i < length pairs.old.items }
+    ensures { pairs.new.items ≡ without_item pairs.old.items i }
+{
+    pairs.remove(i);
+}
+
+fn copy_pair(alloc: Global, pair: &(Text, Value)) -> Result<(Text, Value), OutOfMemory>
+    ensures { IfOk result (λ copied. copied ≡ pair.now) }
+{
+    Ok((pair.0.copy(alloc)?, pair.1.copy(alloc)?))
+}
+
+fn copied_pairs(alloc: Global, pairs: &[(Text, Value)]) -> Result<Vec<(Text, Value)>, OutOfMemory>
+    ensures { IfOk result (λ copied. copied.items ≡ pairs.now) }
+{
+    let mut copied = Vec::with_capacity(alloc, pairs.len())?;
+    'pairs: for pair in pairs {
+        copied.push(copy_pair(alloc, pair)?)?;
+    }
+    Ok(copied)
+}
+
+fn is_one_of(keys: &TextList, key: &Text) -> bool
+    ensures { result ≡ list_any (bytes_eq key.now) keys.now }
+{
+    keys.as_slice().iter().any(|other| key == other)
+}
+
+fn is_kept(keys: &TextList, keep: bool, key: &Text) -> bool
+    ensures { result ≡ is_kept keys.now keep key.now }
+{
+    let found = is_one_of(keys, key);
+    if keep { found } else { !found }
+}
+
+// The pairs that stay, one after the other.
+fn kept_pairs(
+    alloc: Global,
+    pairs: &[(Text, Value)],
+    keys: &TextList,
+    keep: bool,
+) -> Result<Vec<(Text, Value)>, OutOfMemory>
+    ensures { IfOk result (λ kept. kept.items ≡ filter (λ pair. is_kept keys.now keep pair.0) pairs.now) }
+{
+    let mut kept = Vec::new(alloc);
+    'pairs: for pair in pairs {
+        if is_kept(keys, keep, &pair.0) {
+            kept.push(copy_pair(alloc, pair)?)?;
+        }
+    }
+    Ok(kept)
+}
+
+// The canonical value of a field for a value.
+fn wanted(alloc: Global, key: &Text, value: &Value) -> Result<Value, EventFault>
+    ensures wanted { IsWanted (wanted key.now value.now) result }
+    ensures field { IfOk result (IsField key.now) }
+{
+    let Some(kind) = type_of(key) else {
+        return Err(EventFault::NoField);
+    };
+    match sanitise(alloc, kind, value) {
+        Ok(value) => Ok(value),
+        Err(FieldFault::BadValue) => Err(EventFault::BadValue),
+        Err(FieldFault::OutOfMemory) => Err(EventFault::OutOfMemory),
+    }
+}
+
+impl Fields {
+    ghost use Rattle.std.specs.FinMap.{empty, get, insert, remove, entries};
+
+    /// No fields. It takes no memory.
+    pub fn new(alloc: Global) -> Self
+        ensures { result ≡ empty }
+    {
+        Fields {
+            pairs: Vec::new(alloc),
+        }
+    }
+
+    /// The value of a field. It obeys the kind of the field.
+    pub fn get(&self, key: &Text) -> Option<&Value>
+        ensures value { option_copied result ≡ get self.now key.now }
+        ensures field { IfSome result (λ value. IsField key.now value.now) }
+    {
+        match place_of(&self.pairs, key.bytes()) {
+            Ok(i) => Some(&self.pairs[i].1),
+            Err(_) => None,
+        }
+    }
+
+    /// Sets a field to a value that is canonical for it, without a look at its kind. Without memory, nothing changes.
+    pub fn put(&mut self, key: Text, value: Value) -> Result<(), OutOfMemory>
+        requires { IsField key value }
+        ensures ok { OnOk result (self.new ≡ insert self.old key value) }
+        ensures err { OnErr result (self.new ≡ self.old) }
+    {
+        match place_of(&self.pairs, key.bytes()) {
+            Ok(i) => overwrite(&mut self.pairs, i, (key, value)),
+            Err(i) => self.pairs.insert(i, (key, value))?,
+        }
+        Ok(())
+    }
+
+    /// Takes a field out, and answers whether it was there. It takes no memory.
+    pub fn remove(&mut self, key: &Text) -> bool
+        ensures was_there { result ≡ is_some (get self.old key.now) }
+        ensures map { self.new ≡ remove self.old key.now }
+    {
+        match place_of(&self.pairs, key.bytes()) {
+            Ok(i) => {
+                take_out(&mut self.pairs, i);
+                true
+            }
+            Err(_) => false,
+        }
+    }
+
+    /// Sets a field that is absent. 1 `NoField`, 2 `BadValue`, 3 `Present`, the first that holds; nothing changes then.
+    pub fn add(&mut self, alloc: Global, key: &Text, value: &Value) -> Result<(), EventFault>
+        ensures { IsEdit (added key.now value.now self.old) result self.old self.new }
+    {
+        let value = wanted(alloc, key, value)?;
+        if self.get(key).is_some() {
+            return Err(EventFault::Present);
+        }
+        self.put(key.copy(alloc)?, value)?;
+        Ok(())
+    }
+
+    /// Sets a field, whether or not it is there. 1 `NoField`, 2 `BadValue`; nothing changes then.
+    pub fn set(&mut self, alloc: Global, key: &Text, value: &Value) -> Result<(), EventFault>
+        ensures { IsEdit (set_to key.now value.now self.old) result self.old self.new }
+    {
+        let value = wanted(alloc, key, value)?;
+        self.put(key.copy(alloc)?, value)?;
+        Ok(())
+    }
+
+    /// Sets a field that is there, as `set` does, and answers whether it was. An absent field stays absent, whatever
+    /// its name.
+    pub fn update(&mut self, alloc: Global, key: &Text, value: &Value) -> Result<bool, EventFault>
+        ensures was_there { IfOk result (λ there. there ≡ is_some (get self.old key.now)) }
+        ensures map { IsEdit (updated key.now value.now self.old) result self.old self.new }
+    {
+        if self.get(key).is_none() {
+            return Ok(false);
+        }
+        self.set(alloc, key, value)?;
+        Ok(true)
+    }
+
+    /// These fields alone, or with `keep` false all others.
+    pub fn restrict(
+        &self,
+        alloc: Global,
+        keys: &TextList,
+        keep: bool,
+    ) -> Result<Fields, OutOfMemory>
+        ensures { IfOk result (λ fields. fields ≡ restricted keys.now keep self.now) }
+    {
+        Ok(Fields {
+            pairs: kept_pairs(alloc, &self.pairs, keys, keep)?,
+        })
+    }
+
+    pub fn copy(&self, alloc: Global) -> Result<Fields, OutOfMemory>
+        ensures { IfOk result (λ fields. fields ≡ self.now) }
+    {
+        Ok(Fields {
+            pairs: copied_pairs(alloc, &self.pairs)?,
+        })
+    }
+
+    /// The fields in byte order of their names, with their values.
+    pub fn pairs(&self) -> &[(Text, Value)]
+        ensures pairs { result.now ≡ entries self.now }
+        ensures fields { AreFieldsInOrder result.now }
+    {
+        &self.pairs
+    }
+}

@@ -1,0 +1,23 @@
+ghost use Rattle.std.specs.Prelude.{◌≡◌, true};
+ghost use Rattle.std.specs.FinMap.{is_sorted};
+ghost use Rattle.std.specs.Ordering.{nat_cmp};
+ghost use Rattle.std.specs.Cmp.Lexicographic.{slice_cmp};
+ghost use Rattle.event_model.specs.Place.{IsPlace};
+
+use base_types::Text;
+use field_types::Value;
+use std::cmp::Ordering;
+
+fn compare(pair: &(Text, Value), key: &[u8]) -> Ordering
+    ensures { result ≡ slice_cmp nat_cmp pair.now.0 key.now }
+{
+    pair.0.bytes().cmp(key)
+}
+
+/// Where a name stands among pairs in byte order of their names, or else where it would stand.
+pub fn place_of(pairs: &[(Text, Value)], key: &[u8]) -> Result<usize, usize>
+    requires { is_sorted (slice_cmp nat_cmp) pairs.now ≡ true }
+    ensures { IsPlace key.now pairs.now result }
+{
+    pairs.binary_search_by(|pair| compare(pair, key))
+}
