@@ -1,5 +1,5 @@
 -- Fields as pairs in byte order of their names: looking one up, setting it, taking it out.
-use Rattle.std.proofs.Common.{◌≡◌, ℕ, ◌<◌, ◌≤◌, suc, [], ◌∷◌, ◌++◌, length, get_or, Bool, true, false, cond, Option, Some, None, Ordering, Less, Equal, Greater, T, drop, refl, sym, ap, subst, ◌∙◌, arith, length-append}
+use Rattle.std.proofs.Common.{◌≡◌, ℕ, suc, [], ◌∷◌, ◌++◌, length, get_or, Bool, true, false, cond, Option, Some, None, Ordering, Less, Equal, Greater, T, drop, refl, sym, ap, subst, ◌∙◌, arith}
 use Rattle.std.specs.Ordering.{is_lt, is_eq, eq_by_cmp, ordering_reverse}
 use Rattle.std.specs.FinMap.{empty, entries, insert, get, remove, retain_keys, from_entries, find, put, is_sorted, entries-insert, entries_sorted, len-entries, len-empty, get-from_entries, get-remove, get-retain_keys, same_map, same_entries_map, slice_cmp-IsAntisymmetric, nat_cmp-IsAntisymmetric}
 use Rattle.std.specs.FinMap.Entries.{below_all, where_key, find-where_key, is_sorted-where_key}
@@ -152,12 +152,6 @@ set_between key value pairs i at is field =
     let there : put order key value pairs ≡ at.front ++ (key, value) ∷ at.back = ap (put order key value) at.splits ∙ put_between key value at.front at.back at.above at.below in
     pairs_of _ _ (subst AreFields (sym new) (fields_between key value at.front at.back (subst AreFields at.splits is.fields) field))
     (entries_put key value pairs is ∙ there ∙ sym new)
-
-pub stands_within : (key : Key) (pairs : Pairs) (i : ℕ) → StandsAt key pairs i → i < length pairs
-stands_within key pairs i at = omega (arith, at.place, ap length at.splits, length-append at.front ((key, at.value) ∷ at.back))
-
-pub belongs_within : (key : Key) (pairs : Pairs) (i : ℕ) → BelongsAt key pairs i → i ≤ length pairs
-belongs_within key pairs i at = omega (arith, at.place, ap length at.splits, length-append at.front at.back)
 
 -- what is read there
 pub read_at : (key : Key) (pairs : Pairs) (i : ℕ) (d : Key × Value) (at : StandsAt key pairs i) → (get_or pairs i d).1 ≡ at.value

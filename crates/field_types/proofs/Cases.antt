@@ -1,10 +1,8 @@
 -- Letters in one case.
-use Rattle.std.proofs.Common.{◌≡◌, ℕ, ◌||◌, List, [], ◌∷◌, length, map, Bool, true, false, Some, refl, sym, arith}
+use Rattle.std.proofs.Common.{◌≡◌, ℕ, ◌||◌, List, [], ◌∷◌, map, Bool, true, false, refl, sym, arith}
 use Rattle.std.specs.List.{list_any}
 use Rattle.std.specs.Char.{to_ascii_lowercase, to_ascii_uppercase, is_ascii_uppercase, is_ascii_lowercase}
-use Rattle.std.proofs.lemmas.Bool.{false≢true, ne_eqb}
-use Rattle.field_types.specs.Cleaning.{text_in}
-use Rattle.field_types.specs.declared.value.Value.TheVariants as value
+use Rattle.std.proofs.lemmas.Bool.{false≢true}
 
 or_parts : (a b : Bool) → (a || b) ≡ false → (a ≡ false) × (b ≡ false)
 or_parts false b e = (refl, e)
@@ -23,8 +21,3 @@ lower_same (b ∷ bs) none = let parts = or_parts (is_ascii_uppercase b) (list_a
 pub upper_same : (text : List ℕ) → list_any is_ascii_lowercase text ≡ false → map to_ascii_uppercase text ≡ text
 upper_same [] none = refl
 upper_same (b ∷ bs) none = let parts = or_parts (is_ascii_lowercase b) (list_any is_ascii_lowercase bs) none in rw (upper_byte b parts.0, upper_same bs parts.1)
-
--- a text with a letter of a case isn't empty
-pub cased_some : (p : ℕ → Bool) (f : ℕ → ℕ) (text : List ℕ) → list_any p text ≡ true → text_in (map f text) ≡ Some (value.Text (map f text))
-cased_some p f [] some = absurd (false≢true some)
-cased_some p f (b ∷ bs) some = rw (ne_eqb (length (f b ∷ map f bs)) 0 (λ e. absurd (omega (arith, e))))

@@ -35,7 +35,3 @@ pub before_blank_is : (text : List ℕ) (r : Option (Bor (List ℕ))) → ((fron
 before_blank_is text None space tab = strip_back_same text space tab
 before_blank_is text (Some x) space e =
     (ap (λ t. reverse (strip_front t)) (turned text x.now 9 e), omega (arith, ap length e, length-append x.now (9 ∷ [])))
-
-pub before_space_is : (text front : List ℕ) → text ≡ front ++ 32 ∷ [] → (strip_back text ≡ strip_back front) × (length front < length text)
-before_space_is text front e =
-    (ap (λ t. reverse (strip_front t)) (turned text front 32 e), omega (arith, ap length e, length-append front (32 ∷ [])))
