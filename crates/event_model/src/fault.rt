@@ -1,6 +1,7 @@
 ghost use Rattle.std.specs.Prelude.{◌≡◌};
 ghost use Rattle.event_model.specs.declared.fault.EventFault.TheVariants.{OutOfMemory};
 
+use base_types::Text;
 use std::alloc::AllocError;
 
 /// Why a field isn't set.
@@ -29,4 +30,20 @@ impl From<base_types::OutOfMemory> for EventFault {
     fn from(_: base_types::OutOfMemory) -> Self {
         EventFault::OutOfMemory
     }
+}
+
+/// Why bytes or a tree are no message.
+#[derive(Debug, PartialEq, Eq, Drop)]
+pub enum ReadFault {
+    /// The bytes are no JSON text (RFC 8259).
+    Json,
+    /// The JSON value is no object.
+    NotObject,
+    /// `__type` is neither `Report` nor `Event`.
+    Kind,
+    /// The least name in byte order that is no field, or whose value its kind doesn't take.
+    Field { key: Text },
+    /// The bytes are a message, and not its canonical text.
+    Spelling,
+    OutOfMemory,
 }
