@@ -7,5 +7,6 @@ pub mod Laws
 pub mod Names
 pub mod Numerals
 pub mod Padding
+pub mod Places
 pub mod Positions
 pub mod Readers

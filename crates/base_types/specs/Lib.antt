@@ -8,6 +8,7 @@ pub mod Mark
 pub mod Message
 pub mod Name
 pub mod Number
+pub mod Place
 pub mod Queue
 pub mod Scalar
 pub mod Text

@@ -1,7 +1,6 @@
-pub mod Field
-pub mod Fields
-pub mod Json
-pub mod Quote
-pub mod Reading
-pub mod Value
-pub mod Writing
+-- what public contracts cite
+pub mod Lenient
+pub mod Strict
+pub mod Text
+-- what only proofs and private contracts use
+pub mod Decode

@@ -1,16 +1,13 @@
-//! Messages: the reading of JSON objects into typed fields, and the canonical text of a message.
+//! The texts of messages: the lenient reading of JSON, the canonical text, and its strict reading.
 #![tactic(auto)]
 
-mod event_json;
-mod event_model;
-mod field;
-mod quote;
-mod read_fault;
-mod reading;
+mod clean;
+mod pairs;
+mod strict;
+mod string;
 mod value;
-mod writing;
+mod write;
 
-pub use event_json::{clean_message, write_message};
-pub use event_model::{Fields, Kind, Message};
-pub use field::{FieldType, type_of};
-pub use read_fault::ReadFault;
+pub use clean::clean_message;
+pub use strict::read_message;
+pub use write::write_message;

@@ -43,13 +43,20 @@ put_pairs-append (pair ∷ a) b m = put_pairs-append a b (insert m pair.0 pair.1
 pub gathers_on : (a b : Leaves) (old mid new : Found) → Gathers a old mid → Gathers b mid new → Gathers (a ++ b) old new
 gathers_on a b old mid new first second = record {
   fields = second.fields ∙ ap (put_pairs (pairs_of b)) first.fields ∙ sym (put_pairs-append (pairs_of a) (pairs_of b) old.fields) ∙ ap (λ ps. put_pairs ps old.fields) (sym (pairs_of-append a b));
-  bad = λ names best. subst (IsBest new.bad)
+  bad = λ names best. subst (IsBest new.names.1)
       (append_assoc names (bad_names a) (bad_names b) ∙ ap (λ ns. names ++ ns) (sym (bad_names-append a b)))
       (second.bad (names ++ bad_names a) (first.bad names best));
 }
 
 nothing_yet : (found : Found) → Gathers [] found found
-nothing_yet found = record { fields = refl; bad = λ names best. subst (IsBest found.bad) (sym (append-nil names)) best }
+nothing_yet found = record { fields = refl; bad = λ names best. subst (IsBest found.names.1) (sym (append-nil names)) best }
+
+-- the name at hand doesn't matter
+pub same_least : (all : Leaves) (old mid new last : Found) → mid.fields ≡ old.fields → mid.names.1 ≡ old.names.1 → last.fields ≡ new.fields → last.names.1 ≡ new.names.1 → Gathers all mid new → Gathers all old last
+same_least all old mid new last fields_mid least_mid fields_last least_last gathers = record {
+  fields = fields_last ∙ gathers.fields ∙ ap (put_pairs (pairs_of all)) fields_mid;
+  bad = λ names best. subst (λ b. IsBest b (names ++ bad_names all)) (sym least_last) (gathers.bad names (subst (λ b. IsBest b names) (sym least_mid) best));
+}
 
 -- the leaves before the later ones were added
 pub record AreAdded (all later : Leaves) (old new : Found) : Type 0 where

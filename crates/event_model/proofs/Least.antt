@@ -1,5 +1,5 @@
 -- The least of names, one after the other.
-use Rattle.std.proofs.Common.{◌≡◌, ◌≢◌, inl, inr, true, false, ℕ, List, [], ◌∷◌, ◌++◌, Option, Some, None, unwrap_or, Ordering, Less, Equal, Greater, nat_cmp, refl, sym, ap, subst, ◌∙◌}
+use Rattle.std.proofs.Common.{◌≡◌, ◌≢◌, inl, inr, ℕ, List, [], ◌∷◌, ◌++◌, Option, Some, None, unwrap_or, Ordering, Less, Equal, Greater, nat_cmp, refl, sym, ap, subst, ◌∙◌}
 use Rattle.std.specs.List.{AllByRecursion}
 use Rattle.std.specs.Ordering.{match_ordering, ordering_reverse}
 use Rattle.std.specs.Cmp.Lexicographic.{slice_cmp}
@@ -7,7 +7,7 @@ use Rattle.std.specs.FinMap.{slice_cmp-IsAntisymmetric, nat_cmp-IsAntisymmetric}
 use Rattle.std.proofs.lemmas.Cmp.{nat_list_cmp_total, tied_itself}
 use Rattle.base_types.specs.Lists.{IsIn}
 use Rattle.event_model.specs.Lenient.{least, lesser}
-use Rattle.event_model.specs.Gathered.{IsLeast, IsBest, leads}
+use Rattle.event_model.specs.Gathered.{IsLeast, IsBest}
 
 abbrev Name : Type 0
 Name = List ℕ
@@ -62,24 +62,6 @@ best_push key (Some other) names is = by_order (order key other) refl
         subst (λ k. IsLeast k (names ++ key ∷ [])) (sym same)
         (record { there = in_push other key names is.there; below = all_push _ names key is.below (not_less key other Equal e (λ c. absurd (cc))) })
     by_order Greater e = record { there = in_push other key names is.there; below = all_push _ names key is.below (not_less key other Greater e (λ c. absurd (cc))) }
-
-lesser_first : (key other : Name) (r : Ordering) → match_ordering r true true false ≡ true → match_ordering r key key other ≡ key
-lesser_first key other Less e = refl
-lesser_first key other Equal e = refl
-lesser_first key other Greater e = absurd (cc)
-
-lesser_second : (key other : Name) (r : Ordering) → match_ordering r true true false ≡ false → match_ordering r key key other ≡ other
-lesser_second key other Less e = absurd (cc)
-lesser_second key other Equal e = absurd (cc)
-lesser_second key other Greater e = refl
-
-pub lesser_leads : (key : Name) (best : Option Name) → leads key best ≡ true → lesser key best ≡ key
-lesser_leads key None e = refl
-lesser_leads key (Some other) e = lesser_first key other (order key other) e
-
-pub lesser_stays : (key : Name) (best : Option Name) → leads key best ≡ false → best ≡ Some (lesser key best)
-lesser_stays key None e = absurd (cc)
-lesser_stays key (Some other) e = ap Some (sym (lesser_second key other (order key other) e))
 
 same_name : (a b : Name) → Some a ≡ Some b → a ≡ b
 same_name a b e = ap (λ (o : Option Name). unwrap_or o a) e

@@ -1,7 +1,10 @@
+pub mod Bytes
 pub mod Gathering
+pub mod Last
 pub mod Least
+pub mod Noting
 pub mod Pairs
 pub mod Parts
-pub mod Places
+pub mod Settling
 pub mod TreeLemmas
 pub mod Written

@@ -10,8 +10,8 @@ use Rattle.std.proofs.lemmas.Bool.{and_parts, and_from}
 use Rattle.std.proofs.lemmas.Cmp.{nat_list_cmp_total, tied_itself}
 use Rattle.field_types.specs.declared.value.Value.{Value}
 use Rattle.event_model.specs.Fields.{FieldMap, IsField, AreFields, AreFieldsInOrder}
-use Rattle.event_model.specs.Place.{is_above_all, StandsAt, BelongsAt}
-use Rattle.event_model.proofs.Places.{Key, order, PairsOf, less_of, same_key}
+use Rattle.base_types.specs.Place.{is_above_all, StandsAt, BelongsAt}
+use Rattle.base_types.proofs.Places.{Key, order, PairsOf, less_of, same_key}
 
 abbrev pub Pairs : Type 0
 Pairs = PairsOf Value
@@ -21,7 +21,7 @@ Pairs = PairsOf Value
 above : (x key : Key) → is_lt (order x key) ≡ true → order key x ≡ Greater
 above x key h = nat_list_cmp_total.antisymm key x ∙ ap ordering_reverse (less_of _ h)
 
-put_first : (key : Key) (value : Value) (es : Pairs) → below_all order key es ≡ true → put order key value es ≡ (key, value) ∷ es
+pub put_first : (key : Key) (value : Value) (es : Pairs) → below_all order key es ≡ true → put order key value es ≡ (key, value) ∷ es
 put_first key value [] below = refl
 put_first key value (e ∷ es) below =
     let less : order key e.0 ≡ Less = less_of _ (and_parts (is_lt (order key e.0)) (below_all order key es) below).0 in

@@ -1,8 +1,9 @@
 -- What the calls that change fields leave.
-use Rattle.std.specs.Prelude.{◌≡◌, ℕ, List, Bool, true, false, not, Option, Some, None, Result, Ok, Err, is_some, if◌then◌else◌}
+use Rattle.std.specs.Prelude.{◌≡◌, ℕ, List, [], ◌∷◌, ◌++◌, Bool, true, false, not, Option, Some, None, Result, Ok, Err, is_some, if◌then◌else◌}
 use Rattle.std.specs.List.{list_any}
 use Rattle.std.specs.Str.{bytes_eq}
-use Rattle.std.specs.FinMap.{get, insert, retain_keys}
+use Rattle.std.specs.FinMap.{get, insert, retain_keys, entries}
+use Rattle.base_types.specs.Place.{is_above_all}
 use Rattle.field_types.specs.Field.{type_of}
 use Rattle.field_types.specs.Cleaning.{clean}
 use Rattle.field_types.specs.declared.kind.FieldType.{FieldType}
@@ -57,6 +58,11 @@ abbrev pub restricted : List (List ℕ) → Bool → FieldMap → FieldMap
 restricted keys keep fields = retain_keys fields (is_kept keys keep)
 
 -- ---- how the calls answer
+
+-- the field stands behind all others; or its name isn't above all of theirs, and nothing changes
+abbrev pub IsPush : Bool → List ℕ → Value → FieldMap → FieldMap → Type 0
+IsPush true key v old new = entries new ≡ entries old ++ (key, v) ∷ []
+IsPush false key v old new = (is_above_all key (entries old) ≡ false) × (new ≡ old)
 
 -- the map is that one; or this is the fault, and the map stays; memory may run out in any case
 abbrev pub IsEdit : {A : Type 0} → Result FieldMap EventFault → Result A EventFault → FieldMap → FieldMap → Type 0

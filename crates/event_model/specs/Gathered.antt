@@ -1,7 +1,7 @@
 -- What leaves, one after the other, add to fields and to the least bad name.
-use Rattle.std.specs.Prelude.{◌≡◌, ◌≢◌, ℕ, List, [], ◌∷◌, ◌++◌, Bool, true, false, Option, Some, None}
+use Rattle.std.specs.Prelude.{◌≡◌, ◌≢◌, ℕ, List, [], ◌∷◌, ◌++◌, Option, Some, None}
 use Rattle.std.specs.List.{AllByRecursion}
-use Rattle.std.specs.Ordering.{nat_cmp, match_ordering}
+use Rattle.std.specs.Ordering.{nat_cmp}
 use Rattle.std.specs.Cmp.Lexicographic.{slice_cmp}
 use Rattle.std.specs.FinMap.{empty, insert}
 use Rattle.std.specs.declared.cmp.Ordering.TheVariants.{Greater}
@@ -24,11 +24,6 @@ pub record IsLeast (key : List ℕ) (names : List (List ℕ)) : Type 0 where
   pub there : IsIn key names
   pub below : AllByRecursion (λ name. slice_cmp nat_cmp key name ≢ Greater) names
 
--- the name takes the place of the least one so far
-abbrev pub leads : List ℕ → Option (List ℕ) → Bool
-leads key None = true
-leads key (Some other) = match_ordering (slice_cmp nat_cmp key other) true true false
-
 -- the least of these names so far, if there is one
 abbrev pub IsBest : Option (List ℕ) → List (List ℕ) → Type 0
 IsBest None names = names ≡ []
@@ -37,7 +32,7 @@ IsBest (Some key) names = IsLeast key names
 -- the leaves were added
 pub record Gathers (leaves : List (List ℕ × Data)) (old new : Found) : Type 0 where
   pub fields : new.fields ≡ put_pairs (pairs_of leaves) old.fields
-  pub bad : (names : List (List ℕ)) → IsBest old.bad names → IsBest new.bad (names ++ bad_names leaves)
+  pub bad : (names : List (List ℕ)) → IsBest old.names.1 names → IsBest new.names.1 (names ++ bad_names leaves)
 
 -- what is set is canonical for the field
 abbrev pub IsPart : List ℕ → Part → Type 0
@@ -47,4 +42,4 @@ IsPart key Bad = Unit {0}
 
 -- no leaf was added yet
 abbrev pub nothing_found : Found
-nothing_found = record { fields = empty; bad = None }
+nothing_found = record { fields = empty; names = ([], None) }

@@ -6,6 +6,8 @@ use Rattle.std.specs.FinMap.{from_entries}
 use Rattle.std.specs.List.{starts_with}
 use Rattle.std.specs.Str.{bytes_eq}
 use Rattle.serde_json.specs.Data.{Data, null, boolean, number, string, array, object, Members, no_members, member}
+use Rattle.serde_json.specs.Errors.{IsMemory}
+use Rattle.serde_json.specs.declared.error.Error.{Error}
 use Rattle.serde_json.specs.Find.{as_str, as_object, get_member}
 use Rattle.field_types.specs.Field.{extra_front}
 use Rattle.field_types.specs.Strip.{strip}
@@ -151,3 +153,15 @@ lenient_tree d = of_object (as_object d)
 abbrev pub IsFaultOf : Result Message ReadFault → ReadFault → Type 0
 IsFaultOf reading fault.OutOfMemory = Unit {0}
 IsFaultOf reading e = reading ≡ Err e
+
+-- no JSON text, or want of memory
+abbrev pub IsJsonFault : Option Data → ReadFault → Type 0
+IsJsonFault tree fault.OutOfMemory = Unit {0}
+IsJsonFault tree fault.Json = tree ≡ None
+IsJsonFault tree _ = ⊥
+
+-- the fault that an error of the JSON reader is
+abbrev pub IsFaultOfError : Error → ReadFault → Type 0
+IsFaultOfError e fault.OutOfMemory = Unit {0}
+IsFaultOfError e fault.Json = IsMemory e → ⊥
+IsFaultOfError e _ = ⊥

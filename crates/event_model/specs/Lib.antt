@@ -4,5 +4,6 @@ pub mod Fields
 pub mod Lenient
 pub mod Trees
 -- what only proofs and private contracts use
+pub mod Built
 pub mod Gathered
-pub mod Place
+pub mod Noted

@@ -2,16 +2,28 @@
 use Rattle.std.specs.Prelude.{◌≡◌, ℕ, ℤ, pos, true, false, List, [], ◌∷◌, ◌++◌, Bool, codes, decimal, Option, Some, None, option_map, option_and_then, if◌then◌else◌}
 use Rattle.std.specs.Fmt.{signed_decimal}
 use Rattle.std.specs.List.{join_with_byte}
-use Rattle.std.specs.Str.{bytes_eq}
+use Rattle.std.specs.Str.{bytes_eq, is_utf8}
 use Rattle.serde_json.specs.Data.{Num, unsigned, negative, float, Data, null, boolean, number, string, array, object, Items, no_items, item, Members, no_members, member}
 use Rattle.serde_json.specs.Find.{as_str}
+use Rattle.serde_json.specs.Read.{read}
 use Rattle.scalar_text.specs.Number.{decimal_in}
+use Rattle.scalar_text.specs.Quote.{quote}
 use Rattle.field_types.specs.Cleaning.{is_short}
 use Rattle.field_types.specs.Writing.{flag_word, quoted}
 use Rattle.field_types.specs.declared.value.Item.{Item}
 use Rattle.field_types.specs.declared.value.Item.TheVariants as as_item
 use Rattle.field_types.specs.declared.value.Value.{Value}
 use Rattle.field_types.specs.declared.value.Value.TheVariants as as_value
+
+-- ---- bytes as trees
+
+-- the JSON value of the bytes (RFC 8259), where they are UTF-8 and have one
+unfoldable pub json_of : List ℕ → Option Data
+json_of bytes = if is_utf8 bytes then read bytes else None
+
+-- the tree of bytes: their JSON value once decimals stand under quotes
+unfoldable pub tree_in : List ℕ → Option Data
+tree_in bytes = json_of (quote bytes)
 
 -- ---- decimals under quotes
 

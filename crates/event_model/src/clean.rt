@@ -1,13 +1,15 @@
 //! The lenient reading of a JSON tree as a message.
-ghost use Rattle.std.specs.Prelude.{◌≡◌, Ok, Some, IfOk, OnOk, MatchResult};
+ghost use Rattle.std.specs.Prelude.{◌≡◌, Ok, Some, None, IfOk, OnOk, MatchResult};
 ghost use Rattle.serde_json.specs.View.{view, members_view};
 ghost use Rattle.serde_json.specs.Find.{get_member};
 ghost use Rattle.event_model.specs.Gathered.{Gathers};
 ghost use Rattle.event_model.specs.Lenient.{bad_names, kind_of, kind_of_word, leaves_at, leaves_of, least, lenient_tree, of_members, pairs_of, set_all, type_key, with_fields, IsFaultOf};
 
+use crate::builder::FieldsBuilder;
 use crate::leaves::{Found, gather, name_of};
+use crate::names::Names;
 use crate::tree::lexeme_in;
-use crate::{Fields, Kind, Message, ReadFault};
+use crate::{Kind, Message, ReadFault};
 use base_types::OutOfMemory;
 use serde_json::{Map, Value as Tree};
 use std::alloc::Global;
@@ -54,18 +56,18 @@ fn gather_member(
     if key == TYPE_KEY {
         return Ok(());
     }
-    let mut name = key.as_bytes().to_vec(alloc)?;
-    gather(alloc, &mut name, tree, found)
+    found.names.start(key.as_bytes())?;
+    gather(alloc, found, tree)
 }
 
 // What all members add.
 fn gather_all(alloc: Global, members: &Map<String, Tree>) -> Result<Found, OutOfMemory>
     ensures fields { IfOk result (λ found. found.fields ≡ set_all (pairs_of (leaves_of (members_view members.now.entries)))) }
-    ensures bad { IfOk result (λ found. found.bad ≡ least (bad_names (leaves_of (members_view members.now.entries)))) }
+    ensures bad { IfOk result (λ found. found.names.1 ≡ least (bad_names (leaves_of (members_view members.now.entries)))) }
 {
     let mut found = Found {
-        fields: Fields::new(alloc),
-        bad: None,
+        fields: FieldsBuilder::new(alloc),
+        names: Names::new(alloc),
     };
     'members: for (key, tree) in members.iter() {
         gather_member(alloc, key.as_str(), tree, &mut found)?;
@@ -73,13 +75,22 @@ fn gather_all(alloc: Global, members: &Map<String, Tree>) -> Result<Found, OutOf
     Ok(found)
 }
 
-fn of_found(alloc: Global, kind: Kind, found: Found) -> Result<Message, ReadFault>
-    ensures { MatchResult result (λ message. with_fields kind found.bad found.fields ≡ Ok message) (IsFaultOf (with_fields kind found.bad found.fields)) }
+fn of_fields(kind: Kind, fields: FieldsBuilder) -> Result<Message, ReadFault>
+    ensures { MatchResult result (λ message. with_fields kind None fields ≡ Ok message) (IsFaultOf (with_fields kind None fields)) }
 {
-    let Found { fields, bad } = found;
-    match bad {
-        None => Ok(Message { kind, fields }),
-        Some(key) => match name_of(alloc, key.bytes()) {
+    match fields.build() {
+        Ok(fields) => Ok(Message { kind, fields }),
+        Err(OutOfMemory) => Err(ReadFault::OutOfMemory),
+    }
+}
+
+fn of_found(alloc: Global, kind: Kind, found: Found) -> Result<Message, ReadFault>
+    ensures { MatchResult result (λ message. with_fields kind found.names.1 found.fields ≡ Ok message) (IsFaultOf (with_fields kind found.names.1 found.fields)) }
+{
+    let Found { fields, names } = found;
+    match names.least() {
+        None => of_fields(kind, fields),
+        Some(key) => match name_of(alloc, key) {
             Ok(key) => Err(ReadFault::Field { key }),
             Err(OutOfMemory) => Err(ReadFault::OutOfMemory),
         },

@@ -1,14 +1,14 @@
-ghost use Rattle.std.specs.Prelude.{◌≡◌, ◌<◌, length, slice_set, filter, is_some, IfOk, IfSome, OnOk, OnErr};
+ghost use Rattle.std.specs.Prelude.{◌≡◌, ◌↔◌, ◌<◌, length, slice_set, filter, is_some, IfOk, IfSome, IsTrue, OnOk, OnErr};
 ghost use Rattle.std.specs.Str.{bytes_eq};
 ghost use Rattle.std.specs.List.{list_any, remove as without_item};
 ghost use Rattle.std.specs.Option.{option_copied};
 ghost use Rattle.event_model.specs.Fields.{IsField, AreFieldsInOrder};
-ghost use Rattle.event_model.specs.Edits.{wanted, set_to, added, updated, is_kept, restricted, IsEdit, IsWanted};
+ghost use Rattle.event_model.specs.Edits.{wanted, set_to, added, updated, is_kept, restricted, IsEdit, IsPush, IsWanted};
 
 use crate::EventFault;
-use crate::place::place_of;
+use crate::place::{is_above_all, place_of};
 use base_types::{OutOfMemory, Text, TextList};
-use field_types::{FieldFault, Value, sanitise, type_of};
+use field_types::{FieldFault, Value, is_canonical, sanitise, type_of, type_of_bytes};
 use std::alloc::Global;
 use std::marker::Model;
 
@@ -112,8 +112,19 @@ fn wanted(alloc: Global, key: &Text, value: &Value) -> Result<Value, EventFault>
     }
 }
 
+/// Whether there is a field of this name, and the value is canonical for it.
+#[tactic(auto, unfolding(crate::specs::Fields::value_for))]
+pub fn is_field(alloc: Global, key: &[u8], value: &Value) -> Result<bool, OutOfMemory>
+    ensures { IfOk result (λ is. IsTrue is ↔ IsField key.now value.now) }
+{
+    match type_of_bytes(key) {
+        Some(kind) => is_canonical(alloc, kind, value),
+        None => Ok(false),
+    }
+}
+
 impl Fields {
-    ghost use Rattle.std.specs.FinMap.{empty, get, insert, remove, entries};
+    ghost use Rattle.std.specs.FinMap.{empty, get, insert, remove, entries, from_entries};
 
     /// No fields. It takes no memory.
     pub fn new(alloc: Global) -> Self
@@ -122,6 +133,14 @@ impl Fields {
         Fields {
             pairs: Vec::new(alloc),
         }
+    }
+
+    // The fields that stand there.
+    pub(crate) fn of_pairs(pairs: Vec<(Text, Value)>) -> Self
+        requires { AreFieldsInOrder pairs.items }
+        ensures { result ≡ from_entries pairs.items }
+    {
+        Fields { pairs }
     }
 
     /// The value of a field. It obeys the kind of the field.
@@ -208,6 +227,19 @@ impl Fields {
         Ok(Fields {
             pairs: kept_pairs(alloc, &self.pairs, keys, keep)?,
         })
+    }
+
+    /// Puts a field behind all others, or answers `false` where its name isn't above all of theirs.
+    pub fn push(&mut self, key: Text, value: Value) -> Result<bool, OutOfMemory>
+        requires field { IsField key value }
+        ensures ok { IfOk result (λ pushed. IsPush pushed key value self.old self.new) }
+        ensures err { OnErr result (self.new ≡ self.old) }
+    {
+        if !is_above_all(&self.pairs, key.bytes()) {
+            return Ok(false);
+        }
+        self.pairs.push((key, value))?;
+        Ok(true)
     }
 
     pub fn copy(&self, alloc: Global) -> Result<Fields, OutOfMemory>

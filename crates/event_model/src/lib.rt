@@ -1,18 +1,22 @@
 //! Messages: a kind, and typed fields; the values of JSON trees.
 #![tactic(auto)]
 
+mod builder;
 mod clean;
 mod compact;
 mod fault;
 mod fields;
 mod leaves;
 mod message;
+mod names;
 mod part;
 mod place;
+mod read;
 mod tree;
 mod tree_value;
 
 pub use clean::clean_tree;
 pub use fault::{EventFault, ReadFault};
-pub use fields::Fields;
+pub use fields::{Fields, is_field};
 pub use message::{Kind, Message};
+pub use read::read_tree;

@@ -2,7 +2,7 @@ ghost use Rattle.std.specs.Prelude.{◌≡◌, true};
 ghost use Rattle.std.specs.FinMap.{is_sorted};
 ghost use Rattle.std.specs.Ordering.{nat_cmp};
 ghost use Rattle.std.specs.Cmp.Lexicographic.{slice_cmp};
-ghost use Rattle.event_model.specs.Place.{IsPlace};
+ghost use Rattle.base_types.specs.Place.{is_above_all, IsPlace};
 
 use base_types::Text;
 use field_types::Value;
@@ -20,4 +20,15 @@ pub fn place_of(pairs: &[(Text, Value)], key: &[u8]) -> Result<usize, usize>
     ensures { IsPlace key.now pairs.now result }
 {
     pairs.binary_search_by(|pair| compare(pair, key))
+}
+
+/// Whether a name is above all of pairs in byte order of their names: it is above the last.
+pub fn is_above_all(pairs: &[(Text, Value)], key: &[u8]) -> bool
+    requires { is_sorted (slice_cmp nat_cmp) pairs.now ≡ true }
+    ensures { result ≡ is_above_all key.now pairs.now }
+{
+    match pairs.last() {
+        Some(pair) => compare(pair, key).is_lt(),
+        None => true,
+    }
 }

@@ -3,9 +3,11 @@ pub mod CleanedTwice
 pub mod Ends
 pub mod Joined
 pub mod KindByKind
+pub mod Unchanged
 pub mod Utf8
 pub mod Plain
 pub mod Stripped
+pub mod Tables
 pub mod Twice
 pub mod TwiceAddresses
 pub mod TwiceMore

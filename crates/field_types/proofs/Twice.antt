@@ -167,7 +167,7 @@ accuracy_is : (n : ℤ) (b : Bool) (v : Value) → is_accuracy n ≡ b → (if b
 accuracy_is n true v e h = (e, sym (some_same (value.Decimal n) v h))
 accuracy_is n false v e h = absurd (none-some v h)
 
-accuracy_from : (o : Option ℤ) (v : Value) → option_and_then accuracy_of o ≡ Some v → (n : ℤ) × (is_accuracy n ≡ true) × (v ≡ value.Decimal n)
+pub accuracy_from : (o : Option ℤ) (v : Value) → option_and_then accuracy_of o ≡ Some v → (n : ℤ) × (is_accuracy n ≡ true) × (v ≡ value.Decimal n)
 accuracy_from None v h = absurd (none-some v h)
 accuracy_from (Some n) v h = let is = accuracy_is n (is_accuracy n) v refl h in (n, is.0, is.1)
 

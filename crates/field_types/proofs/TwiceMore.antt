@@ -44,11 +44,11 @@ tested_from : (p : ℕ → Bool) (o : Option ℕ) (n : ℕ) → option_and_then 
 tested_from p None n h = absurd (none-some n h)
 tested_from p (Some m) n h = tested p m n (p m) refl h
 
-asn_is : (text : List ℕ) (n : ℕ) → asn_in text ≡ Some n → is_asn n ≡ true
+pub asn_is : (text : List ℕ) (n : ℕ) → asn_in text ≡ Some n → is_asn n ≡ true
 unfolding asn_in
 asn_is text n h = tested_from is_asn (digits_in 10 (behind_as text)) n h
 
-port_is : (text : List ℕ) (n : ℕ) → port_in text ≡ Some n → nat_lt n 65536 ≡ true
+pub port_is : (text : List ℕ) (n : ℕ) → port_in text ≡ Some n → nat_lt n 65536 ≡ true
 unfolding port_in
 port_is text n h = tested_from (λ n. nat_lt n 65536) (digits_in 5 text) n h
 
@@ -84,7 +84,7 @@ size_of true zero = refl
 size_of true (suc n) = refl
 size_of false n = refl
 
-whole_short : (text : List ℕ) (z : ℤ) → IsWholeText text z → unsigned_abs z < 10 ^ 18
+pub whole_short : (text : List ℕ) (z : ℤ) → IsWholeText text z → unsigned_abs z < 10 ^ 18
 whole_short text z (n, digits, is) =
     let small = digits_small 18 (behind_minus text) n digits in
     subst (λ k. unsigned_abs k < 10 ^ 18) (sym is) (subst (λ k. k < 10 ^ 18) (sym (size_of (has_minus text) n)) small)
@@ -113,7 +113,7 @@ millionths_small (Some i) text n (w, digits, part, is) =
     let rest = part_small (drop (i + 1) text) part in
     omega (arith, small, rest, is)
 
-decimal_short : (text : List ℕ) (z : ℤ) → IsDecimalText text z → unsigned_abs z < 10 ^ 18
+pub decimal_short : (text : List ℕ) (z : ℤ) → IsDecimalText text z → unsigned_abs z < 10 ^ 18
 decimal_short text z (n, are, is) =
     let small = millionths_small (point_in (behind_minus text)) (behind_minus text) n are in
     subst (λ k. unsigned_abs k < 10 ^ 18) (sym is) (subst (λ k. k < 10 ^ 18) (sym (size_of (has_minus text) n)) small)

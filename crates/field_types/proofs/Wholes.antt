@@ -1,6 +1,5 @@
 -- What the kinds of numbers make of whole numbers and decimals.
 use Rattle.std.proofs.Common.{◌≡◌, ℕ, zero, suc, ◌*◌, ◌/◌, ◌%◌, ◌^◌, ◌==◌, ◌<◌, ◌≤◌, Bool, true, false, not, ◌&&◌, ℤ, pos, negsuc, neg_ℤ, ◌≤ℤ◌, ◌<ℤ◌, ◌*ℤ◌, unsigned_abs, List, [], ◌∷◌, length, decimal, Option, Some, None, nat_lt, nat_le, refl, sym, ap, ◌∙◌, subst, arith, if◌then◌else◌}
-use Rattle.std.specs.Int.Signed.{mag}
 use Rattle.std.specs.Fmt.{signed_decimal}
 use Rattle.std.specs.Int.{is_negative}
 use Rattle.std.specs.Char.{digit_value, to_ascii_lowercase}
@@ -14,6 +13,7 @@ use Rattle.std.specs.Str.{all_ascii_digits}
 use Rattle.jiff_core.proofs.SignedLemmas.{signed_arith}
 use Rattle.base_types.specs.Digits.{digits_in}
 use Rattle.scalar_text.specs.Number.{part_text, decimal_text, signed}
+pub use Rattle.scalar_text.proofs.CanonicalDecimals.{fits_word as small}
 use Rattle.scalar_text.proofs.PrintedDecimals.{part_numeral}
 use Rattle.scalar_text.proofs.PrintedNumbers.{digits_fit, digits_pass, whole_fits, whole_passes, port_fits, port_passes, decimal_of_whole, decimal_of_great_whole, decimal_fits, decimal_passes}
 use Rattle.scalar_text.specs.Number.{port_in}
@@ -52,11 +52,6 @@ dark_decimal_text z fits =
 
 pub strip_decimal : (z : ℤ) → unsigned_abs z < 2 ^ 64 → strip (decimal_text z) ≡ decimal_text z
 strip_decimal z fits = strip-dark (decimal_text z) (dark_decimal_text z fits)
-
--- a number of 64 bits with a sign
-pub small : (z : ℤ) → mag z < 2 ^ 63 → unsigned_abs z < 2 ^ 64
-small (pos n) fits = omega (arith, fits)
-small (negsuc n) fits = omega (arith, fits)
 
 -- ---- short numbers
 
@@ -202,7 +197,7 @@ extra_decimal_refused z test = rw test
 
 -- ---- accuracies
 
-accuracy_size : (z : ℤ) → is_accuracy z ≡ true → unsigned_abs z ≤ 100000000
+pub accuracy_size : (z : ℤ) → is_accuracy z ≡ true → unsigned_abs z ≤ 100000000
 accuracy_size z test = leb-true (unsigned_abs z) 100000000 (and_parts (not (is_negative z)) (nat_le (unsigned_abs z) 100000000) test).1
 
 pub own_accuracy_kept : (z m : ℤ) → m ≡ z → is_accuracy z ≡ true → clean kind.Accuracy (value.Decimal z) ≡ Some (value.Decimal m)

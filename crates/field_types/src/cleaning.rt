@@ -130,7 +130,7 @@ fn takes_words(kind: FieldType) -> bool
     )
 }
 
-fn clean_whole(alloc: Global, kind: FieldType, n: i64) -> Result<Value, FieldFault>
+pub fn clean_whole(alloc: Global, kind: FieldType, n: i64) -> Result<Value, FieldFault>
     ensures { IsCleaned (clean kind (value.Whole n)) result }
 {
     if takes_words(kind) {
@@ -167,7 +167,7 @@ fn decimal_as_accuracy(n: i64) -> Result<Value, FieldFault>
     Ok(Value::Decimal(n))
 }
 
-fn clean_decimal(alloc: Global, kind: FieldType, n: i64) -> Result<Value, FieldFault>
+pub fn clean_decimal(alloc: Global, kind: FieldType, n: i64) -> Result<Value, FieldFault>
     ensures { IsCleaned (clean kind (value.Decimal n)) result }
 {
     if takes_words(kind) {
@@ -186,7 +186,7 @@ fn word_of(flag: bool) -> &'static str
     if flag { "true" } else { "false" }
 }
 
-fn clean_flag(alloc: Global, kind: FieldType, flag: bool) -> Result<Value, FieldFault>
+pub fn clean_flag(alloc: Global, kind: FieldType, flag: bool) -> Result<Value, FieldFault>
     ensures { IsCleaned (clean kind (value.Flag flag)) result }
 {
     if takes_words(kind) {
@@ -216,7 +216,7 @@ fn are_extra_items(items: &[Item]) -> bool
 }
 
 // Whether the kind takes the list.
-fn takes_items(kind: FieldType, items: &[Item]) -> bool
+pub fn takes_items(kind: FieldType, items: &[Item]) -> bool
     ensures { result ≡ takes_items kind items.now }
 {
     match kind {

@@ -1,38 +1,22 @@
-ghost use Rattle.std.specs.Prelude.{◌≡◌, nat_le, nat_eq, drop, length, map};
+ghost use Rattle.std.specs.Prelude.{◌≡◌, true, nat_le, nat_eq, drop, length, map};
+ghost use Rattle.std.specs.FinMap.{is_sorted};
+ghost use Rattle.std.specs.Ordering.{nat_cmp};
+ghost use Rattle.std.specs.Cmp.Lexicographic.{slice_cmp};
 ghost use Rattle.std.specs.List.{list_all};
 ghost use Rattle.std.specs.Str.{is_utf8};
 ghost use Rattle.field_types.specs.Field.{type_of, kind_in, field_table, is_extra_name, is_extra_part};
 
 use crate::FieldType;
 use base_types::Text;
+use std::cmp::Ordering;
 use std::str;
 
-/// The table of fields: those of the source, the same of the destination, and those that stand once.
+/// The table of fields, in byte order of their names.
 pub const FIELDS: [(&str, FieldType); 84] = [
-    ("source.abuse_contact", FieldType::Lower),
-    ("source.account", FieldType::Text),
-    ("source.allocated", FieldType::DateTime),
-    ("source.as_name", FieldType::Text),
-    ("source.asn", FieldType::Asn),
-    ("source.domain_suffix", FieldType::Lower),
-    ("source.fqdn", FieldType::Fqdn),
-    ("source.geolocation.cc", FieldType::Cc),
-    ("source.geolocation.city", FieldType::Text),
-    ("source.geolocation.country", FieldType::Text),
-    ("source.geolocation.latitude", FieldType::Decimal),
-    ("source.geolocation.longitude", FieldType::Decimal),
-    ("source.geolocation.region", FieldType::Text),
-    ("source.geolocation.state", FieldType::Text),
-    ("source.ip", FieldType::Ip),
-    ("source.local_hostname", FieldType::Text),
-    ("source.local_ip", FieldType::Ip),
-    ("source.network", FieldType::Network),
-    ("source.port", FieldType::Port),
-    ("source.registry", FieldType::Registry),
-    ("source.reverse_dns", FieldType::Fqdn),
-    ("source.tor_node", FieldType::Flag),
-    ("source.url", FieldType::Url),
-    ("source.urlpath", FieldType::Text),
+    ("classification.identifier", FieldType::Text),
+    ("classification.taxonomy", FieldType::Taxonomy),
+    ("classification.type", FieldType::Class),
+    ("comment", FieldType::Text),
     ("destination.abuse_contact", FieldType::Lower),
     ("destination.account", FieldType::Text),
     ("destination.allocated", FieldType::DateTime),
@@ -57,10 +41,6 @@ pub const FIELDS: [(&str, FieldType); 84] = [
     ("destination.tor_node", FieldType::Flag),
     ("destination.url", FieldType::Url),
     ("destination.urlpath", FieldType::Text),
-    ("classification.identifier", FieldType::Text),
-    ("classification.taxonomy", FieldType::Taxonomy),
-    ("classification.type", FieldType::Class),
-    ("comment", FieldType::Text),
     ("event_description.target", FieldType::Text),
     ("event_description.text", FieldType::Text),
     ("event_description.url", FieldType::Url),
@@ -89,6 +69,30 @@ pub const FIELDS: [(&str, FieldType); 84] = [
     ("raw", FieldType::Raw),
     ("rtir_id", FieldType::Whole),
     ("screenshot_url", FieldType::Url),
+    ("source.abuse_contact", FieldType::Lower),
+    ("source.account", FieldType::Text),
+    ("source.allocated", FieldType::DateTime),
+    ("source.as_name", FieldType::Text),
+    ("source.asn", FieldType::Asn),
+    ("source.domain_suffix", FieldType::Lower),
+    ("source.fqdn", FieldType::Fqdn),
+    ("source.geolocation.cc", FieldType::Cc),
+    ("source.geolocation.city", FieldType::Text),
+    ("source.geolocation.country", FieldType::Text),
+    ("source.geolocation.latitude", FieldType::Decimal),
+    ("source.geolocation.longitude", FieldType::Decimal),
+    ("source.geolocation.region", FieldType::Text),
+    ("source.geolocation.state", FieldType::Text),
+    ("source.ip", FieldType::Ip),
+    ("source.local_hostname", FieldType::Text),
+    ("source.local_ip", FieldType::Ip),
+    ("source.network", FieldType::Network),
+    ("source.port", FieldType::Port),
+    ("source.registry", FieldType::Registry),
+    ("source.reverse_dns", FieldType::Fqdn),
+    ("source.tor_node", FieldType::Flag),
+    ("source.url", FieldType::Url),
+    ("source.urlpath", FieldType::Text),
     ("status", FieldType::Text),
     ("time.observation", FieldType::DateTime),
     ("time.source", FieldType::DateTime),
@@ -133,19 +137,23 @@ fn is_extra_name(key: &[u8]) -> bool
 
 type Row = (&'static str, FieldType);
 
-// The kind in the row of that name.
-fn kind_in(rows: &[Row], name: &[u8]) -> Option<FieldType>
-    ensures { result ≡ kind_in (map (λ row. (row.0.now, row.1)) rows.now) name.now }
+fn compare(row: &Row, name: &[u8]) -> Ordering
+    ensures { result ≡ slice_cmp nat_cmp row.now.0.now name.now }
 {
-    'rows: for row in rows {
-        if row.0.as_bytes() == name {
-            return Some(row.1);
-        }
-    }
-    None
+    row.0.as_bytes().cmp(name)
 }
 
-#[tactic(auto, unfolding(crate::specs::Field::field_table))]
+// The kind in the row of that name, among rows in byte order of their names.
+fn kind_in(rows: &[Row], name: &[u8]) -> Option<FieldType>
+    requires { is_sorted (slice_cmp nat_cmp) (map (λ row. (row.0.now, row.1)) rows.now) ≡ true }
+    ensures { result ≡ kind_in (map (λ row. (row.0.now, row.1)) rows.now) name.now }
+{
+    match rows.binary_search_by(|row| compare(row, name)) {
+        Ok(at) => Some(rows[at].1),
+        Err(_) => None,
+    }
+}
+
 fn row_of(key: &[u8]) -> Option<FieldType>
     ensures { result ≡ kind_in field_table key.now }
 {

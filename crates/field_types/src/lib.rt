@@ -2,6 +2,7 @@
 #![tactic(auto)]
 
 mod blanks;
+mod canonical;
 mod cleaning;
 mod fault;
 mod field;
@@ -11,9 +12,10 @@ mod value;
 mod writing;
 
 pub use blanks::strip;
+pub use canonical::is_canonical;
 pub use cleaning::{clean_values_stay, sanitise, sanitise_own, sanitise_text};
 pub use fault::FieldFault;
 pub use field::{FIELDS, type_of, type_of_bytes};
 pub use kind::FieldType;
 pub use value::{Item, ItemList, Value};
-pub use writing::{push_quoted, push_value};
+pub use writing::{push_quoted, push_text, push_value};

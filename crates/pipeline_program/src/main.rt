@@ -41,7 +41,7 @@ Exit status:
    4  the feed is absent, or can't be read
    6  standard output failed
   17  a line of the feed is no event or report; those before it are written
-  19  a line has a form that isn't read yet, or the feed (line 0) is too long for now
+  19  the feed has more than 1,048,576 bytes, which is too long for now
 ";
 
 const VERSION: &str = "intelpipe 0.1.0\n";

@@ -229,13 +229,20 @@ struct Run {
     told: &'static str,
 }
 
-const RUNS: [Run; 8] = [
+const RUNS: [Run; 9] = [
     Run {
         words: &["intelpipe", "any", "convert", "--feed", "feed.json"],
         content: b"{\"comment\":\" a \"}\n\n{\"status\":\"on\"}\n",
         status: 0,
         output: "{\"__type\":\"Event\",\"comment\":\"a\"}\n{\"__type\":\"Event\",\"status\":\"on\"}\n",
         told: "",
+    },
+    Run {
+        words: &["intelpipe", "any", "convert", "--feed", "feed.json"],
+        content: b"{\"source.port\":\"80\",\"extra\":{\"seen\":[1,1.50]}}\n{\"source.port\":70000}\n",
+        status: 17,
+        output: "{\"__type\":\"Event\",\"extra.seen\":[1,1.5],\"source.port\":80}\n",
+        told: "intelpipe: bad line 2\n",
     },
     Run {
         words: &["intelpipe", "any", "convert", "--feed", "feed.json"],

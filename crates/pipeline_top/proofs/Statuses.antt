@@ -1,5 +1,5 @@
 -- The status of a conversion, from how it ended.
-use Rattle.std.proofs.Common.{◌≡◌, ◌<◌, ℕ, zero, suc, List, length, take, Result, Ok, Err, IfOk, OnOk, OnErr, IsErrOf, refl, sym, ◌∙◌, ap, subst, arith}
+use Rattle.std.proofs.Common.{◌≡◌, ℕ, List, length, take, Result, Ok, Err, IfOk, OnOk, OnErr, IsErrOf, refl, sym, ◌∙◌, ap, subst}
 use Rattle.std.proofs.Math.Seq.{take-append_seam}
 use Rattle.edge_traits.specs.Sink.{SinkView, Took}
 use Rattle.pipeline_top.specs.Convert.{end_from, Wrote}
@@ -15,20 +15,20 @@ use Rattle.pipeline_top.proofs.LineEnds.{end_case}
 abbrev IsLineEnd : Status → Type 0
 IsLineEnd status.Done = Unit {0}
 IsLineEnd (status.BadLine n) = Unit {0}
-IsLineEnd (status.Unbuilt n) = Unit {0}
 IsLineEnd _ = ⊥
 
 line_end : (ls : List (List ℕ)) → IsLineEnd (end_from 1 ls)
-line_end ls = end_case IsLineEnd tt (λ n. tt) (λ n from_one. tt) 1 ls (omega arith)
+line_end ls = end_case IsLineEnd tt (λ n. tt) 1 ls
 
 -- an end that a conversion may have
 abbrev pub IsConversionEnd : Status → Type 0
 IsConversionEnd status.Words = ⊥
 IsConversionEnd (status.Feed name why) = ⊥
+IsConversionEnd (status.Unbuilt line) = ⊥
 IsConversionEnd _ = Unit {0}
 
 pub conversion_end : (r : Result Status Halt) (ls : List (List ℕ)) → IfOk r (λ s. s ≡ end_from 1 ls) → IsConversionEnd (status_of r)
-conversion_end (Ok s) ls is = subst IsConversionEnd (sym is) (end_case IsConversionEnd tt (λ n. tt) (λ n from_one. tt) 1 ls (omega arith))
+conversion_end (Ok s) ls is = subst IsConversionEnd (sym is) (end_case IsConversionEnd tt (λ n. tt) 1 ls)
 conversion_end (Err halt.OutOfMemory) ls is = tt
 conversion_end (Err halt.Sink) ls is = tt
 
@@ -43,13 +43,8 @@ front_is : {old new : SinkView} {whole : List ℕ} → TookFront old new whole �
 front_is {old = old} {new = new} front =
     (length front.front, subst (λ l. Took old new l) (sym (take-append_seam front.front front.rest) ∙ ap (take (length front.front)) (sym front.whole_is)) front.took)
 
-wrote_unbuilt : (n : ℕ) (old new : SinkView) (whole : List ℕ) → 0 < n → Took old new whole → Wrote (status.Unbuilt n) old new whole
-wrote_unbuilt zero old new whole from_one took = absurd (omega arith)
-wrote_unbuilt (suc n) old new whole from_one took = took
-
 wrote_lines : (ls : List (List ℕ)) (old new : SinkView) (whole : List ℕ) → Took old new whole → Wrote (end_from 1 ls) old new whole
-wrote_lines ls old new whole took =
-    end_case (λ s. Wrote s old new whole) took (λ n. took) (λ n from_one. wrote_unbuilt n old new whole from_one took) 1 ls (omega arith)
+wrote_lines ls old new whole took = end_case (λ s. Wrote s old new whole) took (λ n. took) 1 ls
 
 -- all of it where lines end it, and else a front
 pub wrote_end : (r : Result Status Halt) (ls : List (List ℕ)) (old new : SinkView) (whole : List ℕ) → IfOk r (λ s. s ≡ end_from 1 ls) → OnOk r (Took old new whole) → OnErr r (TookFront old new whole) → Wrote (status_of r) old new whole

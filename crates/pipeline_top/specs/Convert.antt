@@ -1,12 +1,11 @@
 -- What `convert` writes, and how it ends.
-use Rattle.std.specs.Prelude.{ℕ, zero, suc, ◌+◌, List, [], ◌∷◌, ◌++◌, ◌==◌, nat_lt, length, take, Result, Ok, Err, if◌then◌else◌}
+use Rattle.std.specs.Prelude.{ℕ, ◌+◌, List, [], ◌∷◌, ◌++◌, ◌==◌, nat_lt, length, take, Result, Ok, Err, if◌then◌else◌}
 use Rattle.std.specs.List.{slice_split}
 use Rattle.edge_traits.specs.Sink.{SinkView, Took}
-use Rattle.event_json.specs.declared.event_model.Message.{Message}
-use Rattle.event_json.specs.declared.read_fault.ReadFault.{ReadFault}
-use Rattle.event_json.specs.declared.read_fault.ReadFault.TheVariants as fault
-use Rattle.event_json.specs.Reading.{lenient}
-use Rattle.event_json.specs.Writing.{message_text}
+use Rattle.event_model.specs.declared.fault.ReadFault.{ReadFault}
+use Rattle.event_model.specs.declared.message.Message.{Message}
+use Rattle.event_json.specs.Lenient.{lenient}
+use Rattle.event_json.specs.Text.{message_text}
 use Rattle.pipeline_top.specs.declared.status.Status.{Status}
 use Rattle.pipeline_top.specs.declared.status.Status.TheVariants as status
 
@@ -19,11 +18,9 @@ pub data Line : Type 0 where
   empty : Line
   text : List ℕ → Line
   bad : Line
-  unbuilt : Line
 
 abbrev pub line_of_reading : Result Message ReadFault → Line
 line_of_reading (Ok message) = text (message_text message)
-line_of_reading (Err fault.Unbuilt) = unbuilt
 line_of_reading (Err _) = bad
 
 -- a line is empty, or has the text of its message, or is refused
@@ -36,7 +33,6 @@ abbrev pub put_line : Line → List ℕ → List ℕ
 put_line empty later = later
 put_line (text t) later = t ++ 10 ∷ later
 put_line bad later = []
-put_line unbuilt later = []
 
 -- the text of each line that isn't empty, with a newline, up to the first that is refused
 abbrev pub converted : List (List ℕ) → List ℕ
@@ -53,7 +49,6 @@ abbrev pub end_at : Line → ℕ → Status → Status
 end_at empty number later = later
 end_at (text t) number later = later
 end_at bad number later = status.BadLine number
-end_at unbuilt number later = status.Unbuilt number
 
 -- the first of these lines that is refused, which are numbered from here on
 abbrev pub end_from : ℕ → List (List ℕ) → Status
@@ -81,7 +76,6 @@ IsOutside _ = ⊥
 abbrev pub Wrote : Status → SinkView → SinkView → List ℕ → Type 0
 Wrote status.Done old new whole = Took old new whole
 Wrote (status.BadLine number) old new whole = Took old new whole
-Wrote (status.Unbuilt zero) old new whole = Took old new []
-Wrote (status.Unbuilt (suc n)) old new whole = Took old new whole
+Wrote (status.Unbuilt line) old new whole = Took old new []
 Wrote status.Words old new whole = Took old new []
 Wrote _ old new whole = (n : ℕ) × Took old new (take n whole)

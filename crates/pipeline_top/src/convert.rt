@@ -66,8 +66,8 @@ fn convert_lines<S: Sink>(
     let mut number = 1;
     'lines: loop {
         let (line, more) = line::first_line(rest);
-        if let Some(refusal) = line::put_converted(alloc, line, buffer)? {
-            return Ok(refusal.at(number));
+        if !line::put_converted(alloc, line, buffer)? {
+            return Ok(Status::BadLine { line: number });
         }
         buffer.flush_full(out)?;
         let Some(more) = more else {

@@ -1,39 +1,18 @@
-ghost use Rattle.std.specs.Prelude.{◌≡◌, ◌<◌, ◌==◌, ℕ, [], ◌∷◌, ◌++◌, length, position, IfOk, IfSome, OnOk, Result};
+ghost use Rattle.std.specs.Prelude.{◌≡◌, ◌<◌, ◌==◌, [], ◌∷◌, ◌++◌, length, position, IfOk, IfSome, OnOk, Result};
 ghost use Rattle.std.specs.Option.{option_copied};
-ghost use Rattle.event_json.specs.declared.read_fault.ReadFault.{ReadFault};
-ghost use Rattle.event_json.specs.declared.event_model.Message.{Message};
-ghost use Rattle.event_json.specs.Reading.{IsFaultOf};
-ghost use Rattle.event_json.specs.Writing.{message_text};
-ghost use Rattle.pipeline_top.specs.Convert.{lines, line_of, line_of_reading};
-ghost use Rattle.pipeline_top.specs.Line.{lines_behind, refused_at, refused_line, PutLine};
+ghost use Rattle.event_model.specs.Lenient.{IsFaultOf};
+ghost use Rattle.event_model.specs.declared.fault.ReadFault.{ReadFault};
+ghost use Rattle.event_model.specs.declared.message.Message.{Message};
+ghost use Rattle.event_json.specs.Text.{message_text};
+ghost use Rattle.pipeline_top.specs.Convert.{lines, bad, line_of, line_of_reading};
+ghost use Rattle.pipeline_top.specs.Line.{lines_behind, PutLine};
 
-use crate::Status;
 use crate::buffer::Buffer;
 use base_types::OutOfMemory;
-use event_json::{Message, ReadFault, clean_message, write_message};
+use event_json::{clean_message, write_message};
+use event_model::{Message, ReadFault};
 use memchr::memchr;
 use std::alloc::Global;
-
-/// Why a line isn't converted.
-#[derive(Clone, Copy, Debug, PartialEq, Eq)]
-pub enum Refusal {
-    /// It is no event or report.
-    Bad,
-    /// Its form isn't read yet.
-    Unbuilt,
-}
-
-impl Refusal {
-    /// The status of a conversion that ends at the line of this number.
-    pub fn at(self, line: u64) -> Status
-        ensures { result ≡ refused_at self line }
-    {
-        match self {
-            Refusal::Bad => Status::BadLine { line },
-            Refusal::Unbuilt => Status::Unbuilt { line },
-        }
-    }
-}
 
 /// The first line of a feed, without its newline, and what is behind the newline, if there is one.
 pub fn first_line(feed: &[u8]) -> (&[u8], Option<&[u8]>)
@@ -53,24 +32,33 @@ fn newline_in(feed: &[u8]) -> Option<usize>
     memchr(b'\n', feed)
 }
 
-/// Puts the text of a line's message and a newline into the buffer, nothing for an empty line, or says why the line
-/// is refused. Without memory, some of them are there.
-pub fn put_converted(
-    alloc: Global,
-    line: &[u8],
-    buffer: &mut Buffer,
-) -> Result<Option<Refusal>, OutOfMemory>
+/// Puts the text of a line's message and a newline into the buffer, and nothing for an empty line. Answers whether the
+/// line is one of these: `false` where it is no event or report. Without memory, some of the text may be there.
+pub fn put_converted(alloc: Global, line: &[u8], buffer: &mut Buffer) -> Result<bool, OutOfMemory>
     ensures { IfOk result (PutLine (line_of line.now) buffer.old buffer.new) }
 {
     if line.is_empty() {
-        return Ok(None);
+        return Ok(true);
     }
     match clean_message(alloc, line) {
         Ok(message) => {
             put_message(alloc, &message, buffer)?;
-            Ok(None)
+            Ok(true)
         }
-        Err(fault) => Ok(Some(refusal_of(fault)?)),
+        Err(fault) => {
+            want_of_memory(fault)?;
+            Ok(false)
+        }
+    }
+}
+
+// Want of memory is no fault of the line. With any other fault the line is bad.
+fn want_of_memory(fault: ReadFault) -> Result<(), OutOfMemory>
+    ensures { OnOk result ((reading : Result Message ReadFault) → IsFaultOf reading fault → line_of_reading reading ≡ bad) }
+{
+    match fault {
+        ReadFault::OutOfMemory => Err(OutOfMemory),
+        _ => Ok(()),
     }
 }
 
@@ -80,16 +68,4 @@ fn put_message(alloc: Global, message: &Message, buffer: &mut Buffer) -> Result<
 {
     let text = write_message(alloc, message)?;
     buffer.put_line(text.bytes())
-}
-
-// Why a line with this fault is refused. Want of memory is no fault of the line.
-fn refusal_of(fault: ReadFault) -> Result<Refusal, OutOfMemory>
-    ensures { IfOk result (λ refusal. (reading : Result Message ReadFault) → IsFaultOf reading fault
-        → line_of_reading reading ≡ refused_line refusal) }
-{
-    match fault {
-        ReadFault::OutOfMemory => Err(OutOfMemory),
-        ReadFault::Unbuilt => Ok(Refusal::Unbuilt),
-        _ => Ok(Refusal::Bad),
-    }
 }

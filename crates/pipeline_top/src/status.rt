@@ -38,7 +38,7 @@ pub enum Status {
     Sink,
     /// The line, from 1, is no event or report. Those before it are written.
     BadLine { line: u64 },
-    /// The form of this line, from 1, isn't read yet; 0 where the feed is too long for now.
+    /// The feed is too long for now. The line is 0.
     Unbuilt { line: u64 },
 }
 

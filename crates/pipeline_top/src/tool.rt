@@ -40,6 +40,9 @@ pub fn run_tool<H: Shelf, D: Disk, S: Sink, C: Clock>(
         → (feed_name words.now ≡ Some name) × Rose (count_on (H.shelf shelf.old) name) (count_on (H.shelf shelf.new) name) }
     ensures sink { result.0 ≡ Status.Sink → Rose (S.sink out.old).faults (S.sink out.new).faults }
 
+    // No line has a form that isn't read.
+    ensures unbuilt { (line : ℕ) → result.0 ≡ Status.Unbuilt line → line ≡ 0 }
+
     // Where the feed is told: how its conversion ends, and what is written.
     ensures end { (name content : List ℕ) → feed_name words.now ≡ Some name → content_of (H.shelf shelf.old) name ≡ Some content
         → IsOutside result.0 ⊎ (result.0 ≡ end_of content) }
@@ -70,6 +73,7 @@ fn convert<H: Shelf, S: Sink>(alloc: Global, name: &Text, shelf: &mut H, out: &m
     ensures failed { (other : List ℕ) → result ≡ Status.Feed other Failed
         → Rose (count_on (H.shelf shelf.old) other) (count_on (H.shelf shelf.new) other) }
     ensures sink { result ≡ Status.Sink → Rose (S.sink out.old).faults (S.sink out.new).faults }
+    ensures unbuilt { (line : ℕ) → result ≡ Status.Unbuilt line → line ≡ 0 }
 
     ensures end { (content : List ℕ) → content_of (H.shelf shelf.old) name.now ≡ Some content
         → IsOutside result ⊎ (result ≡ end_of content) }

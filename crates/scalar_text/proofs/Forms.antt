@@ -1,10 +1,7 @@
 -- Options that have a value exactly where a relation holds.
-use Rattle.std.proofs.Common.{◌≡◌, ◌↔◌, ℕ, Bool, true, false, Option, Some, None, option_map, Result, Ok, Err, refl, sym, ap, ◌∙◌, if◌then◌else◌}
+use Rattle.std.proofs.Common.{◌≡◌, ◌↔◌, Bool, true, false, Option, Some, None, option_map, refl, sym, ap, ◌∙◌, if◌then◌else◌}
 use Rattle.std.specs.Option.{option_and_then}
-use Rattle.std.specs.Result.{result_ok}
-use Rattle.std.specs.Net.Grammar.{Parses}
 use Rattle.std.proofs.lemmas.Option.{none-some}
-use Rattle.std.specs.Prelude.{List}
 
 -- the option has the value that the relation holds of, and no other
 pub record IsFormOf {A : Type 0} (P : A → Type 0) (o : Option A) : Type 0 where
@@ -18,11 +15,6 @@ none_as P o (Some v) form e none = absurd (none v (form.sound v e))
 -- the option has no value where the relation holds of none
 pub none_of : {A : Type 0} (P : A → Type 0) (o : Option A) → IsFormOf P o → ((v : A) → ¬ (P v)) → o ≡ None
 none_of P o form none = none_as P o o form refl none
-
--- what a reader of the relation answers is the option
-pub read_as : {A E : Type 0} (P : List ℕ → A → Type 0) (text : List ℕ) (o : Option A) (r : Result A E) → IsFormOf (P text) o → Parses P text r → result_ok r ≡ o
-read_as P text o (Ok v) form h = sym (form.complete v h)
-read_as P text o (Err e) form h = sym (none_of (P text) o form h)
 
 pub form_iff : {A : Type 0} (P : A → Type 0) (o : Option A) (v : A) → IsFormOf P o → (P v ↔ (o ≡ Some v))
 form_iff P o v form = (form.complete v, form.sound v)

@@ -1,3 +1,4 @@
+pub mod CanonicalDecimals
 pub mod DayTexts
 pub mod Forms
 pub mod NumberForms

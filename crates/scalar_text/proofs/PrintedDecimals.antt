@@ -1,5 +1,6 @@
 -- Decimals as they are printed, and read again.
 use Rattle.std.proofs.Common.{◌++◌, ◌≡◌, ℕ, zero, suc, ◌+◌, ◌-◌, ◌*◌, ◌/◌, ◌%◌, ◌^◌, ◌==◌, ◌<◌, ◌≤◌, Bool, true, false, if◌then◌else◌, ℤ, pos, negsuc, unsigned_abs, List, [], ◌∷◌, length, Option, Some, None, decimal, refl, sym, ap, ◌∙◌, subst, arith}
+use Rattle.std.proofs.Math.Nat.{suc-ne-zero}
 use Rattle.std.proofs.Math.Seq.{take-append_seam, drop-append-add}
 use Rattle.std.proofs.lemmas.Bool.{le-ltb, ne_eqb}
 use Rattle.std.proofs.lemmas.Fmt.{decimal_is_IsNumeral, length-decimal-le}
@@ -41,22 +42,19 @@ point_from (d ∷ ds) rest i all = rw (ne_eqb d 46 (no_point_byte d all.0)) (poi
 pub point_behind : (ds rest : List ℕ) → AllDigits 10 ds → point_in (ds ++ 46 ∷ rest) ≡ Some (length ds)
 point_behind ds rest all = position_from-zero (λ b. b == 46) (ds ++ 46 ∷ rest) ∙ point_from ds rest 0 all ∙ ap Some (omega arith)
 
-some : (n : ℕ) → suc n ≡ 0 → ⊥
-some n e = absurd (omega arith)
-
 -- the digits behind the point
 pub until_digits : (k n : ℕ) → n < 1000000 → AllDigits 10 (digits_until_zero k n)
 until_digits zero n below = tt
 until_digits (suc k) zero below = tt
-until_digits (suc k) (suc n) below = rw (ne_eqb (suc n) 0 (some n)) (let d = digit_is (suc n / 100000) (omega arith) in omega (arith, d), until_digits k (behind_first (suc n)) (omega arith))
+until_digits (suc k) (suc n) below = rw (ne_eqb (suc n) 0 (suc-ne-zero n)) (let d = digit_is (suc n / 100000) (omega arith) in omega (arith, d), until_digits k (behind_first (suc n)) (omega arith))
 
-until_short : (k n : ℕ) → length (digits_until_zero k n) ≤ k
+pub until_short : (k n : ℕ) → length (digits_until_zero k n) ≤ k
 until_short zero n = omega arith
 until_short (suc k) zero = omega arith
-until_short (suc k) (suc n) = let short = until_short k (behind_first (suc n)) in rw (ne_eqb (suc n) 0 (some n)) (omega (arith, short))
+until_short (suc k) (suc n) = let short = until_short k (behind_first (suc n)) in rw (ne_eqb (suc n) 0 (suc-ne-zero n)) (omega (arith, short))
 
 -- behind the first digit one place fewer is left
-zeros_left : (k n : ℕ) → k ≤ 4 → n < 1000000 → n % 10 ^ (5 - k) ≡ 0 → n % 100000 * 10 % 10 ^ (6 - k) ≡ 0
+pub zeros_left : (k n : ℕ) → k ≤ 4 → n < 1000000 → n % 10 ^ (5 - k) ≡ 0 → n % 100000 * 10 % 10 ^ (6 - k) ≡ 0
 zeros_left zero n few below none = omega arith
 zeros_left (suc zero) n few below none = omega arith
 zeros_left (suc (suc zero)) n few below none = omega arith
@@ -90,7 +88,7 @@ until_value (suc k) (suc n) acc few below none =
     let zeros = subst (λ j. suc n % 10 ^ j ≡ 0) places none in
     let rest = digits_until_zero k (behind_first (suc n)) in
     let value = digits_value_after 10 (acc * 10 + digit_value (first_digit (suc n))) rest in
-    rw (ne_eqb (suc n) 0 (some n)) (
+    rw (ne_eqb (suc n) 0 (suc-ne-zero n)) (
     ap (λ j. value * 10 ^ j) (omega arith)
     ∙ until_value k (behind_first (suc n)) (acc * 10 + digit_value (first_digit (suc n))) (omega arith) (omega arith) (zeros_left k (suc n) (omega arith) below zeros)
     ∙ ap (λ d. (acc * 10 + d) * 10 ^ k + behind_first (suc n) / 10 ^ (6 - k)) (digit_is (suc n / 100000) (omega arith))
@@ -101,7 +99,7 @@ until_value (suc k) (suc n) acc few below none =
 pub part_numeral : (p : ℕ) → p < 1000000 → IsNumeral 10 (part_text p)
 part_numeral p below = (omega arith, (let d = digit_is (p / 100000) (omega arith) in omega (arith, d), until_digits 5 (behind_first p) (omega arith)))
 
-part_value : (p : ℕ) → p < 1000000 → millionths (part_text p) ≡ p
+pub part_value : (p : ℕ) → p < 1000000 → millionths (part_text p) ≡ p
 part_value p below =
     let short = until_short 5 (behind_first p) in
     let d = digit_is (p / 100000) (omega arith) in

@@ -1,5 +1,5 @@
 -- What the texts of printed numbers write.
-use Rattle.std.proofs.Common.{◌≡◌, ℕ, ◌+◌, ◌*◌, ◌/◌, ◌%◌, ◌^◌, ◌==◌, ◌<◌, ◌≤◌, ◌++◌, Bool, true, false, ℤ, pos, negsuc, unsigned_abs, List, [], ◌∷◌, length, decimal, Option, Some, None, nat_lt, refl, sym, ap, ◌∙◌, arith, if◌then◌else◌}
+use Rattle.std.proofs.Common.{◌≡◌, ℕ, ◌+◌, ◌*◌, ◌/◌, ◌%◌, ◌^◌, ◌==◌, ◌<◌, ◌≤◌, ◌++◌, Bool, true, false, ℤ, pos, negsuc, unsigned_abs, List, [], ◌∷◌, length, decimal, Some, None, nat_lt, refl, sym, ap, ◌∙◌, arith}
 use Rattle.std.proofs.Math.Seq.{take-append_seam, drop-append-add}
 use Rattle.std.proofs.lemmas.Bool.{lt-ltb, le-ltb, ltb-true, ltb-false, ne_eqb}
 use Rattle.std.proofs.lemmas.Fmt.{decimal_is_IsNumeral, length-decimal-le}
@@ -60,9 +60,6 @@ whole_passes z fits great =
 pub port_fits : (n : ℕ) → n < 65536 → port_in (decimal n) ≡ Some n
 unfolding port_in
 port_fits n few = rw (digits_fit 5 n (omega arith) (omega arith) (omega arith), lt-ltb n 65536 few)
-
-port_of : (o : Option ℕ) (n : ℕ) → (o ≡ None) → (if false then o else None) ≡ None
-port_of o n e = refl
 
 pub port_passes : (n : ℕ) → n < 2 ^ 64 → 65536 ≤ n → port_in (decimal n) ≡ None
 unfolding port_in

@@ -1,6 +1,7 @@
 -- Numbers as texts.
-use Rattle.std.specs.Prelude.{unsigned_abs, ◌≡◌, ℕ, zero, suc, ◌+◌, ◌-◌, ◌*◌, ◌/◌, ◌%◌, ◌^◌, ◌++◌, ◌==◌, ◌<◌, nat_lt, ◌&&◌, option_and_then, option_map, decimal, Bool, true, false, List, [], ◌∷◌, length, take, drop, position, Option, Some, None, ℤ, pos, neg_ℤ, if◌then◌else◌}
+use Rattle.std.specs.Prelude.{unsigned_abs, ◌≡◌, ◌≢◌, ◌⊎◌, ℕ, zero, suc, ◌+◌, ◌-◌, ◌*◌, ◌/◌, ◌%◌, ◌^◌, ◌++◌, ◌==◌, ◌<◌, ◌≤◌, Any, slice_index, nat_lt, ◌&&◌, option_and_then, option_map, decimal, Bool, true, false, List, [], ◌∷◌, length, take, drop, position, Option, Some, None, ℤ, pos, neg_ℤ, if◌then◌else◌}
 use Rattle.std.specs.Int.{is_negative}
+use Rattle.std.specs.List.{last_or}
 use Rattle.std.specs.Str.{all_ascii_digits}
 use Rattle.std.specs.Str.Parse.{IsNumeral, digits_value}
 use Rattle.base_types.specs.Digits.{IsDigits, digits_in}
@@ -91,3 +92,24 @@ abbrev pub decimal_text : ℤ → List ℕ
 decimal_text z =
     let text = decimal (unsigned_abs z / 1000000) ++ 46 ∷ part_text (unsigned_abs z % 1000000) in
     if is_negative z then 45 ∷ text else text
+
+-- the text is a decimal in its shortest form: perhaps a minus, digits, a point, and more digits
+pub record IsCanonicalDecimal (text : List ℕ) : Type 0 where
+  -- what stands before the digits
+  pub sign : List ℕ
+  -- the digits before the point
+  pub whole : List ℕ
+  -- the digits behind the point
+  pub part : List ℕ
+  -- the text is these three, with a point before the last
+  pub spelled : text ≡ sign ++ whole ++ 46 ∷ part
+  -- there is no sign, or it is a minus and some digit isn't `0`
+  pub minus : (sign ≡ []) ⊎ ((sign ≡ 45 ∷ []) × Any (λ b. b ≢ 48) (whole ++ part))
+  -- digits stand before the point, one at least
+  pub whole_digits : IsNumeral 10 whole
+  -- a `0` is the first of them only where it is the only one
+  pub whole_shortest : slice_index whole 0 ≡ 48 → length whole ≡ 1
+  -- 1 to 6 digits stand behind the point
+  pub part_digits : IsNumeral 10 part × (length part ≤ 6)
+  -- a `0` is the last of them only where it is the only one
+  pub part_shortest : last_or None part ≡ Some 48 → length part ≡ 1

@@ -1,5 +1,5 @@
 ghost use Rattle.std.specs.Prelude.{◌≡◌, ◌<◌, ◌≤◌, ◌^◌, ◌++◌, unsigned_abs, IfOk, OnOk, string_bytes};
-ghost use Rattle.scalar_text.specs.Number.{IsDecimalText, first_digit, behind_first, digits_until_zero, part_text, decimal_text};
+ghost use Rattle.scalar_text.specs.Number.{IsDecimalText, first_digit, behind_first, digits_until_zero, part_text, decimal_text, IsCanonicalDecimal};
 
 use base_types::{OutOfMemory, Text};
 use std::alloc::{AllocError, Global};
@@ -59,4 +59,14 @@ pub fn print_decimal(alloc: Global, n: i64) -> Result<Text, OutOfMemory>
 pub fn printed_decimal_reads_back(n: i64)
     requires { unsigned_abs n < 10 ^ 18 }
     ensures { IsDecimalText (decimal_text n) n }
+{}
+
+/// What `print_decimal` writes is the shortest text of its form: no needless zero at either end, and no sign of zero.
+pub fn printed_decimals_are_canonical(n: i64)
+    ensures { IsCanonicalDecimal (decimal_text n) }
+{}
+
+/// Two numbers that are printed alike are one.
+pub fn decimal_texts_differ(a: i64, b: i64)
+    ensures { decimal_text a ≡ decimal_text b → a ≡ b }
 {}

@@ -1,4 +1,4 @@
-ghost use Rattle.std.specs.Prelude.{◌≡◌, ◌≤◌, ◌<◌, ◌++◌, ◌&&◌, ◌||◌, ◌==◌, List, ℕ, IfOk, IfSome, IsTrue, OnOk, MatchOption, length, take, drop, codes, count_by};
+ghost use Rattle.std.specs.Prelude.{◌≡◌, ◌≤◌, ◌<◌, ◌++◌, ◌&&◌, ◌||◌, ◌==◌, List, ℕ, false, IfOk, IfSome, IsTrue, OnOk, MatchOption, length, take, drop, codes, count_by};
 ghost use Rattle.std.specs.List.{list_any};
 ghost use Rattle.scalar_text.specs.Quote.{is_digit, is_number_byte, behind_digits, starts_with_digit, starts_with_number_byte, is_digits, is_signed_digits, is_exponent, is_fraction, is_unsigned, is_number, is_decimal, quoted_run, quote, quote_string, quote_escape, Keeps};
 
@@ -218,6 +218,13 @@ pub fn quote_decimals(alloc: Global, bytes: &[u8]) -> Result<Blob, OutOfMemory>
     }
     quoted.extend_from_slice(rest)?;
     Ok(Blob::from(quoted))
+}
+
+/// Whether there is a decimal to put under quotes. It takes no memory.
+pub fn has_decimals(bytes: &[u8]) -> bool
+    ensures { result ≡ false → quote bytes.now ≡ bytes.now }
+{
+    first_decimal(bytes).is_some()
 }
 
 /// Quoting what was quoted changes nothing.

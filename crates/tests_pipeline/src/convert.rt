@@ -1,75 +1,11 @@
-use base_types::{Blob, NumberList, Text, TextList};
+use crate::system::{CONVERT, Faults, NONE, NOW, numbers, outcome, words_of};
+use base_types::{Blob, Text};
 use edge_memory::{MemClock, MemShelf, MemSink};
 use edge_traits::NoDisk;
 use pipeline_top::{Status, run_tool, status_text};
 use std::alloc::Global;
 use std::process::Abort;
 use std::test::Fail;
-
-const NOW: u64 = 1_700_000_000;
-
-fn numbers(alloc: Global, all: &[u64]) -> Result<NumberList, Fail> {
-    let mut list = NumberList::new(alloc);
-    for n in all {
-        if list.push(*n).is_err() {
-            return Err(Fail::from("memory"));
-        }
-    }
-    Ok(list)
-}
-
-fn words_of(alloc: Global, words: &[&str]) -> Result<TextList, Fail> {
-    let mut list = TextList::new(alloc);
-    for word in words {
-        if list.push(Text::new(alloc, word.as_bytes())?).is_err() {
-            return Err(Fail::from("memory"));
-        }
-    }
-    Ok(list)
-}
-
-// What fails, and where: the fetches, the reads of the feed and the writes with these numbers.
-struct Faults {
-    fetches: &'static [u64],
-    reads: &'static [u64],
-    writes: &'static [u64],
-}
-
-const NONE: Faults = Faults {
-    fetches: &[],
-    reads: &[],
-    writes: &[],
-};
-
-// Runs the words over a shelf with one feed, and gives the text of the status and what was written.
-fn outcome(
-    alloc: Global,
-    words: &[&str],
-    feed: &[u8],
-    faults: &Faults,
-) -> Result<(Status, Blob), Fail> {
-    let mut shelf = MemShelf::new(alloc, numbers(alloc, faults.fetches)?);
-    let name = Text::new(alloc, b"feed.json")?;
-    shelf.put(
-        alloc,
-        &name,
-        &Blob::new(alloc, feed)?,
-        numbers(alloc, faults.reads)?,
-    )?;
-    let mut out = MemSink::new(alloc, numbers(alloc, faults.writes)?);
-    let words = words_of(alloc, words)?;
-    let (status, _) = run_tool(
-        alloc,
-        words.as_slice(),
-        &mut shelf,
-        NoDisk::new(),
-        &mut out,
-        &MemClock::new(NOW),
-    );
-    Ok((status, Blob::new(alloc, out.bytes())?))
-}
-
-const CONVERT: [&str; 3] = ["convert", "--feed", "feed.json"];
 
 struct Row {
     feed: &'static str,
@@ -80,15 +16,16 @@ struct Row {
 
 fn check_rows(rt: &impl Abort, alloc: Global, rows: &[Row]) -> Result<(), Fail> {
     for row in rows {
-        let (status, written) = outcome(alloc, &CONVERT, row.feed.as_bytes(), &NONE)?;
-        assert_eq!(rt; status_text(alloc, &status)?.as_str(), row.status);
-        assert_eq!(rt; status.number(), row.number);
-        assert_eq!(rt; written.bytes(), row.text.as_bytes());
+        let feed = row.feed;
+        let (status, written) = outcome(alloc, &CONVERT, feed.as_bytes(), &NONE)?;
+        assert_eq!(rt; status_text(alloc, &status)?.as_str(), row.status, "{feed}");
+        assert_eq!(rt; status.number(), row.number, "{feed}");
+        assert_eq!(rt; written.bytes(), row.text.as_bytes(), "{feed}");
     }
     Ok(())
 }
 
-const FEEDS: [Row; 13] = [
+const FEEDS: [Row; 19] = [
     Row {
         feed: "",
         text: "",
@@ -132,18 +69,56 @@ const FEEDS: [Row; 13] = [
         status: "bad line 1",
         number: 17,
     },
+    // Numbers, lists and objects.
     Row {
-        feed: "{\"source.port\":\"80\"}\n",
+        feed: "{\"source.port\":\"80\"}\n{\"extra\":{\"b\":{\"c\":1.50},\"a\":[1,[2]]}}\n",
+        text: "{\"__type\":\"Event\",\"source.port\":80}\n{\"__type\":\"Event\",\"extra.a\":[1,\"[2]\"],\"extra.b.c\":1.5}\n",
+        status: "done",
+        number: 0,
+    },
+    Row {
+        feed: "{\"feed.accuracy\":100.0}\n{\"feed.accuracy\":\"100\"}\n{\"feed.accuracy\":100}\n",
+        text: "{\"__type\":\"Event\",\"feed.accuracy\":100.0}\n{\"__type\":\"Event\",\"feed.accuracy\":100.0}\n{\"__type\":\"Event\",\"feed.accuracy\":100.0}\n",
+        status: "done",
+        number: 0,
+    },
+    Row {
+        feed: "{\"feed.accuracy\":1e2}\n",
         text: "",
-        status: "unbuilt 1",
-        number: 19,
+        status: "bad line 1",
+        number: 17,
+    },
+    Row {
+        feed: "{\"feed.accuracy\":100.1}\n",
+        text: "",
+        status: "bad line 1",
+        number: 17,
+    },
+    // A line of each fault, behind one that is written.
+    Row {
+        feed: "{\"comment\":7}\n7\n",
+        text: "{\"__type\":\"Event\",\"comment\":\"7\"}\n",
+        status: "bad line 2",
+        number: 17,
+    },
+    Row {
+        feed: "{}\n{\"__type\":\"Alarm\"}\n",
+        text: "{\"__type\":\"Event\"}\n",
+        status: "bad line 2",
+        number: 17,
+    },
+    Row {
+        feed: "{}\n{\"nofield\":null}\n{\"nofield\":7}\n",
+        text: "{\"__type\":\"Event\"}\n{\"__type\":\"Event\"}\n",
+        status: "bad line 3",
+        number: 17,
     },
     // Empty lines count, and what is behind the bad line isn't written.
     Row {
-        feed: "\n{\"comment\":\"a\"}\n\n{\"comment\":7}\n{\"comment\":\"b\"}\n",
+        feed: "\n{\"comment\":\"a\"}\n\n{\"comment\":1e2}\n{\"comment\":\"b\"}\n",
         text: "{\"__type\":\"Event\",\"comment\":\"a\"}\n",
-        status: "unbuilt 4",
-        number: 19,
+        status: "bad line 4",
+        number: 17,
     },
     Row {
         feed: "\n\nno\n{\"comment\":7}\n",
@@ -197,12 +172,12 @@ const NO_COMMANDS: [&[&str]; 12] = [
 #[test]
 fn words_that_are_no_command(rt: HostRuntime) -> Result<(), Fail> {
     let alloc = rt.alloc();
-    for words in &NO_COMMANDS {
+    for (i, words) in NO_COMMANDS.iter().enumerate() {
         let (status, written) = outcome(alloc, words, b"{}\n", &NONE)?;
-        assert_eq!(rt; status, Status::Words);
-        assert_eq!(rt; status_text(alloc, &status)?.as_str(), "words");
-        assert_eq!(rt; status.number(), 2);
-        assert_eq!(rt; written.bytes(), b"".as_slice());
+        assert_eq!(rt; status, Status::Words, "row {i}");
+        assert_eq!(rt; status_text(alloc, &status)?.as_str(), "words", "row {i}");
+        assert_eq!(rt; status.number(), 2, "row {i}");
+        assert_eq!(rt; written.bytes(), b"".as_slice(), "row {i}");
     }
     Ok(())
 }
@@ -321,10 +296,14 @@ const FAULTS: [FaultRow; 7] = [
 fn faults_of_the_outside(rt: HostRuntime) -> Result<(), Fail> {
     let alloc = rt.alloc();
     let feed = long_feed(alloc, 200_000)?;
-    for row in &FAULTS {
+    for (i, row) in FAULTS.iter().enumerate() {
         let (status, written) = outcome(alloc, &CONVERT, feed.as_bytes(), &row.faults)?;
-        assert_eq!(rt; status_text(alloc, &status)?.as_str(), row.status);
-        assert_eq!(rt; written.bytes().len(), row.written);
+        assert_eq!(rt;
+            status_text(alloc, &status)?.as_str(),
+            row.status,
+            "row {i}"
+        );
+        assert_eq!(rt; written.bytes().len(), row.written, "row {i}");
     }
     Ok(())
 }

@@ -70,9 +70,13 @@ const NAMES: [(&str, bool); 9] = [
 fn names_of_bots_and_queues(rt: HostRuntime) -> Result<(), Fail> {
     let alloc = rt.alloc();
     for (name, is_name) in &NAMES {
-        assert_eq!(rt; BotName::new(name.as_bytes()).is_ok(), *is_name);
+        assert_eq!(rt; BotName::new(name.as_bytes()).is_ok(), *is_name, "{name}");
         let queue = format!(in alloc; "{name}-queue")?;
-        assert_eq!(rt; QueueName::new(queue.as_bytes()).is_ok(), *is_name);
+        assert_eq!(rt;
+            QueueName::new(queue.as_bytes()).is_ok(),
+            *is_name,
+            "{name}"
+        );
     }
     let bot = BotName::new(b"parse").map_err(|_| Fail::from("name"))?;
     assert_eq!(rt; queue_of(&bot).bytes(), b"parse-queue".as_slice());

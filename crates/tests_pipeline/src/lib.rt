@@ -4,6 +4,14 @@
 #[cfg(test)]
 mod convert;
 #[cfg(test)]
+mod fields;
+#[cfg(test)]
 mod ground;
 #[cfg(test)]
+mod kinds;
+#[cfg(test)]
 mod messages;
+#[cfg(test)]
+mod strict;
+#[cfg(test)]
+mod system;

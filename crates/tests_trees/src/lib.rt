@@ -1,5 +1,11 @@
-//! Tests of the reading of JSON trees as messages, through public calls alone.
+//! Tests of fields, of messages, and of the reading of JSON trees as messages, through public calls alone.
 #![tactic(auto)]
 
+#[cfg(test)]
+mod fields;
+#[cfg(test)]
+mod hostile;
+#[cfg(test)]
+mod messages;
 #[cfg(test)]
 mod trees;

@@ -25,7 +25,7 @@ fn read(alloc: Global, json: &str) -> Result<Result<Message, ReadFault>, Fail> {
     }
 }
 
-const READ: [(&str, Kind, &str); 14] = [
+const READ: [(&str, Kind, &str); 16] = [
     (
         "{\"source.ip\":\"192.0.2.1\"}",
         Kind::Event,
@@ -81,6 +81,17 @@ const READ: [(&str, Kind, &str); 14] = [
         Kind::Event,
         "extra.a=\"y\" ",
     ),
+    (
+        "{\"extra\":{\"a\":\"1\",\"b\":\"2\",\"c\":\"3\"},\"extra.b\":\"5\",\"extra.a\":\"4\"}",
+        Kind::Event,
+        "extra.a=\"4\" extra.b=\"5\" extra.c=\"3\" ",
+    ),
+    // flattened names come in another order than keys
+    (
+        "{\"extra\":{\"a\":{\"z\":\"1\"},\"a-b\":\"2\"}}",
+        Kind::Event,
+        "extra.a-b=\"2\" extra.a.z=\"1\" ",
+    ),
     // items that are no texts and no numbers are compact texts
     (
         "{\"extra.a\":[null, {\"b\": 1.50, \"a\": []}, true]}",
@@ -107,7 +118,7 @@ fn trees_are_read(rt: HostRuntime) -> Result<(), Fail> {
     Ok(())
 }
 
-const BAD: [(&str, &str); 10] = [
+const BAD: [(&str, &str); 11] = [
     ("{\"nofield\":\"x\"}", "nofield"),
     (
         "{\"source.port\":\"x\",\"source.ip\":\"192.0.2.300\"}",
@@ -122,6 +133,10 @@ const BAD: [(&str, &str); 10] = [
     ("{\"extra\":{\"b\":{\"c\\u0001\":\"x\"}}}", "extra.b.c\u{1}"),
     ("{\"extra\":{\"\":\"x\"},\"extra.\":\"-\"}", "extra."),
     ("{\"extra\":\"x\"}", "extra"),
+    (
+        "{\"extra\":{\"a\":{\"\\u0001\":1},\"a\\u0002\":1,\"a\\u0003\":1}}",
+        "extra.a\u{2}",
+    ),
 ];
 
 #[test]

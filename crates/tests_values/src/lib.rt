@@ -6,10 +6,6 @@ mod addresses;
 #[cfg(test)]
 mod domains;
 #[cfg(test)]
-mod fields;
-#[cfg(test)]
-mod messages;
-#[cfg(test)]
 mod texts;
 #[cfg(test)]
 mod times;

@@ -21,5 +21,5 @@ returns-clause-fields c = (at_end _ (leaves_of (members_view c.members.key-itera
 
 -- src/clean.rt:62:1
 pub returns-clause-bad : goal.returns-clause-bad
-returns-clause-bad c = best_is_least c.members.found.bad (bad_names (leaves_of (members_view c.args.members.now.entries)))
+returns-clause-bad c = best_is_least c.members.found.names.1 (bad_names (leaves_of (members_view c.args.members.now.entries)))
     ((at_end _ (leaves_of (members_view c.members.key-iterator)) nothing_found c.members.found c.members.invariant (ap (λ es. leaves_of (members_view es)) c.in-None.ensures.steps.0)).bad [] refl)

@@ -6,4 +6,4 @@ use Rattle.event_model.proofs.leaves.+leaves.Given as goal
 
 abbrev pub invariant-gather_members-members : goal.invariant-gather_members-members
 invariant-gather_members-members l =
-    (l.key.items ≡ l.fn.key.items) × (l.len ≡ length l.fn.key.items) × AreAdded (leaves_in l.fn.key.items (members_view l.members.entries)) (leaves_in l.fn.key.items (members_view l.inner-iterator)) l.fn.found l.found
+    (l.found.names.0 ≡ l.fn.found.names.0) × (l.len ≡ length l.fn.found.names.0) × AreAdded (leaves_in l.fn.found.names.0 (members_view l.members.entries)) (leaves_in l.fn.found.names.0 (members_view l.inner-iterator)) l.fn.found l.found

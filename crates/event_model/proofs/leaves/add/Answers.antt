@@ -1,4 +1,4 @@
-use Rattle.std.proofs.Common.{Some, [], ◌++◌, OnOk, Ok, Err, Result, sym, subst}
+use Rattle.std.proofs.Common.{ℕ, List, Option, ap, Some, [], ◌++◌, OnOk, Ok, Err, Result, sym, subst}
 use Rattle.event_model.specs.Gathered.{IsBest}
 use Rattle.event_model.specs.Lenient.{lesser, with_bad}
 use Rattle.event_model.proofs.Least.{best_push}
@@ -11,8 +11,9 @@ on_ok (Err e) P Q f p = tt
 
 pub returns-in-Bad-clause-bad : goal.returns-in-Bad-clause-bad
 returns-in-Bad-clause-bad c = λ names best.
-    on_ok c.note_bad.result _ _
-    (λ now. subst (λ b. IsBest b (names ++ with_bad c.args.key.now c.args.part [])) (sym now)
-    (subst (λ part. IsBest (Some (lesser c.args.key.now c.args.found.now.bad)) (names ++ with_bad c.args.key.now part [])) (sym c.in-Bad.is)
-    (best_push c.args.key.now c.args.found.now.bad names best)))
-    c.note_bad.ensures
+    let key = c.args.found.now.names.0 in
+    let least = c.args.found.now.names.1 in
+    on_ok c.note.result _ _
+    (λ now. subst (λ (b : Option (List ℕ)). IsBest b (names ++ with_bad key c.args.part [])) (sym (ap (λ (n : List ℕ × Option (List ℕ)). n.1) now))
+    (subst (λ part. IsBest (Some (lesser key least)) (names ++ with_bad key part [])) (sym c.in-Bad.is) (best_push key least names best)))
+    c.note.ensures

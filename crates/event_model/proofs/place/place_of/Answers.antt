@@ -1,6 +1,6 @@
 use Rattle.std.proofs.Common.{rules}
 use Rattle.std.proofs.lemmas.Fn.{always_returns_same}
-use Rattle.event_model.proofs.Places.{order, searched}
+use Rattle.base_types.proofs.Places.{order, searched}
 use Rattle.event_model.proofs.place.place_of.Goals as goal
 
 pub returns : goal.returns

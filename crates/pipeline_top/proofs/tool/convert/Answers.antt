@@ -23,6 +23,10 @@ pub returns-in-Ok-clause-sink : goal.returns-in-Ok-clause-sink
 returns-in-Ok-clause-sink g c = λ is.
     c.convert_feed.ensures.sink (sink_end c.convert_feed.result (lines c.bytes.result.now) c.convert_feed.ensures.end (sym c.written_status.ensures ∙ is))
 
+pub returns-in-Ok-clause-unbuilt : goal.returns-in-Ok-clause-unbuilt
+returns-in-Ok-clause-unbuilt g c = λ line is.
+    absurd (subst IsConversionEnd (sym c.written_status.ensures ∙ is) (conversion_end c.convert_feed.result (lines c.bytes.result.now) c.convert_feed.ensures.end))
+
 pub returns-in-Ok-clause-written : goal.returns-in-Ok-clause-written
 returns-in-Ok-clause-written g c = λ content told.
     let old = g.S.Sink.sink c.args.out.now in let new = g.S.Sink.sink c.convert_feed.new.out in let feed = c.bytes.result.now in
