@@ -8,10 +8,4 @@ mod fields;
 #[cfg(test)]
 mod ground;
 #[cfg(test)]
-mod kinds;
-#[cfg(test)]
-mod messages;
-#[cfg(test)]
-mod strict;
-#[cfg(test)]
 mod system;

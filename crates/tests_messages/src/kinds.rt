@@ -1,4 +1,4 @@
-use crate::messages::reading;
+use crate::lenient::reading;
 use std::test::Fail;
 
 // A field, a value in JSON, and the JSON of what is kept, or nothing where the value is bad. Each kind of fields has

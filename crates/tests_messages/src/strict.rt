@@ -1,4 +1,4 @@
-use crate::messages::{text_of, word_of};
+use crate::lenient::{text_of, word_of};
 use event_json::{clean_message, read_message, write_message};
 use std::alloc::Global;
 use std::process::Abort;
@@ -227,5 +227,18 @@ fn what_was_written_is_read_back(rt: HostRuntime) -> Result<(), Fail> {
         assert_eq!(rt; again.kind, message.kind, "{line}");
         assert_eq!(rt; again.fields.pairs(), message.fields.pairs(), "{line}");
     }
+    Ok(())
+}
+
+// A text of more than 64 KiB, half of it in escapes.
+#[test]
+fn a_long_text_is_read_back(rt: HostRuntime) -> Result<(), Fail> {
+    let alloc = rt.alloc();
+    let mut line = String::from_str(alloc, r#"{"__type":"Event","comment":""#)?;
+    for _ in 0..20_000 {
+        line.push_str("abc\\\\\\n")?;
+    }
+    line.push_str("\"}")?;
+    assert_eq!(rt; reading(alloc, line.as_bytes())?.as_str(), line.as_str());
     Ok(())
 }
