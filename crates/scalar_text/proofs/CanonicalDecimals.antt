@@ -11,7 +11,7 @@ use Rattle.scalar_text.specs.Number.{has_minus, behind_minus, signed, point_in, 
 use Rattle.scalar_text.proofs.PrintedDecimals.{until_short, zeros_left, part_numeral, part_value, numeral_first, minus_of, behind_of, point_behind, signed_is}
 
 -- some digit isn't `0`
-abbrev HasOther : List ℕ → Type 0
+abbrev pub HasOther : List ℕ → Type 0
 HasOther digits = Any (λ b. b ≢ 48) digits
 
 other_here : (d : ℕ) (ds : List ℕ) → d ≢ 48 → HasOther (d ∷ ds)
@@ -55,7 +55,7 @@ whole_alone : (w : ℕ) → w < 2 ^ 64 → slice_index (decimal w) 0 ≡ 48 → 
 whole_alone zero fits e = ap length (decimal_digit 0 (omega arith))
 whole_alone (suc w) fits e = let first = first_decimal (suc w) (omega arith) fits in absurd (omega (arith, first, e))
 
-until_nothing : (k : ℕ) → digits_until_zero k 0 ≡ []
+pub until_nothing : (k : ℕ) → digits_until_zero k 0 ≡ []
 until_nothing zero = refl
 until_nothing (suc k) = refl
 

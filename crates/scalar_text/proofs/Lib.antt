@@ -1,4 +1,5 @@
 pub mod CanonicalDecimals
+pub mod CanonicalOnly
 pub mod DayTexts
 pub mod Forms
 pub mod NumberForms

@@ -1,4 +1,4 @@
-ghost use Rattle.std.specs.Prelude.{◌≡◌, ◌<◌, ◌≤◌, ◌^◌, ◌++◌, unsigned_abs, IfOk, OnOk, string_bytes};
+ghost use Rattle.std.specs.Prelude.{ℤ, ◌≡◌, ◌<◌, ◌≤◌, ◌^◌, ◌++◌, unsigned_abs, IfOk, OnOk, string_bytes};
 ghost use Rattle.scalar_text.specs.Number.{IsDecimalText, first_digit, behind_first, digits_until_zero, part_text, decimal_text, IsCanonicalDecimal};
 
 use base_types::{OutOfMemory, Text};
@@ -69,4 +69,9 @@ pub fn printed_decimals_are_canonical(n: i64)
 /// Two numbers that are printed alike are one.
 pub fn decimal_texts_differ(a: i64, b: i64)
     ensures { decimal_text a ≡ decimal_text b → a ≡ b }
+{}
+
+/// A canonical text is just what `print_decimal` writes of the number that the text writes.
+pub fn canonical_decimal_is_printed(text: &[u8])
+    ensures { (n : ℤ) → IsCanonicalDecimal text.now → IsDecimalText text.now n → text.now ≡ decimal_text n }
 {}
