@@ -1,10 +1,9 @@
 //! JSON strings in canonical texts.
-ghost use Rattle.std.specs.Prelude.{◌≡◌, ◌∷◌, ◌≤◌, ◌||◌, not, false, fold, length, option_map, IfOk};
-ghost use Rattle.field_types.specs.Writing.{is_plain};
+ghost use Rattle.std.specs.Prelude.{◌≡◌, ◌∷◌, ◌≤◌, length, option_map, IfOk};
 ghost use Rattle.event_json.specs.Decode.{string_end, escape_end, KeepsEnd, short_escape, digit_of, control, unescaped, unescaped_behind, unescaped_control, utf8_text, is_content_of, text_in, text_at};
 
 use base_types::{OutOfMemory, Text, TextFault};
-use field_types::push_quoted;
+use field_types::{has_escapes, push_quoted};
 use memchr::{memchr, memchr2};
 use std::alloc::Global;
 
@@ -131,20 +130,6 @@ fn utf8_text(alloc: Global, bytes: &[u8]) -> Result<Option<Text>, OutOfMemory>
         Err(TextFault::Utf8 { .. }) => Ok(None),
         Err(TextFault::OutOfMemory) => Err(OutOfMemory),
     }
-}
-
-// Whether a byte stands in a JSON string as it is.
-fn is_plain(byte: u8) -> bool
-    ensures { result ≡ is_plain byte }
-{
-    byte >= 32 && byte != b'"' && byte != b'\\'
-}
-
-// Whether a byte is no plain one. It looks at all of them, which is faster than to stop at the first.
-fn has_escapes(content: &[u8]) -> bool
-    ensures { result ≡ fold (λ found b. found || not (is_plain b)) false content.now }
-{
-    content.iter().fold(false, |found, b| found | !is_plain(*b))
 }
 
 // The text that a content writes canonically. Nearly all contents are plain, and are the text itself.

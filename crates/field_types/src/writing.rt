@@ -55,8 +55,8 @@ fn push_escaped(out: &mut Vec<u8>, byte: u8) -> Result<(), OutOfMemory>
     Ok(())
 }
 
-// Whether a byte has to be escaped. It looks at all of them, which is faster than to stop at the first.
-fn has_escapes(text: &[u8]) -> bool
+/// Whether a byte has to be escaped in a JSON string. It looks at all of them, which is faster than to stop at the first.
+pub fn has_escapes(text: &[u8]) -> bool
     ensures { result ≡ fold (λ found b. found || not (is_plain b)) false text.now }
 {
     text.iter().fold(false, |found, b| found | !is_plain(*b))

@@ -1,5 +1,4 @@
-use Rattle.std.proofs.Common.{rules, ◌≡◌, sym, ap, ◌∙◌}
-use Rattle.field_types.specs.Cleaning.{clean}
+use Rattle.std.proofs.Common.{rules, ap, ◌∙◌}
 use Rattle.field_types.specs.declared.value.Value.TheVariants as value
 use Rattle.field_types.proofs.Unchanged.{stays_if, list_stays}
 use Rattle.field_types.proofs.canonical.is_canonical.Goals as goal

@@ -1,4 +1,4 @@
-use Rattle.std.proofs.Common.{◌≡◌, Some, Err, sym, subst, ap, ◌∙◌}
+use Rattle.std.proofs.Common.{Some, Err, sym, subst, ap, ◌∙◌}
 use Rattle.field_types.specs.Cleaning.{of_text}
 use Rattle.field_types.specs.Kept.{kept_value, IsKeptAs}
 use Rattle.field_types.proofs.Unchanged.{text_stays_if, none_stays, whole_text_stays}
