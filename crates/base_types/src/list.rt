@@ -1,7 +1,7 @@
 ghost use Rattle.std.specs.Prelude.{◌≡◌, ◌<◌, List, [], ◌∷◌, ◌++◌, ◌==◌, length, OnOk, IfErr, MatchOption, slice_get, Some};
 ghost use Rattle.std.specs.Cmp.Lexicographic.{pointwise, lists_per};
 
-use crate::{Blob, Dump, FaultNote, OutOfMemory, QueueName, Text};
+use crate::{Blob, FaultNote, OutOfMemory, QueueName, Text};
 use std::alloc::Global;
 use std::marker::Model;
 use std::slice;
@@ -126,8 +126,6 @@ pub type TextList = ListOf<Text>;
 pub type BlobList = ListOf<Blob>;
 
 pub type LineList = ListOf<Blob>;
-
-pub type DumpList = ListOf<Dump>;
 
 pub type QueueList = ListOf<QueueName>;
 

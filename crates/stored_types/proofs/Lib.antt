@@ -1,0 +1,4 @@
+mod Counted
+pub mod FieldLaws
+pub mod Laws
+pub mod Readers

@@ -1,0 +1,17 @@
+use Rattle.std.specs.Int.{w32}
+use Rattle.std.specs.Str.{is_utf8}
+use Rattle.std.proofs.lemmas.Str.{is_utf8-from_IsUtf8}
+use Rattle.stored_types.specs.Code.{framed_at, text_at}
+use Rattle.stored_types.proofs.Readers.{tested_yes, tested_no}
+use Rattle.stored_types.proofs.FieldLaws.{utf8_no_test}
+use Rattle.stored_types.proofs.fields.TextCoded.take.Goals as goal
+
+pub returns-in-Ok : goal.returns-in-Ok
+unfolding text_at
+returns-in-Ok c = rw c.in-Ok.ensures.text (tested_yes is_utf8 (framed_at w32) _ _ _ c.in_ok-front.ensures (is_utf8-from_IsUtf8 _ c.in-Ok.ensures.utf8))
+
+pub returns-in-Err-Utf8 : goal.returns-in-Err-Utf8
+unfolding text_at
+returns-in-Err-Utf8 c =
+    let bad = rw c.in-Err-Utf8.field-0-is at c.in-Err-Utf8.ensures.fault in
+    tested_no is_utf8 (framed_at w32) _ _ _ c.in_ok-front.ensures (utf8_no_test _ bad.0)
