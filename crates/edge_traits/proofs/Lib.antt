@@ -1,2 +1,4 @@
 pub mod Moments
 pub mod Outcomes
+pub mod Outputs
+pub mod Writing

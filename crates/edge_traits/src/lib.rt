@@ -11,6 +11,7 @@ mod no_disk;
 mod shelf;
 mod sink;
 mod source;
+mod write;
 
 pub use clock::Clock;
 pub use disk::Disk;
@@ -19,3 +20,4 @@ pub use no_disk::NoDisk;
 pub use shelf::{Shelf, ShelfFault};
 pub use sink::Sink;
 pub use source::{Failed, Source};
+pub use write::write_all;

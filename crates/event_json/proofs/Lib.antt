@@ -1,9 +1,14 @@
 pub mod Ends
+pub mod Items
 pub mod MessageText
 pub mod Messages
 pub mod PairTexts
+pub mod Placing
 pub mod Readable
+pub mod Reading
 pub mod Runs
+pub mod Setting
+pub mod Slices
 pub mod Strings
 pub mod Unescaped
 pub mod Values

@@ -4,3 +4,4 @@ pub mod Strict
 pub mod Text
 -- what only proofs and private contracts use
 pub mod Decode
+pub mod Direct

@@ -2,12 +2,15 @@
 #![tactic(auto)]
 
 mod clean;
+mod direct;
+mod leaf;
+mod ordered;
 mod pairs;
 mod strict;
 mod string;
 mod value;
 mod write;
 
-pub use clean::clean_message;
+pub use clean::{Cleaner, clean_message};
 pub use strict::read_message;
-pub use write::write_message;
+pub use write::{push_message, write_message};

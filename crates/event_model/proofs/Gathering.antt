@@ -27,15 +27,15 @@ bad_front key Nothing a b = refl
 bad_front key (Set v) a b = refl
 bad_front key Bad a b = refl
 
-pairs_of-append : (a b : Leaves) → pairs_of (a ++ b) ≡ pairs_of a ++ pairs_of b
+pub pairs_of-append : (a b : Leaves) → pairs_of (a ++ b) ≡ pairs_of a ++ pairs_of b
 pairs_of-append [] b = refl
 pairs_of-append (leaf ∷ a) b = ap (with_part leaf.0 (part_of leaf)) (pairs_of-append a b) ∙ part_front leaf.0 (part_of leaf) (pairs_of a) (pairs_of b)
 
-bad_names-append : (a b : Leaves) → bad_names (a ++ b) ≡ bad_names a ++ bad_names b
+pub bad_names-append : (a b : Leaves) → bad_names (a ++ b) ≡ bad_names a ++ bad_names b
 bad_names-append [] b = refl
 bad_names-append (leaf ∷ a) b = ap (with_bad leaf.0 (part_of leaf)) (bad_names-append a b) ∙ bad_front leaf.0 (part_of leaf) (bad_names a) (bad_names b)
 
-put_pairs-append : (a b : List (List ℕ × Value)) (m : FieldMap) → put_pairs (a ++ b) m ≡ put_pairs b (put_pairs a m)
+pub put_pairs-append : (a b : List (List ℕ × Value)) (m : FieldMap) → put_pairs (a ++ b) m ≡ put_pairs b (put_pairs a m)
 put_pairs-append [] b m = refl
 put_pairs-append (pair ∷ a) b m = put_pairs-append a b (insert m pair.0 pair.1)
 

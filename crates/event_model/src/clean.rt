@@ -16,7 +16,8 @@ use std::alloc::Global;
 
 const TYPE_KEY: &str = "__type";
 
-fn kind_of_word(word: &str) -> Option<Kind>
+/// The kind of this name.
+pub fn kind_of_word(word: &str) -> Option<Kind>
     ensures { result ≡ kind_of_word (Some word.now) }
 {
     if word == "Report" {

@@ -25,7 +25,8 @@ pub fn flattens(key: &[u8]) -> bool
     key == EXTRA || key.starts_with(EXTRA_FRONT)
 }
 
-fn is_dropped_text(text: &str) -> bool
+/// Whether a stripped text sets no field.
+pub fn is_dropped_text(text: &str) -> bool
     ensures { result ≡ is_dropped_text text.now }
 {
     text == "" || text == "-" || text == "N/A"

@@ -15,8 +15,10 @@ mod read;
 mod tree;
 mod tree_value;
 
-pub use clean::clean_tree;
+pub use builder::FieldsBuilder;
+pub use clean::{clean_tree, kind_of_word};
 pub use fault::{EventFault, ReadFault};
 pub use fields::{Fields, is_field};
+pub use leaves::{flattens, is_dropped_text};
 pub use message::{Kind, Message};
 pub use read::read_tree;

@@ -1,6 +1,7 @@
 pub mod Cleaning
 pub mod Faults
 pub mod Field
+pub mod Hash
 pub mod Kept
 pub mod Strip
 pub mod Writing

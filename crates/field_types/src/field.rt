@@ -1,14 +1,11 @@
-ghost use Rattle.std.specs.Prelude.{◌≡◌, true, nat_le, nat_eq, drop, length, map};
-ghost use Rattle.std.specs.FinMap.{is_sorted};
-ghost use Rattle.std.specs.Ordering.{nat_cmp};
-ghost use Rattle.std.specs.Cmp.Lexicographic.{slice_cmp};
+ghost use Rattle.std.specs.Prelude.{◌≡◌, ◌<◌, nat_le, map, option_and_then, slice_get};
 ghost use Rattle.std.specs.List.{list_all};
 ghost use Rattle.std.specs.Str.{is_utf8};
 ghost use Rattle.field_types.specs.Field.{type_of, kind_in, field_table, is_extra_name, is_extra_part};
+ghost use Rattle.field_types.specs.Hash.{hash, if_named};
 
 use crate::FieldType;
 use base_types::Text;
-use std::cmp::Ordering;
 use std::str;
 
 /// The table of fields, in byte order of their names.
@@ -135,29 +132,58 @@ fn is_extra_name(key: &[u8]) -> bool
     }
 }
 
-type Row = (&'static str, FieldType);
+// Where the row of a name stands, by the name's hash; behind the last row where no name has that hash.
+const ROWS: [u8; 256] = [
+    84, 84, 37, 53, 84, 21, 25, 82, 67, 84, 84, 84, 84, 4, 51, 2, 18, 26, 84, 84, 29, 84, 84, 84,
+    84, 8, 84, 84, 84, 84, 84, 24, 84, 84, 12, 84, 10, 50, 84, 84, 84, 84, 73, 84, 84, 84, 84, 6,
+    84, 74, 20, 84, 84, 84, 55, 7, 84, 84, 84, 64, 22, 71, 84, 84, 84, 84, 69, 84, 84, 84, 84, 72,
+    46, 84, 84, 84, 84, 84, 84, 84, 84, 84, 84, 84, 84, 9, 52, 3, 38, 84, 84, 27, 84, 84, 84, 84,
+    57, 43, 84, 84, 84, 84, 84, 63, 84, 84, 78, 84, 84, 84, 84, 70, 84, 68, 60, 5, 84, 84, 31, 84,
+    16, 84, 84, 84, 84, 84, 84, 84, 84, 84, 84, 36, 84, 84, 84, 84, 19, 44, 84, 84, 84, 62, 84, 84,
+    84, 32, 34, 84, 76, 84, 39, 84, 81, 33, 65, 84, 84, 84, 84, 84, 42, 84, 84, 84, 84, 84, 61, 84,
+    28, 84, 84, 84, 84, 84, 79, 13, 84, 83, 84, 54, 84, 84, 84, 84, 11, 84, 84, 15, 49, 84, 14, 84,
+    84, 41, 84, 47, 84, 84, 84, 84, 84, 84, 23, 84, 84, 84, 56, 84, 84, 84, 84, 84, 84, 35, 84, 84,
+    84, 84, 84, 75, 84, 1, 84, 0, 84, 84, 84, 84, 84, 84, 58, 17, 84, 30, 84, 84, 59, 84, 84, 84,
+    48, 84, 84, 84, 84, 84, 84, 40, 80, 84, 84, 45, 84, 66, 84, 77,
+];
 
-fn compare(row: &Row, name: &[u8]) -> Ordering
-    ensures { result ≡ slice_cmp nat_cmp row.now.0.now name.now }
+// Longer than each name of the table.
+const LONG_NAME: usize = 40;
+
+// The names of the table differ in it.
+#[tactic(auto, unfolding(crate::specs::Hash::hash))]
+fn hash(name: &[u8]) -> usize
+    ensures value { result ≡ hash name.now }
+    ensures within { result < 256 }
 {
-    row.0.as_bytes().cmp(name)
+    let len = name.len();
+    if len == 0 || len > LONG_NAME {
+        return 0;
+    }
+    let sum = len * 11
+        + usize::from(name[len / 3]) * 4
+        + usize::from(name[len * 2 / 3]) * 14
+        + usize::from(name[len - 1]) * 4;
+    sum % 256
 }
 
-// The kind in the row of that name, among rows in byte order of their names.
-fn kind_in(rows: &[Row], name: &[u8]) -> Option<FieldType>
-    requires { is_sorted (slice_cmp nat_cmp) (map (λ row. (row.0.now, row.1)) rows.now) ≡ true }
-    ensures { result ≡ kind_in (map (λ row. (row.0.now, row.1)) rows.now) name.now }
+// The kind in the row there, if its name is that one.
+fn kind_at(rows: &[(&'static str, FieldType)], at: usize, name: &[u8]) -> Option<FieldType>
+    ensures { result ≡ option_and_then (if_named name.now) (slice_get (map (λ row. (row.0.now, row.1)) rows.now) at) }
 {
-    match rows.binary_search_by(|row| compare(row, name)) {
-        Ok(at) => Some(rows[at].1),
-        Err(_) => None,
+    let row = rows.get(at)?;
+    if row.0.as_bytes() == name {
+        Some(row.1)
+    } else {
+        None
     }
 }
 
+// The kind in the row of that name.
 fn row_of(key: &[u8]) -> Option<FieldType>
     ensures { result ≡ kind_in field_table key.now }
 {
-    kind_in(&FIELDS, key)
+    kind_at(&FIELDS, usize::from(ROWS[hash(key)]), key)
 }
 
 /// The kind of a field, by the bytes of its name; None exactly where there is no such field. It takes no memory.

@@ -18,4 +18,4 @@ pub use fault::FieldFault;
 pub use field::{FIELDS, type_of, type_of_bytes};
 pub use kind::FieldType;
 pub use value::{Item, ItemList, Value};
-pub use writing::{has_escapes, push_quoted, push_text, push_value};
+pub use writing::{has_escapes, hex_digit, is_plain, push_quoted, push_text, push_value};

@@ -10,14 +10,15 @@ use base_types::{OutOfMemory, Text};
 use itoa::Buffer;
 use scalar_text::print_decimal;
 
-// Whether a byte stands in a JSON string as it is.
-fn is_plain(byte: u8) -> bool
+/// Whether a byte stands in a JSON string as it is.
+pub fn is_plain(byte: u8) -> bool
     ensures { result ≡ is_plain byte }
 {
     byte >= 32 && byte != b'"' && byte != b'\\'
 }
 
-fn hex_digit(n: u8) -> u8
+/// A hexadecimal digit in lower case.
+pub fn hex_digit(n: u8) -> u8
     requires { n < 16 }
     ensures { result ≡ hex_digit n }
 {

@@ -5,7 +5,7 @@ ghost use Rattle.out_files.specs.Output.{lines_text, completed, KeepsFront, IsFa
 ghost use Rattle.out_files.specs.Run.{HasRoom, RunsAbove, IsSoFar};
 ghost use Rattle.std.specs.Vec.{vec_capacity};
 
-use base_types::LineList;
+use base_types::Blob;
 use edge_traits::{Disk, Failed};
 use std::alloc::{AllocError, Global};
 
@@ -54,7 +54,7 @@ pub fn bring_up<D: Disk>(
     disk: &mut D,
     file: u64,
     sealed: u64,
-    lines: &LineList,
+    lines: &[Blob],
 ) -> Result<u64, OutFault>
     requires { sealed + length (lines_text lines.now) ≤ longest_file }
     ensures length { IfOk result (λ n. n ≡ sealed + length (lines_text lines.now)) }
@@ -90,12 +90,12 @@ pub fn bring_up<D: Disk>(
 }
 
 // An empty buffer with room for a piece, and for any one of the lines behind it.
-fn buffer_for(alloc: Global, lines: &LineList) -> Result<Vec<u8>, AllocError>
+fn buffer_for(alloc: Global, lines: &[Blob]) -> Result<Vec<u8>, AllocError>
     ensures empty { IfOk result (λ buffer. buffer.items ≡ []) }
     ensures room { IfOk result (λ buffer. HasRoom (vec_capacity buffer) lines.now) }
 {
     let mut longest = 0;
-    'lines: for line in lines.as_slice() {
+    'lines: for line in lines {
         longest = longer(longest, line.bytes().len());
     }
     Vec::with_capacity(alloc, PIECE + longest)
@@ -112,7 +112,7 @@ fn write_lines<D: Disk>(
     disk: &mut D,
     file: u64,
     sealed: u64,
-    lines: &LineList,
+    lines: &[Blob],
     buffer: &mut Vec<u8>,
 ) -> Result<u64, Failed>
     requires empty { buffer.old.items ≡ [] }
@@ -126,7 +126,7 @@ fn write_lines<D: Disk>(
     ensures failed { IsErr result → Rose (D.disk disk.old).faults (D.disk disk.new).faults }
 {
     let mut at = sealed;
-    'lines: for line in lines.as_slice() {
+    'lines: for line in lines {
         push_line(buffer, line.bytes());
         at = write_out(disk, file, at, buffer, PIECE)?;
     }

@@ -5,7 +5,7 @@ use Rattle.event_json.specs.Lenient.{lenient}
 use Rattle.event_json.specs.Text.{message_text}
 use Rattle.pipeline_top.specs.Convert.{Line, empty, text, bad, line_of, line_of_reading, put_line, converted, end_at, end_from}
 use Rattle.edge_traits.specs.Sink.{SinkView}
-use Rattle.pipeline_top.specs.Output.{Moved}
+use Rattle.edge_traits.specs.Output.{Moved}
 use Rattle.pipeline_top.specs.Line.{PutLine}
 use Rattle.pipeline_top.specs.declared.status.Status.{Status}
 use Rattle.pipeline_top.specs.declared.status.Status.TheVariants as status

@@ -4,7 +4,7 @@ use Rattle.std.proofs.Math.Seq.{take-append_seam}
 use Rattle.edge_traits.specs.Sink.{SinkView, Took}
 use Rattle.pipeline_top.specs.Convert.{end_from, Wrote}
 use Rattle.pipeline_top.specs.Halt.{status_of}
-use Rattle.pipeline_top.specs.Output.{TookFront}
+use Rattle.edge_traits.specs.Output.{TookFront}
 use Rattle.pipeline_top.specs.declared.convert.Halt.{Halt}
 use Rattle.pipeline_top.specs.declared.convert.Halt.TheVariants as halt
 use Rattle.pipeline_top.specs.declared.status.Status.{Status}

@@ -3,12 +3,7 @@ use Rattle.std.proofs.Common.{◌≡◌, ◌≤◌, ◌+◌, ℕ, List, ◌++◌
 use Rattle.edge_traits.specs.Sink.{SinkView}
 use Rattle.edge_traits.specs.Source.{SourceView}
 use Rattle.pipeline_top.specs.Convert.{longest_feed, lines, conversion, end_from}
-use Rattle.pipeline_top.specs.Output.{Moved}
-
--- all but the rest of these bytes are written
-pub record Writes (first now : SinkView) (whole rest : List ℕ) : Type 0 where
-  pub moved : Moved first now whole rest
-  pub count : first.faults ≤ now.faults
+use Rattle.edge_traits.specs.Output.{Moved}
 
 -- the feed is a front of what the source has
 pub record Reads (first now : SourceView) (feed : List ℕ) : Type 0 where

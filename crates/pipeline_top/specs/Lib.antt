@@ -2,6 +2,5 @@ pub mod Convert
 pub mod Feed
 pub mod Halt
 pub mod Line
-pub mod Output
 pub mod StatusText
 pub mod Words

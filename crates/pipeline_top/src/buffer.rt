@@ -1,10 +1,13 @@
 ghost use Rattle.std.specs.Prelude.{◌≡◌, ◌<◌, ◌≤◌, ℕ, List, [], ◌∷◌, ◌++◌, length, OnOk, OnErr, IsErr};
 ghost use Rattle.edge_traits.specs.Count.{Rose};
 ghost use Rattle.edge_traits.specs.Sink.{Took};
-ghost use Rattle.pipeline_top.specs.Output.{TookFront, Moved};
+ghost use Rattle.event_json.specs.Text.{message_text};
+ghost use Rattle.edge_traits.specs.Output.{TookFront, Moved};
 
 use base_types::OutOfMemory;
-use edge_traits::{Failed, Sink};
+use edge_traits::{Failed, Sink, write_all};
+use event_json::push_message;
+use event_model::Message;
 use std::alloc::Global;
 use std::marker::Model;
 
@@ -33,11 +36,11 @@ impl Buffer {
         }
     }
 
-    /// Puts a line and its newline behind what is there. Without memory, some of them are there.
-    pub fn put_line(&mut self, line: &[u8]) -> Result<(), OutOfMemory>
-        ensures { OnOk result (self.new ≡ self.old ++ line.now ++ 10 ∷ []) }
+    /// Puts the text of a message and a newline behind what is there. Without memory, some of them are there.
+    pub fn put_message(&mut self, message: &Message) -> Result<(), OutOfMemory>
+        ensures { OnOk result (self.new ≡ self.old ++ message_text message.now ++ 10 ∷ []) }
     {
-        self.bytes.extend_from_slice(line)?;
+        push_message(&mut self.bytes, message)?;
         self.bytes.push(b'\n')?;
         Ok(())
     }
@@ -68,19 +71,4 @@ impl Buffer {
             self.flush(out)
         }
     }
-}
-
-// Writes all of these bytes. After a failure the sink has got a front of them.
-fn write_all<S: Sink>(out: &mut S, bytes: &[u8]) -> Result<(), Failed>
-    ensures ok { OnOk result (Took (S.sink out.old) (S.sink out.new) bytes.now) }
-    ensures err { OnErr result (TookFront (S.sink out.old) (S.sink out.new) bytes.now) }
-    ensures failed { IsErr result → Rose (S.sink out.old).faults (S.sink out.new).faults }
-    ensures count { (S.sink out.old).faults ≤ (S.sink out.new).faults }
-{
-    let mut rest = bytes;
-    'pieces: while !rest.is_empty() {
-        let n = out.write(rest)?;
-        rest = &rest[n..];
-    }
-    Ok(())
 }

@@ -2,13 +2,14 @@ ghost use Rattle.std.specs.Prelude.{◌≡◌, ◌≤◌, ◌++◌, IfOk, OnOk, 
 ghost use Rattle.edge_traits.specs.Count.{Rose};
 ghost use Rattle.edge_traits.specs.Sink.{Took};
 ghost use Rattle.pipeline_top.specs.Convert.{lines, conversion, end_from};
-ghost use Rattle.pipeline_top.specs.Output.{TookFront, Moved};
+ghost use Rattle.edge_traits.specs.Output.{TookFront, Moved};
 ghost use Rattle.pipeline_top.specs.declared.convert.Halt.TheVariants as halt;
 
 use crate::buffer::Buffer;
 use crate::{Status, line};
 use base_types::OutOfMemory;
 use edge_traits::{Failed, Sink};
+use event_json::Cleaner;
 use std::alloc::Global;
 
 /// Why a conversion stops that no line ends.
@@ -35,7 +36,7 @@ impl From<Failed> for Halt {
 }
 
 /// Writes the conversion of a feed, and answers how it ends. Where it stops, a front of it is written.
-#[tactic(auto, using(crate::proofs::Outputs::buffer_written, crate::proofs::Outputs::buffer_stopped))]
+#[tactic(auto, using(edge_traits::proofs::Outputs::buffer_written, edge_traits::proofs::Outputs::buffer_stopped))]
 pub fn convert_feed<S: Sink>(alloc: Global, feed: &[u8], out: &mut S) -> Result<Status, Halt>
     ensures end { IfOk result (λ status. status ≡ end_from 1 (lines feed.now)) }
     ensures written { OnOk result (Took (S.sink out.old) (S.sink out.new) (conversion feed.now)) }
@@ -62,11 +63,12 @@ fn convert_lines<S: Sink>(
     ensures sink { IsErrOf result Halt.Sink → Rose (S.sink out.old).faults (S.sink out.new).faults }
     ensures count { (S.sink out.old).faults ≤ (S.sink out.new).faults }
 {
+    let mut cleaner = Cleaner::new(alloc);
     let mut rest = feed;
     let mut number = 1;
     'lines: loop {
         let (line, more) = line::first_line(rest);
-        if !line::put_converted(alloc, line, buffer)? {
+        if !line::put_converted(alloc, &mut cleaner, line, buffer)? {
             return Ok(Status::BadLine { line: number });
         }
         buffer.flush_full(out)?;

@@ -1,16 +1,15 @@
-ghost use Rattle.std.specs.Prelude.{◌≡◌, ◌<◌, ◌==◌, [], ◌∷◌, ◌++◌, length, position, IfOk, IfSome, OnOk, Result};
+ghost use Rattle.std.specs.Prelude.{◌≡◌, ◌<◌, ◌==◌, ◌∷◌, length, position, IfOk, IfSome, OnOk, Result};
 ghost use Rattle.std.specs.Option.{option_copied};
 ghost use Rattle.event_model.specs.Lenient.{IsFaultOf};
 ghost use Rattle.event_model.specs.declared.fault.ReadFault.{ReadFault};
 ghost use Rattle.event_model.specs.declared.message.Message.{Message};
-ghost use Rattle.event_json.specs.Text.{message_text};
 ghost use Rattle.pipeline_top.specs.Convert.{lines, bad, line_of, line_of_reading};
 ghost use Rattle.pipeline_top.specs.Line.{lines_behind, PutLine};
 
 use crate::buffer::Buffer;
 use base_types::OutOfMemory;
-use event_json::{clean_message, write_message};
-use event_model::{Message, ReadFault};
+use event_json::Cleaner;
+use event_model::ReadFault;
 use memchr::memchr;
 use std::alloc::Global;
 
@@ -34,15 +33,20 @@ fn newline_in(feed: &[u8]) -> Option<usize>
 
 /// Puts the text of a line's message and a newline into the buffer, and nothing for an empty line. Answers whether the
 /// line is one of these: `false` where it is no event or report. Without memory, some of the text may be there.
-pub fn put_converted(alloc: Global, line: &[u8], buffer: &mut Buffer) -> Result<bool, OutOfMemory>
+pub fn put_converted(
+    alloc: Global,
+    cleaner: &mut Cleaner,
+    line: &[u8],
+    buffer: &mut Buffer,
+) -> Result<bool, OutOfMemory>
     ensures { IfOk result (PutLine (line_of line.now) buffer.old buffer.new) }
 {
     if line.is_empty() {
         return Ok(true);
     }
-    match clean_message(alloc, line) {
+    match cleaner.clean_message(alloc, line) {
         Ok(message) => {
-            put_message(alloc, &message, buffer)?;
+            buffer.put_message(&message)?;
             Ok(true)
         }
         Err(fault) => {
@@ -60,12 +64,4 @@ fn want_of_memory(fault: ReadFault) -> Result<(), OutOfMemory>
         ReadFault::OutOfMemory => Err(OutOfMemory),
         _ => Ok(()),
     }
-}
-
-// Puts the text of a message and a newline into the buffer.
-fn put_message(alloc: Global, message: &Message, buffer: &mut Buffer) -> Result<(), OutOfMemory>
-    ensures { OnOk result (buffer.new ≡ buffer.old ++ message_text message.now ++ 10 ∷ []) }
-{
-    let text = write_message(alloc, message)?;
-    buffer.put_line(text.bytes())
 }

@@ -5,11 +5,9 @@ use Rattle.std.proofs.lemmas.List.Sums.{sum_by-append}
 use Rattle.base_types.specs.declared.message.Msg.{Msg}
 use Rattle.base_types.specs.declared.message.FaultNote.{FaultNote}
 use Rattle.base_types.specs.declared.message.Moment.{Moment}
-use Rattle.base_types.specs.declared.queue.Queue.{Queue}
-use Rattle.base_types.specs.declared.hand.Hand.{Hand}
+use Rattle.stored_types.specs.declared.queue.Queue.{Queue}
 use Rattle.base_types.specs.Lists.{changed, without}
-use Rattle.base_types.specs.Queue.{queued, is_queue, put, put_all}
-use Rattle.base_types.specs.Hand.{is_hand}
+use Rattle.stored_types.specs.Queue.{queued, is_queue, put, put_all, put_first}
 use Rattle.step_code.specs.After.{numbered}
 use Rattle.step_code.specs.Places.{waiting_numbers}
 
@@ -91,19 +89,36 @@ pub waits-taken : (n : ℕ) (name : List ℕ) (m : Msg) (others : List Msg) (que
 waits-taken n name m others [] is = absurd (cc)
 waits-taken n name m others (q ∷ queues) is = taken_here (is_queue name q) n name m others q queues (changed (is_queue name) shorter queues) (waits-taken n name m others queues) is
 
-abbrev hand_numbers : List Hand → List ℕ
-hand_numbers hands = map (λ h. h.message.no) hands
+leaves_here : {A : Type 0} (here : Bool) (n : ℕ) (f : A → ℕ) (x y : A) (xs after : List A) (found : Option A)
+    → (found ≡ Some x → times n (map f xs) ≡ times n (map f after) + times n (f x ∷ []))
+    → cond here (Some y) found ≡ Some x
+    → times n (map f (y ∷ xs)) ≡ times n (map f (cond here xs (y ∷ after))) + times n (f x ∷ [])
+leaves_here true n f x y xs after found later is = omega (arith, times-cons n (f y) (map f xs), ap (λ o. times n (unwrap_or (option_map f o) 0 ∷ [])) is)
+leaves_here false n f x y xs after found later is = omega (arith, times-cons n (f y) (map f xs), times-cons n (f y) (map f after), later is)
 
-leaves_here : (here : Bool) (n : ℕ) (bot : List ℕ) (instance : ℕ) (h x : Hand) (hands after : List Hand)
-    → (find (is_hand bot instance) hands ≡ Some h → times n (hand_numbers hands) ≡ times n (hand_numbers after) + times n (h.message.no ∷ []))
-    → cond here (Some x) (find (is_hand bot instance) hands) ≡ Some h
-    → times n (hand_numbers (x ∷ hands)) ≡ times n (hand_numbers (cond here hands (x ∷ after))) + times n (h.message.no ∷ [])
-leaves_here true n bot instance h x hands after later is =
-    omega (arith, times-cons n x.message.no (hand_numbers hands), ap (λ (o : Option Hand). times n (unwrap_or (option_map (λ h. h.message.no) o) 0 ∷ [])) is)
-leaves_here false n bot instance h x hands after later is = omega (arith, times-cons n x.message.no (hand_numbers hands), times-cons n x.message.no (hand_numbers after), later is)
+-- the first entry that passes stands once less when it leaves
+pub times-without : {A : Type 0} (n : ℕ) (f : A → ℕ) (is : A → Bool) (x : A) (xs : List A) → find is xs ≡ Some x
+    → times n (map f xs) ≡ times n (map f (without is xs)) + times n (f x ∷ [])
+times-without n f is x [] found = absurd (cc)
+times-without n f is x (y ∷ xs) found = leaves_here (is y) n f x y xs (without is xs) (find is xs) (times-without n f is x xs) found
 
--- what an instance holds stands once less when it leaves
-pub holds-without : (n : ℕ) (bot : List ℕ) (instance : ℕ) (h : Hand) (hands : List Hand) → find (is_hand bot instance) hands ≡ Some h
-    → times n (hand_numbers hands) ≡ times n (hand_numbers (without (is_hand bot instance) hands)) + times n (h.message.no ∷ [])
-holds-without n bot instance h [] is = absurd (cc)
-holds-without n bot instance h (x ∷ hands) is = leaves_here (is_hand bot instance x) n bot instance h x hands (without (is_hand bot instance) hands) (holds-without n bot instance h hands) is
+first_here : (here : Bool) (n : ℕ) (m : Msg) (q : Queue) (queues after : List Queue) → waits n after ≡ waits n queues + times n (m.no ∷ [])
+    → waits n (cond here (record q { messages = m ∷ q.messages } ∷ queues) (q ∷ after)) ≡ waits n (q ∷ queues) + times n (m.no ∷ [])
+first_here true n m q queues after later =
+    omega (arith, waits-cons n (record q { messages = m ∷ q.messages }) queues, waits-cons n q queues, times-cons n m.no (map (λ message. message.no) q.messages))
+first_here false n m q queues after later = omega (arith, waits-cons n q after, waits-cons n q queues, later)
+
+-- a message that is put in front of a queue stands once more
+pub waits-put_first : (n : ℕ) (name : List ℕ) (m : Msg) (queues : List Queue) → waits n (put_first name m queues) ≡ waits n queues + times n (m.no ∷ [])
+waits-put_first n name m [] = omega (arith, times-append n (m.no ∷ []) [])
+waits-put_first n name m (q ∷ queues) = first_here (is_queue name q) n m q queues (put_first name m queues) (waits-put_first n name m queues)
+
+changed_maps : {A B : Type 0} (here : Bool) (f : A → B) (change : A → A) (x : A) (xs ys : List A) → f (change x) ≡ f x → map f ys ≡ map f xs
+    → map f (cond here (change x ∷ xs) (x ∷ ys)) ≡ map f (x ∷ xs)
+changed_maps true f change x xs ys same later = ap (λ y. y ∷ map f xs) same
+changed_maps false f change x xs ys same later = ap (λ l. f x ∷ l) later
+
+-- a change that keeps a part keeps it everywhere
+pub map-changed : {A B : Type 0} (f : A → B) (is : A → Bool) (change : A → A) (xs : List A) → ((x : A) → f (change x) ≡ f x) → map f (changed is change xs) ≡ map f xs
+map-changed f is change [] same = refl
+map-changed f is change (x ∷ xs) same = changed_maps (is x) f change x xs (changed is change xs) (same x) (map-changed f is change xs same)

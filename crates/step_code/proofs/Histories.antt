@@ -1,26 +1,26 @@
 -- Whole histories: each number that was given stands once, and each dump was made by a step.
-use Rattle.std.proofs.Common.{◌≡◌, ⊎_elim, ◌≤◌, ◌<◌, ℕ, zero, suc, ◌+◌, List, [], ◌∷◌, ◌++◌, refl, sym, ◌∙◌, ap, subst, arith, append_assoc}
+use Rattle.std.proofs.Common.{◌≡◌, ⊎_elim, ◌≤◌, ◌<◌, ℕ, zero, suc, ◌+◌, Bool, true, false, cond, List, [], ◌∷◌, ◌++◌, find, Option, Some, None, refl, sym, ◌∙◌, ap, subst, arith, append_assoc}
 use Rattle.std.proofs.lemmas.Bool.{cases_eq}
 use Rattle.std.proofs.lemmas.List.{append-nil}
 use Rattle.std.proofs.lemmas.Bool.Decides.{nat_tests}
 use Rattle.std.specs.List.{AllByRecursion}
-use Rattle.base_types.specs.declared.message.Dump.{Dump}
+use Rattle.stored_types.specs.declared.message.Dump.{Dump}
 use Rattle.base_types.specs.declared.message.Msg.{Msg}
 use Rattle.base_types.specs.declared.message.Moment.{Moment}
 use Rattle.step_code.specs.declared.base.Base.{Base}
 use Rattle.step_code.specs.declared.step.Step.{Step}
 use Rattle.step_code.specs.declared.step.StepKind.{StepKind}
 use Rattle.step_code.specs.declared.step.StepKind.TheVariants as kind
-use Rattle.base_types.specs.Lists.{IsIn}
+use Rattle.base_types.specs.Lists.{IsIn, without}
 use Rattle.step_code.specs.Rules.{Meaning}
 use Rattle.base_types.specs.Name.{queue_name}
-use Rattle.step_code.specs.State.{waiting}
-use Rattle.step_code.specs.After.{after, taken_first}
+use Rattle.step_code.specs.State.{bots_in_force, bots_of, is_dump, waiting}
+use Rattle.step_code.specs.After.{after, instances_of, redone, taken_first}
 use Rattle.step_code.specs.History.{Legal, replay}
 use Rattle.step_code.specs.Places.{settled, settled_by, dumps_of, places, standing, IsMade}
-use Rattle.base_types.proofs.Everywhere.{all-append, all_in, all_wider}
+use Rattle.base_types.proofs.Everywhere.{all-append, all_in, all_wider, all_without}
 use Rattle.step_code.proofs.Counts.{times, times-append, times-cons, numbers_from, numbers_from-append}
-use Rattle.step_code.proofs.Steps.{conserves, made, next_after, stands}
+use Rattle.step_code.proofs.Steps.{conserves, kept-all_given_back, made, next_after, stands}
 
 -- how many messages these steps make
 made_all : Meaning → Base → List Step → ℕ
@@ -101,8 +101,31 @@ module _ (m : Meaning) (first : Base) (new : first.next_message ≡ 1) (none : s
   pub no_zero : (steps : List Step) → Legal m first steps → places m first steps 0 ≡ 0
   no_zero steps legal = given 0 steps legal ∙ before_all 0 1 (made_all m first steps) (omega arith)
 
--- a step adds the dumps that it makes, and keeps the others
-adds_dumps : (m : Meaning) (s : Base) (now : Moment) (what : StepKind) → (let step : Step = record { moment = now; what = what } in (after m s step).dumps ≡ s.dumps ++ dumps_of s step)
+-- the dumps that a step leaves
+left_by : StepKind → List Dump → List Dump
+left_by kind.Start dumps = dumps
+left_by (kind.Collect bot from upto piece) dumps = dumps
+left_by (kind.FeedEnd bot position) dumps = dumps
+left_by (kind.Take bot instance message) dumps = dumps
+left_by (kind.Done bot instance message bundle sends bad key line) dumps = dumps
+left_by (kind.Retry bot instance message bundle fault) dumps = dumps
+left_by (kind.Fail bot instance message bundle fault queues halts) dumps = dumps
+left_by (kind.Reload bundle) dumps = dumps
+left_by (kind.Redo dump) dumps = without (is_dump dump) dumps
+left_by (kind.Round bot) dumps = dumps
+
+none_leaves : {A : Type 0} (here : Bool) (x : A) (xs ys : List A) (found : Option A) → (found ≡ None → ys ≡ xs) → cond here (Some x) found ≡ None → cond here xs (x ∷ ys) ≡ x ∷ xs
+none_leaves true x xs ys found later is = absurd (cc)
+none_leaves false x xs ys found later is = ap (λ l. x ∷ l) (later is)
+
+-- where none passes, none leaves
+without-none : {A : Type 0} (is : A → Bool) (xs : List A) → find is xs ≡ None → without is xs ≡ xs
+without-none is [] none = refl
+without-none is (x ∷ xs) none = none_leaves (is x) x xs (without is xs) (find is xs) (without-none is xs) none
+
+-- a step adds the dumps that it makes, and keeps the others but for the one that it takes
+adds_dumps : (m : Meaning) (s : Base) (now : Moment) (what : StepKind) → (let step : Step = record { moment = now; what = what } in (after m s step).dumps ≡ left_by what s.dumps ++ dumps_of s step)
+unfolding left_by
 adds_dumps m s now kind.Start = sym (append-nil s.dumps)
 adds_dumps m s now (kind.Collect bot from upto piece) = sym (append-nil s.dumps)
 adds_dumps m s now (kind.FeedEnd bot position) = sym (append-nil s.dumps)
@@ -112,6 +135,30 @@ adds_dumps m s now (kind.Take bot instance message) = go (waiting (queue_name bo
     go [] = sym (append-nil s.dumps)
     go (x ∷ xs) = sym (append-nil s.dumps)
 adds_dumps m s now (kind.Done bot instance message bundle sends dumps key line) = refl
+adds_dumps m s now (kind.Retry bot instance message bundle fault) = sym (append-nil s.dumps)
+adds_dumps m s now (kind.Fail bot instance message bundle fault queues halts) = refl
+adds_dumps m s now (kind.Reload bundle) =
+    kept-all_given_back (λ (t : Base). t.dumps) (λ t queues hands. refl) (bots_of m bundle) (instances_of (bots_in_force m s)) _ ∙ sym (append-nil s.dumps)
+adds_dumps m s now (kind.Redo dump) = go (find (is_dump dump) s.dumps) refl ∙ sym (append-nil (without (is_dump dump) s.dumps))
+  where
+    go : (found : Option Dump) → find (is_dump dump) s.dumps ≡ found → (redone dump found (record s { steps = s.steps + 1; latest = now })).dumps ≡ without (is_dump dump) s.dumps
+    go None is = sym (without-none (is_dump dump) s.dumps is)
+    go (Some d) is = refl
+adds_dumps m s now (kind.Round bot) = sym (append-nil s.dumps)
+
+-- what a step leaves is what it was
+left_keeps : (P : Dump → Type 0) (what : StepKind) (dumps : List Dump) → AllByRecursion P dumps → AllByRecursion P (left_by what dumps)
+unfolding left_by
+left_keeps P kind.Start dumps all = all
+left_keeps P (kind.Collect bot from upto piece) dumps all = all
+left_keeps P (kind.FeedEnd bot position) dumps all = all
+left_keeps P (kind.Take bot instance message) dumps all = all
+left_keeps P (kind.Done bot instance message bundle sends bad key line) dumps all = all
+left_keeps P (kind.Retry bot instance message bundle fault) dumps all = all
+left_keeps P (kind.Fail bot instance message bundle fault queues halts) dumps all = all
+left_keeps P (kind.Reload bundle) dumps all = all
+left_keeps P (kind.Redo dump) dumps all = all_without P (is_dump dump) dumps all
+left_keeps P (kind.Round bot) dumps all = all
 
 -- the state after steps and one more
 replay-push : (m : Meaning) (s : Base) (steps : List Step) (step : Step) → replay m s (steps ++ step ∷ []) ≡ after m (replay m s steps) step
@@ -144,8 +191,9 @@ all_made m first s before (step ∷ steps) is made =
     }) in
     let both : AllByRecursion (IsMade m first (before ++ step ∷ [])) s1.dumps =
     subst (AllByRecursion (IsMade m first (before ++ step ∷ []))) (sym (adds_dumps m s step.moment step.what))
-    (all-append (IsMade m first (before ++ step ∷ [])) s.dumps (dumps_of s step)
-    (all_wider (IsMade m first before) (IsMade m first (before ++ step ∷ [])) s.dumps (made_longer m first before step) made) new) in
+    (all-append (IsMade m first (before ++ step ∷ [])) (left_by step.what s.dumps) (dumps_of s step)
+    (left_keeps (IsMade m first (before ++ step ∷ [])) step.what s.dumps
+    (all_wider (IsMade m first before) (IsMade m first (before ++ step ∷ [])) s.dumps (made_longer m first before step) made)) new) in
     subst (λ l. AllByRecursion (IsMade m first l) (replay m s1 steps).dumps) (append_assoc before (step ∷ []) steps) (all_made m first s1 (before ++ step ∷ []) steps here both)
 
 pub dumps_are_made : (m : Meaning) (first : Base) (steps : List Step) → first.dumps ≡ [] → AllByRecursion (IsMade m first steps) (replay m first steps).dumps

@@ -1,10 +1,22 @@
-mod Counts
+pub mod Counts
 mod Histories
 mod Lawful
 mod Lengths
-mod Parts
+pub mod Loads
+mod Pairs
+pub mod Parts
 mod Replayable
+mod SoundCaches
+mod SoundDumps
+mod SoundEntries
+mod SoundHands
+mod SoundHistories
+mod SoundNames
+mod SoundParts
+mod SoundReloads
+mod SoundSteps
 mod StateLaws
 mod StepLaws
-mod Steps
+pub mod Steps
+mod Stranded
 mod Example

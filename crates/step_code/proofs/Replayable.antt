@@ -54,6 +54,11 @@ module _ (m : Meaning) (bots : List Facts)
         fresh_key = not_carried m s bot now.0 (is_duplicate m s bot now.0 result.given_key) result.given_sends sends result.given_key key refl result.carries;
         output = λ written. subst (λ o. IsTrue (passes writes o)) (sym here) (fits.3 written);
       }
+  shows s now (kind.Retry bot instance message bundle fault) plan may = tt
+  shows s now (kind.Fail bot instance message bundle fault queues halts) plan may = tt
+  shows s now (kind.Reload bundle) plan may = tt
+  shows s now (kind.Redo dump) plan may = tt
+  shows s now (kind.Round bot) plan may = tt
 
   pub may_replay : (s : Base) (step : Step) → m.facts s.bundle ≡ Some bots → May m s step → MayReplay m s step
   may_replay s step plan may = record { fits = may.fits; time = may.content.time; what = shows s step.moment step.what plan may }

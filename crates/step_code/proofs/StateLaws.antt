@@ -1,15 +1,15 @@
 -- A state that is read is the state that was written, and what was written is read again.
 use Rattle.std.proofs.Common.{◌≡◌, ℕ, List, ◌++◌, refl, sym}
-use Rattle.base_types.specs.declared.hand.Hand.{Hand}
-use Rattle.base_types.specs.declared.message.Dump.{Dump}
-use Rattle.base_types.specs.declared.queue.Queue.{Queue}
-use Rattle.base_types.specs.Code.{blob, moment, number, IsBlob, IsBot, IsList, IsMoment, IsNumber}
-use Rattle.base_types.specs.Hand.{IsHand}
-use Rattle.base_types.specs.Message.{IsDump}
-use Rattle.base_types.specs.Queue.{IsQueue}
-use Rattle.base_types.proofs.Readers.{Law, both_law, made_law}
-use Rattle.base_types.proofs.FieldLaws.{blob_law, bot_law, flag_law, list_law, moment_law, u64_law}
-use Rattle.base_types.proofs.Laws.{dump_law, hand_law, mark_law, waiting_law}
+use Rattle.stored_types.specs.declared.hand.Hand.{Hand}
+use Rattle.stored_types.specs.declared.message.Dump.{Dump}
+use Rattle.stored_types.specs.declared.queue.Queue.{Queue}
+use Rattle.stored_types.specs.Code.{blob, moment, number, IsBlob, IsBot, IsList, IsMoment, IsNumber}
+use Rattle.stored_types.specs.Hand.{IsHand}
+use Rattle.stored_types.specs.Message.{IsDump}
+use Rattle.stored_types.specs.Queue.{IsQueue}
+use Rattle.stored_types.proofs.Readers.{Law, both_law, made_law}
+use Rattle.stored_types.proofs.FieldLaws.{blob_law, bot_law, flag_law, list_law, moment_law, u64_law}
+use Rattle.stored_types.proofs.Laws.{dump_law, hand_law, mark_law, waiting_law}
 use Rattle.step_code.specs.declared.base.Base.{Base}
 use Rattle.step_code.specs.declared.base.Heads.{Heads}
 use Rattle.step_code.specs.declared.cache.BotCache.{BotCache}

@@ -3,17 +3,19 @@ use Rattle.std.proofs.Common.{◌≡◌, ◌≢◌, ℕ, ◌<◌, ◌≤◌, Boo
 use Rattle.std.proofs.lemmas.Option.{none-some}
 use Rattle.std.proofs.lemmas.Bool.{eqb-true, eqb-false}
 use Rattle.base_types.specs.declared.message.FaultNote.{FaultNote}
-use Rattle.base_types.specs.Code.{byte, moment, byte_at, moment_at, IsBlob, IsBot, IsByte, IsList, IsNumber, IsOptional}
-use Rattle.base_types.specs.Coded.{◌>>=◌, Reader}
+use Rattle.stored_types.specs.Code.{byte, moment, byte_at, moment_at, IsBlob, IsBot, IsByte, IsList, IsNumber, IsOptional}
+use Rattle.stored_types.specs.Message.{IsNote}
+use Rattle.base_types.specs.Name.{IsQueueName}
+use Rattle.stored_types.specs.Coded.{◌>>=◌, Reader}
 use Rattle.base_types.specs.Lists.{AreBytes}
-use Rattle.base_types.proofs.Readers.{bind_some, some_is, Takes, Takes-then, Law, both_law, made_law, choice_law}
-use Rattle.base_types.proofs.FieldLaws.{byte_law, u64_law, moment_law, blob_law, bot_law, queue_name_law, flag_law, optional_law, list_law}
-use Rattle.base_types.proofs.Laws.{note_law}
+use Rattle.stored_types.proofs.Readers.{bind_some, some_is, Takes, Takes-then, Law, both_law, made_law, choice_law}
+use Rattle.stored_types.proofs.FieldLaws.{byte_law, u64_law, moment_law, blob_law, bot_law, queue_name_law, flag_law, optional_law, list_law}
+use Rattle.stored_types.proofs.Laws.{note_law}
 use Rattle.step_code.specs.declared.step.Step.{Step}
 use Rattle.step_code.specs.declared.step.StepKind.{StepKind}
 use Rattle.step_code.specs.declared.step.StepKind.TheVariants as kind
-use Rattle.step_code.specs.Code.{send, bad_part, kind_byte, kind_fields, code_of_step, IsSend, IsBadPart, IsWritableKind, IsWritable}
-use Rattle.step_code.specs.Reading.{send_at, bad_part_at, collect_at, feed_end_at, take_at, done_at, kind_at, step_at}
+use Rattle.step_code.specs.Code.{send, bad_part, kind_byte, kind_fields, code_of_step, IsSend, IsBadPart, IsTried, IsWritableKind, IsWritable}
+use Rattle.step_code.specs.Reading.{send_at, bad_part_at, collect_at, feed_end_at, take_at, done_at, retry_at, fail_at, reload_at, redo_at, round_at, kind_at, step_at}
 
 pub send_law : Law send_at send IsSend
 send_law = both_law queue_name_law blob_law
@@ -36,10 +38,7 @@ start_takes bytes x whole e =
 
 start_again : (k : StepKind) (rest : List ℕ) → IsOf 1 k → start_read (kind_fields k ++ rest) ≡ Some (k, rest)
 start_again kind.Start rest fit = refl
-start_again (kind.Collect bot from upto piece) rest fit = absurd (omega (arith, fit.0))
-start_again (kind.FeedEnd bot position) rest fit = absurd (omega (arith, fit.0))
-start_again (kind.Take bot instance message) rest fit = absurd (omega (arith, fit.0))
-start_again (kind.Done bot instance message bundle sends dumps key line) rest fit = absurd (omega (arith, fit.0))
+start_again k rest fit = absurd (omega (arith, fit.0))
 
 start_law : Law start_read kind_fields (IsOf 1)
 start_law = record { takes = start_takes; again = start_again }
@@ -97,19 +96,94 @@ unfolding done_at
 done_law = made_law done_of (both_law (both_law (both_law (both_law (both_law (both_law (both_law bot_law byte_law) u64_law) u64_law) (list_law send_law)) (list_law bad_part_law)) optional_law) flag_law)
     kind_fields (IsOf 5) (λ a. refl) are_done done_fields
 
+-- what is read of a message that could not be processed
+abbrev TriedFields : Type 0
+TriedFields = (((List ℕ × ℕ) × ℕ) × ℕ) × FaultNote
+
+abbrev AreTried : TriedFields → Type 0
+AreTried = λ ((((bot, instance), message), bundle), fault). (((IsBot bot × IsByte instance) × IsNumber message) × IsNumber bundle) × IsNote fault
+
+tried_parts : (bot : List ℕ) (instance message bundle : ℕ) (fault : FaultNote) → IsTried bot instance message bundle fault → AreTried ((((bot, instance), message), bundle), fault)
+tried_parts bot instance message bundle fault fit = ((((fit.bot_name, fit.instance_byte), fit.message_number), fit.bundle_number), fit.fault_note)
+
+is_tried : (f : TriedFields) → AreTried f → IsTried f.0.0.0.0 f.0.0.0.1 f.0.0.1 f.0.1 f.1
+is_tried ((((bot, instance), message), bundle), fault) ((((a, b), c), d), e) = record { bot_name = a; instance_byte = b; message_number = c; bundle_number = d; fault_note = e }
+
+abbrev retry_kind : TriedFields → StepKind
+retry_kind = λ ((((bot, instance), message), bundle), fault). kind.Retry bot instance message bundle fault
+
+retry_fields : (k : StepKind) → IsOf 6 k → (f : TriedFields) × (retry_kind f ≡ k) × AreTried f
+retry_fields (kind.Retry bot instance message bundle fault) fit = (((((bot, instance), message), bundle), fault), refl, tried_parts bot instance message bundle fault fit.1)
+retry_fields k fit = absurd (omega (arith, fit.0))
+
+retry_law : Law retry_at kind_fields (IsOf 6)
+unfolding retry_at
+retry_law = made_law retry_kind (both_law (both_law (both_law (both_law bot_law byte_law) u64_law) u64_law) note_law) kind_fields (IsOf 6) (λ a. refl) (λ f fit. (refl, is_tried f fit)) retry_fields
+
+abbrev FailFields : Type 0
+FailFields = (TriedFields × List (List ℕ)) × Bool
+
+abbrev fail_kind : FailFields → StepKind
+fail_kind = λ ((((((bot, instance), message), bundle), fault), queues), halts). kind.Fail bot instance message bundle fault queues halts
+
+abbrev AreFailed : FailFields → Type 0
+AreFailed = λ ((tried, queues), halts). (AreTried tried × IsList IsQueueName queues) × Unit {0}
+
+fail_fields : (k : StepKind) → IsOf 7 k → (f : FailFields) × (fail_kind f ≡ k) × AreFailed f
+fail_fields (kind.Fail bot instance message bundle fault queues halts) fit =
+    (((((((bot, instance), message), bundle), fault), queues), halts), refl, ((tried_parts bot instance message bundle fault fit.1.0, fit.1.1), tt))
+fail_fields k fit = absurd (omega (arith, fit.0))
+
+fail_law : Law fail_at kind_fields (IsOf 7)
+unfolding fail_at
+fail_law = made_law fail_kind (both_law (both_law (both_law (both_law (both_law (both_law bot_law byte_law) u64_law) u64_law) note_law) (list_law queue_name_law)) flag_law) kind_fields (IsOf 7)
+    (λ a. refl) (λ f fit. (refl, (is_tried f.0.0 fit.0.0, fit.0.1))) fail_fields
+
+reload_fields : (k : StepKind) → IsOf 8 k → (f : List ℕ) × (kind.Reload f ≡ k) × IsBlob f
+reload_fields (kind.Reload bundle) fit = (bundle, refl, fit.1)
+reload_fields k fit = absurd (omega (arith, fit.0))
+
+reload_law : Law reload_at kind_fields (IsOf 8)
+unfolding reload_at
+reload_law = made_law (λ bundle. kind.Reload bundle) blob_law kind_fields (IsOf 8) (λ a. refl) (λ a fit. (refl, fit)) reload_fields
+
+redo_fields : (k : StepKind) → IsOf 9 k → (f : ℕ) × (kind.Redo f ≡ k) × IsNumber f
+redo_fields (kind.Redo dump) fit = (dump, refl, fit.1)
+redo_fields k fit = absurd (omega (arith, fit.0))
+
+redo_law : Law redo_at kind_fields (IsOf 9)
+unfolding redo_at
+redo_law = made_law (λ dump. kind.Redo dump) u64_law kind_fields (IsOf 9) (λ a. refl) (λ a fit. (refl, fit)) redo_fields
+
+round_fields : (k : StepKind) → IsOf 10 k → (f : List ℕ) × (kind.Round f ≡ k) × IsBot f
+round_fields (kind.Round bot) fit = (bot, refl, fit.1)
+round_fields k fit = absurd (omega (arith, fit.0))
+
+round_law : Law round_at kind_fields (IsOf 10)
+unfolding round_at
+round_law = made_law (λ bot. kind.Round bot) bot_law kind_fields (IsOf 10) (λ a. refl) (λ a fit. (refl, fit)) round_fields
+
 -- no kind has another byte
-kind_byte_low : (k : StepKind) → (1 ≤ kind_byte k) × (kind_byte k ≤ 5)
+kind_byte_low : (k : StepKind) → (1 ≤ kind_byte k) × (kind_byte k ≤ 10)
 kind_byte_low kind.Start = (omega arith, omega arith)
 kind_byte_low (kind.Collect bot from upto piece) = (omega arith, omega arith)
 kind_byte_low (kind.FeedEnd bot position) = (omega arith, omega arith)
 kind_byte_low (kind.Take bot instance message) = (omega arith, omega arith)
 kind_byte_low (kind.Done bot instance message bundle sends dumps key line) = (omega arith, omega arith)
+kind_byte_low (kind.Retry bot instance message bundle fault) = (omega arith, omega arith)
+kind_byte_low (kind.Fail bot instance message bundle fault queues halts) = (omega arith, omega arith)
+kind_byte_low (kind.Reload bundle) = (omega arith, omega arith)
+kind_byte_low (kind.Redo dump) = (omega arith, omega arith)
+kind_byte_low (kind.Round bot) = (omega arith, omega arith)
 
-other_law : (byte : ℕ) → byte ≢ 1 → byte ≢ 2 → byte ≢ 3 → byte ≢ 4 → byte ≢ 5 → Law (λ _. None) kind_fields (IsOf byte)
-other_law byte n1 n2 n3 n4 n5 = record {
+other_law : (byte : ℕ) → ((n : ℕ) → 1 ≤ n → n ≤ 10 → byte ≢ n) → Law (λ _. None) kind_fields (IsOf byte)
+other_law byte other = record {
   takes = λ bytes x whole e. absurd (none-some x e);
-  again = λ k rest fit. absurd (omega (arith, kind_byte_low k, fit.0, n1, n2, n3, n4, n5));
+  again = λ k rest fit. absurd (other (kind_byte k) (kind_byte_low k).0 (kind_byte_low k).1 (sym fit.0));
 }
+
+none_of : (byte : ℕ) → byte ≢ 1 → byte ≢ 2 → byte ≢ 3 → byte ≢ 4 → byte ≢ 5 → byte ≢ 6 → byte ≢ 7 → byte ≢ 8 → byte ≢ 9 → byte ≢ 10 → (n : ℕ) → 1 ≤ n → n ≤ 10 → byte ≢ n
+none_of byte n1 n2 n3 n4 n5 n6 n7 n8 n9 n10 n low high e = omega (arith, n1, n2, n3, n4, n5, n6, n7, n8, n9, n10, e, low, high)
 
 law_at : (byte n : ℕ) (read : Reader StepKind) → Law read kind_fields (IsOf n) → eqb byte n ≡ true → Law read kind_fields (IsOf byte)
 law_at byte n read law e = subst (λ (b : ℕ). Law read kind_fields (IsOf b)) (sym (eqb-true byte n e)) law
@@ -121,7 +195,15 @@ kind_law byte =
     choice_law (eqb byte 2) (law_at byte 2 _ collect_law) (λ n2.
     choice_law (eqb byte 3) (law_at byte 3 _ feed_end_law) (λ n3.
     choice_law (eqb byte 4) (law_at byte 4 _ take_law) (λ n4.
-    choice_law (eqb byte 5) (law_at byte 5 _ done_law) (λ n5. other_law byte (eqb-false _ _ n1) (eqb-false _ _ n2) (eqb-false _ _ n3) (eqb-false _ _ n4) (eqb-false _ _ n5))))))
+    choice_law (eqb byte 5) (law_at byte 5 _ done_law) (λ n5.
+    choice_law (eqb byte 6) (law_at byte 6 _ retry_law) (λ n6.
+    choice_law (eqb byte 7) (law_at byte 7 _ fail_law) (λ n7.
+    choice_law (eqb byte 8) (law_at byte 8 _ reload_law) (λ n8.
+    choice_law (eqb byte 9) (law_at byte 9 _ redo_law) (λ n9.
+    choice_law (eqb byte 10) (law_at byte 10 _ round_law) (λ n10.
+    other_law byte
+    (none_of byte (eqb-false _ _ n1) (eqb-false _ _ n2) (eqb-false _ _ n3) (eqb-false _ _ n4) (eqb-false _ _ n5) (eqb-false _ _ n6) (eqb-false _ _ n7) (eqb-false _ _ n8) (eqb-false _ _ n9)
+    (eqb-false _ _ n10))))))))))))
 
 -- ---- steps
 

@@ -1,12 +1,16 @@
 -- What a step leaves.
-use Rattle.std.specs.Prelude.{◌+◌, ℕ, suc, Bool, true, List, [], ◌∷◌, ◌++◌, length, map, drop, Option, Some, None, option_map, option_and_then, unwrap_or, if◌then◌else◌}
+use Rattle.std.specs.Prelude.{◌+◌, ◌&&◌, ℕ, zero, suc, Bool, true, false, not, List, [], ◌∷◌, ◌++◌, length, map, filter, flat_map, drop, find, Option, Some, None, option_map, option_and_then, unwrap_or, if◌then◌else◌}
+use Rattle.std.specs.List.{list_any}
+use Rattle.std.specs.Str.{bytes_eq}
 use Rattle.base_types.specs.declared.message.Moment.{Moment}
 use Rattle.base_types.specs.declared.message.Msg.{Msg}
-use Rattle.base_types.specs.declared.message.Dump.{Dump}
+use Rattle.stored_types.specs.declared.message.Dump.{Dump}
 use Rattle.base_types.specs.declared.message.FaultNote.{FaultNote}
 use Rattle.step_code.specs.declared.base.Base.{Base}
-use Rattle.base_types.specs.declared.mark.Mark.{Mark}
+use Rattle.stored_types.specs.declared.hand.Hand.{Hand}
+use Rattle.stored_types.specs.declared.mark.Mark.{Mark}
 use Rattle.step_code.specs.declared.cache.BotCache.{BotCache}
+use Rattle.step_code.specs.declared.feed.Feed.{Feed}
 use Rattle.step_code.specs.declared.output.Output.{Output}
 use Rattle.step_code.specs.declared.rules.CacheRule.{CacheRule}
 use Rattle.step_code.specs.declared.rules.Facts.{Facts}
@@ -14,14 +18,14 @@ use Rattle.step_code.specs.declared.step.Step.{Step}
 use Rattle.step_code.specs.declared.step.StepKind.{StepKind}
 use Rattle.step_code.specs.declared.step.StepKind.TheVariants as kind
 use Rattle.base_types.specs.Lists.{changed, changed_or_added, without}
-use Rattle.base_types.specs.Queue.{put_all}
-use Rattle.base_types.specs.Mark.{trimmed}
-use Rattle.step_code.specs.Rules.{Meaning, bot_named}
-use Rattle.step_code.specs.State.{bots_in_force, is_feed, is_cache, is_out, waiting, hand_of}
+use Rattle.stored_types.specs.Queue.{put, put_all, put_first}
+use Rattle.stored_types.specs.Mark.{trimmed}
+use Rattle.step_code.specs.Rules.{Meaning, bot_named, collects, is_collector, passes, writes}
+use Rattle.step_code.specs.State.{bots_in_force, bots_of, is_feed, is_cache, is_dump, is_instance, is_out, new_feed, new_out, waiting, hand_of}
 use Rattle.base_types.specs.Name.{queue_name}
-use Rattle.base_types.specs.Queue.{is_queue}
-use Rattle.base_types.specs.Hand.{is_hand}
-use Rattle.base_types.specs.Mark.{fresh}
+use Rattle.stored_types.specs.Queue.{is_queue}
+use Rattle.stored_types.specs.Hand.{is_hand}
+use Rattle.stored_types.specs.Mark.{fresh}
 
 -- bodies and their faults as dumps, with the numbers of messages and of dumps from these on
 abbrev pub numbered : ℕ → ℕ → List ℕ → Moment → List (List ℕ × FaultNote) → List Dump
@@ -83,6 +87,75 @@ abbrev pub taken_first : List ℕ → ℕ → Moment → List Msg → Base → B
 taken_first bot instance now [] s = s
 taken_first bot instance now (message ∷ others) s = taken bot instance now message s
 
+-- the message in an instance's hand is put aside as the next dump
+abbrev pub put_aside : List ℕ → ℕ → ℕ → FaultNote → Moment → Base → Base
+put_aside bot instance message fault now s = record s {
+  dumps = s.dumps ++ record { no = s.next_dump; bot = bot; message = record { no = message; body = body_in_hand bot instance s }; note = fault; moment = now } ∷ [];
+  next_dump = s.next_dump + 1;
+  hands = without (is_hand bot instance) s.hands;
+}
+
+-- the bot stands among the halted ones where that is asked, and at most once
+abbrev pub halted_by : Bool → List ℕ → List (List ℕ) → List (List ℕ)
+halted_by halts bot halted = if halts && not (list_any (λ name. bytes_eq name bot) halted) then halted ++ bot ∷ [] else halted
+
+-- the message of a hand stands at the front of its bot's queue, and the hand is empty
+abbrev pub returned : List ℕ → ℕ → Option Hand → Base → Base
+returned bot instance None s = s
+returned bot instance (Some h) s = record s { queues = put_first (queue_name bot) h.message s.queues; hands = without (is_hand bot instance) s.hands }
+
+abbrev pub given_back : List ℕ → ℕ → Base → Base
+given_back bot instance s = returned bot instance (hand_of bot instance s) s
+
+-- n, and each number below it down to 1
+abbrev pub falling : ℕ → List ℕ
+falling zero = []
+falling (suc n) = suc n ∷ falling n
+
+-- the instances of these bots: bot by bot, and of each bot the last instance first
+abbrev pub instances_of : List Facts → List (List ℕ × ℕ)
+instances_of bots = flat_map (λ f. map (λ instance. (f.bot, instance)) (falling f.instances)) (filter (λ f. not (collects f)) bots)
+
+-- those of these instances that the bots don't have give back what they hold
+abbrev pub all_given_back : List Facts → List (List ℕ × ℕ) → Base → Base
+all_given_back bots [] s = s
+all_given_back bots (x ∷ xs) s = all_given_back bots xs (if is_instance bots x.0 x.1 then s else given_back x.0 x.1 s)
+
+-- the file that a bot reads
+abbrev pub file_of : List Facts → List ℕ → Option (List ℕ)
+file_of bots bot = option_map (λ feed. feed.file) (option_and_then (λ f. f.feed) (bot_named bot bots))
+
+-- both give the bot the same file
+abbrev pub keeps_file : List Facts → List Facts → List ℕ → Bool
+keeps_file old new bot = passes (λ file. passes (bytes_eq file) (file_of old bot)) (file_of new bot)
+
+-- a feed is read anew from its beginning
+abbrev pub next_round : Feed → Feed
+next_round f = record f { round = f.round + 1; position = 0; finished = false }
+
+-- a collector whose file isn't the one that it had begins anew
+abbrev pub renewed : List Facts → List Facts → Feed → Feed
+renewed old new f = if is_collector new f.bot && not (keeps_file old new f.bot) then next_round f else f
+
+-- entries at the end for the collectors that have none, and for the bots that write
+abbrev pub with_feeds : List Facts → List Feed → List Feed
+with_feeds bots feeds = feeds ++ map new_feed (filter (λ f. collects f && not (list_any (is_feed f.bot) feeds)) bots)
+
+abbrev pub with_outs : List Facts → List Output → List Output
+with_outs bots outs = outs ++ map new_out (filter (λ f. writes f && not (list_any (is_out f.bot) outs)) bots)
+
+-- another bundle is in force: no bot is halted, each collector and each bot that writes has its entry, and what is in a
+-- hand that is none of the new bots' goes back to the front of its queue
+abbrev pub reloaded : List Facts → List Facts → List ℕ → Base → Base
+reloaded old new bundle s =
+    all_given_back new (instances_of old)
+    (record s { bundle = bundle; bundle_no = s.bundle_no + 1; halted = []; feeds = with_feeds new (map (renewed old new) s.feeds); outs = with_outs new s.outs })
+
+-- a dumped message is at the end of its bot's queue again, under its own number
+abbrev pub redone : ℕ → Option Dump → Base → Base
+redone dump None s = s
+redone dump (Some d) s = record s { queues = put (queue_name d.bot) d.message s.queues; dumps = without (is_dump dump) s.dumps }
+
 -- what each kind of step does
 abbrev pub acted : Meaning → Moment → Base → StepKind → Base
 acted m now s kind.Start = record s { halted = [] }
@@ -96,6 +169,13 @@ acted m now s (kind.Done bot instance message bundle sends dumps key line) =
       outs = written line bot (body_in_hand bot instance s) s.outs;
       hands = without (is_hand bot instance) s.hands;
     }))
+acted m now s (kind.Retry bot instance message bundle fault) = record s { hands = changed (is_hand bot instance) (λ h. record h { tries = h.tries + 1 }) s.hands }
+acted m now s (kind.Fail bot instance message bundle fault queues halts) =
+    sent (map (λ queue. (queue, body_in_hand bot instance s)) queues)
+    (put_aside bot instance message fault now (record s { halted = halted_by halts bot s.halted }))
+acted m now s (kind.Reload bundle) = reloaded (bots_in_force m s) (bots_of m bundle) bundle s
+acted m now s (kind.Redo dump) = redone dump (find (is_dump dump) s.dumps) s
+acted m now s (kind.Round bot) = record s { feeds = changed (is_feed bot) next_round s.feeds }
 
 -- a step is counted, and its moment is the latest
 abbrev pub after : Meaning → Base → Step → Base

@@ -1,12 +1,12 @@
 -- The bytes of steps and of states.
 use Rattle.std.specs.Prelude.{◌≡◌, ◌==◌, ℕ, Bool, true, false, List, [], ◌++◌, Option}
 use Rattle.base_types.specs.declared.message.FaultNote.{FaultNote}
-use Rattle.base_types.specs.Code.{blob, byte, flag, list, moment, name, number, optional, IsBlob, IsBot, IsByte, IsList, IsMoment, IsNumber, IsOptional}
-use Rattle.base_types.specs.Hand.{hand, IsHand}
-use Rattle.base_types.specs.Mark.{mark, IsMark}
-use Rattle.base_types.specs.Message.{dump, note, IsDump, IsNote}
+use Rattle.stored_types.specs.Code.{blob, byte, flag, list, moment, name, number, optional, IsBlob, IsBot, IsByte, IsList, IsMoment, IsNumber, IsOptional}
+use Rattle.stored_types.specs.Hand.{hand, IsHand}
+use Rattle.stored_types.specs.Mark.{mark, IsMark}
+use Rattle.stored_types.specs.Message.{dump, note, IsDump, IsNote}
 use Rattle.base_types.specs.Name.{IsQueueName}
-use Rattle.base_types.specs.Queue.{queue, IsQueue}
+use Rattle.stored_types.specs.Queue.{queue, IsQueue}
 use Rattle.step_code.specs.declared.base.Base.{Base}
 use Rattle.step_code.specs.declared.cache.BotCache.{BotCache}
 use Rattle.step_code.specs.declared.feed.Feed.{Feed}
@@ -36,6 +36,11 @@ kind_byte (kind.Collect bot from upto piece) = 2
 kind_byte (kind.FeedEnd bot position) = 3
 kind_byte (kind.Take bot instance message) = 4
 kind_byte (kind.Done bot instance message bundle sends dumps key line) = 5
+kind_byte (kind.Retry bot instance message bundle fault) = 6
+kind_byte (kind.Fail bot instance message bundle fault queues halts) = 7
+kind_byte (kind.Reload bundle) = 8
+kind_byte (kind.Redo dump) = 9
+kind_byte (kind.Round bot) = 10
 
 abbrev pub kind_fields : StepKind → List ℕ
 kind_fields kind.Start = []
@@ -44,6 +49,12 @@ kind_fields (kind.FeedEnd bot position) = name bot ++ number position
 kind_fields (kind.Take bot instance message) = name bot ++ byte instance ++ number message
 kind_fields (kind.Done bot instance message bundle sends dumps key line) =
     name bot ++ byte instance ++ number message ++ number bundle ++ list send sends ++ list bad_part dumps ++ optional key ++ flag line
+kind_fields (kind.Retry bot instance message bundle fault) = name bot ++ byte instance ++ number message ++ number bundle ++ note fault
+kind_fields (kind.Fail bot instance message bundle fault queues halts) =
+    name bot ++ byte instance ++ number message ++ number bundle ++ note fault ++ list name queues ++ flag halts
+kind_fields (kind.Reload bundle) = blob bundle
+kind_fields (kind.Redo dump) = number dump
+kind_fields (kind.Round bot) = name bot
 
 -- the code of a step: its kind, its moment, and the fields of its kind
 abbrev pub code_of_step : Step → List ℕ
@@ -91,12 +102,25 @@ pub record IsDone (bot : List ℕ) (instance message bundle : ℕ) (sends : List
   pub dump_list : IsList IsBadPart dumps
   pub key_blob : IsOptional key
 
+-- what a step carries of a message that could not be processed
+pub record IsTried (bot : List ℕ) (instance message bundle : ℕ) (fault : FaultNote) : Type 0 where
+  pub bot_name : IsBot bot
+  pub instance_byte : IsByte instance
+  pub message_number : IsNumber message
+  pub bundle_number : IsNumber bundle
+  pub fault_note : IsNote fault
+
 abbrev pub IsWritableKind : StepKind → Type 0
 IsWritableKind kind.Start = Unit {0}
 IsWritableKind (kind.Collect bot from upto piece) = IsBot bot × IsNumber from × IsNumber upto × IsBlob piece
 IsWritableKind (kind.FeedEnd bot position) = IsBot bot × IsNumber position
 IsWritableKind (kind.Take bot instance message) = IsBot bot × IsByte instance × IsNumber message
 IsWritableKind (kind.Done bot instance message bundle sends dumps key line) = IsDone bot instance message bundle sends dumps key
+IsWritableKind (kind.Retry bot instance message bundle fault) = IsTried bot instance message bundle fault
+IsWritableKind (kind.Fail bot instance message bundle fault queues halts) = IsTried bot instance message bundle fault × IsList IsQueueName queues
+IsWritableKind (kind.Reload bundle) = IsBlob bundle
+IsWritableKind (kind.Redo dump) = IsNumber dump
+IsWritableKind (kind.Round bot) = IsBot bot
 
 -- a step that has a code
 pub record IsWritable (step : Step) : Type 0 where

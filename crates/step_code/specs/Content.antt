@@ -1,10 +1,10 @@
 -- When a step that fits may be taken: what it carries is what the rules give.
-use Rattle.std.specs.Prelude.{◌≡◌, ◌≤◌, ◌<◌, ℕ, Bool, true, false, IsTrue, IsSome, List, [], ◌∷◌, Option, Some, None}
+use Rattle.std.specs.Prelude.{◌≡◌, ◌≤◌, ◌<◌, ℕ, Bool, true, false, IsTrue, IsSome, List, [], ◌∷◌, Option, Some, None, option_map, unwrap_or}
 use Rattle.base_types.specs.declared.message.Msg.{Msg}
 use Rattle.base_types.specs.declared.message.FaultNote.{FaultNote}
 use Rattle.step_code.specs.declared.base.Base.{Base}
-use Rattle.base_types.specs.declared.hand.Hand.{Hand}
-use Rattle.base_types.specs.declared.mark.Mark.{Mark}
+use Rattle.stored_types.specs.declared.hand.Hand.{Hand}
+use Rattle.stored_types.specs.declared.mark.Mark.{Mark}
 use Rattle.step_code.specs.declared.rules.CacheRule.{CacheRule}
 use Rattle.step_code.specs.declared.rules.Given.TheVariants as given
 use Rattle.step_code.specs.declared.step.Step.{Step}
@@ -14,7 +14,7 @@ use Rattle.base_types.specs.Lists.{AreBytes}
 use Rattle.step_code.specs.Rules.{Meaning, bot_named, last_moment, writes, passes}
 use Rattle.step_code.specs.State.{bots_in_force, waiting, hand_of, marks_of}
 use Rattle.base_types.specs.Name.{queue_name}
-use Rattle.base_types.specs.Mark.{fresh, is_marked}
+use Rattle.stored_types.specs.Mark.{fresh, is_marked}
 use Rattle.step_code.specs.After.{cache_rule}
 use Rattle.step_code.specs.Fits.{Fits}
 
@@ -45,6 +45,25 @@ pub record IsResult (m : Meaning) (s : Base) (bot : List ℕ) (instance now : �
   pub gives : m.give (record { bundle = s.bundle; bot = bot }) hand.message.body hand.since.0 ≡ given.Pass given_sends dumps given_key line
   pub carries : Carries (is_duplicate m s bot now given_key) given_sends given_key sends key
 
+-- what a bot gave of the message in its hand is this fault
+pub record IsFault (m : Meaning) (s : Base) (bot : List ℕ) (instance : ℕ) (fault : FaultNote) : Type 0 where
+  pub hand : Hand
+  pub holds : hand_of bot instance s ≡ Some hand
+  pub gives : m.give (record { bundle = s.bundle; bot = bot }) hand.message.body hand.since.0 ≡ given.Fault fault
+
+-- the queues that a message goes to where the bot fails, and whether the bot is halted then
+abbrev pub on_error_of : Meaning → Base → List ℕ → List (List ℕ)
+on_error_of m s bot = unwrap_or (option_map (λ f. f.on_error) (bot_named bot (bots_in_force m s))) []
+
+abbrev pub stops : Meaning → Base → List ℕ → Bool
+stops m s bot = passes (λ f. f.stop) (bot_named bot (bots_in_force m s))
+
+-- a failure goes the way that the bot's plan has for it
+pub record IsFailure (m : Meaning) (s : Base) (bot : List ℕ) (instance : ℕ) (fault : FaultNote) (queues : List (List ℕ)) (halts : Bool) : Type 0 where
+  pub gave : IsFault m s bot instance fault
+  pub goes : queues ≡ on_error_of m s bot
+  pub halting : halts ≡ stops m s bot
+
 -- the moment of a step isn't before the latest, and can be written as a date
 pub record IsInTime (s : Base) (step : Step) : Type 0 where
   pub order : s.latest.0 ≤ step.moment.0
@@ -67,6 +86,11 @@ Matches m s now (kind.Collect bot from upto piece) = IsPiece from upto × AreByt
 Matches m s now (kind.FeedEnd bot position) = Unit {0}
 Matches m s now (kind.Take bot instance message) = IsFront message (waiting (queue_name bot) s)
 Matches m s now (kind.Done bot instance message bundle sends dumps key line) = IsResult m s bot instance now sends dumps key line
+Matches m s now (kind.Retry bot instance message bundle fault) = IsFault m s bot instance fault
+Matches m s now (kind.Fail bot instance message bundle fault queues halts) = IsFailure m s bot instance fault queues halts
+Matches m s now (kind.Reload bundle) = Unit {0}
+Matches m s now (kind.Redo dump) = Unit {0}
+Matches m s now (kind.Round bot) = Unit {0}
 
 -- the content of a step
 pub record HasContent (m : Meaning) (s : Base) (step : Step) : Type 0 where
@@ -91,6 +115,11 @@ Shows m s now (kind.Collect bot from upto piece) = IsPiece from upto
 Shows m s now (kind.FeedEnd bot position) = Unit {0}
 Shows m s now (kind.Take bot instance message) = IsFront message (waiting (queue_name bot) s)
 Shows m s now (kind.Done bot instance message bundle sends dumps key line) = IsMarkAndLine m s bot now key line
+Shows m s now (kind.Retry bot instance message bundle fault) = Unit {0}
+Shows m s now (kind.Fail bot instance message bundle fault queues halts) = Unit {0}
+Shows m s now (kind.Reload bundle) = Unit {0}
+Shows m s now (kind.Redo dump) = Unit {0}
+Shows m s now (kind.Round bot) = Unit {0}
 
 -- a stored step may be replayed: it fits, and what shows of its content is right
 pub record MayReplay (m : Meaning) (s : Base) (step : Step) : Type 0 where

@@ -1,15 +1,15 @@
 -- Where a message is: in a queue, in a hand, in the dumps, or processed by the step that settled it.
 use Rattle.std.specs.Prelude.{◌≡◌, ◌+◌, ◌≤◌, ◌<◌, ◌==◌, ℕ, List, [], ◌∷◌, ◌++◌, length, map, flat_map, count_by}
 use Rattle.std.specs.List.{AllByRecursion}
-use Rattle.base_types.specs.declared.message.Dump.{Dump}
+use Rattle.stored_types.specs.declared.message.Dump.{Dump}
 use Rattle.step_code.specs.declared.base.Base.{Base}
-use Rattle.base_types.specs.declared.queue.Queue.{Queue}
+use Rattle.stored_types.specs.declared.queue.Queue.{Queue}
 use Rattle.step_code.specs.declared.step.Step.{Step}
 use Rattle.step_code.specs.declared.step.StepKind.{StepKind}
 use Rattle.step_code.specs.declared.step.StepKind.TheVariants as kind
 use Rattle.base_types.specs.Lists.{IsIn}
 use Rattle.step_code.specs.Rules.{Meaning, IsLawful}
-use Rattle.step_code.specs.After.{after, numbered}
+use Rattle.step_code.specs.After.{after, body_in_hand, numbered}
 use Rattle.step_code.specs.History.{replay}
 
 -- the numbers of the messages in queues
@@ -27,6 +27,11 @@ settled_by s (kind.Collect bot from upto piece) = []
 settled_by s (kind.FeedEnd bot position) = []
 settled_by s (kind.Take bot instance message) = []
 settled_by s (kind.Done bot instance message bundle sends dumps key line) = message ∷ []
+settled_by s (kind.Retry bot instance message bundle fault) = []
+settled_by s (kind.Fail bot instance message bundle fault queues halts) = []
+settled_by s (kind.Reload bundle) = []
+settled_by s (kind.Redo dump) = []
+settled_by s (kind.Round bot) = []
 
 -- the numbers of the messages that these steps settle, each in the state that the steps before it leave
 abbrev pub settled : Meaning → Base → List Step → List ℕ
@@ -47,6 +52,12 @@ dumps_of s step = made s step.what
     made s (kind.FeedEnd bot position) = []
     made s (kind.Take bot instance message) = []
     made s (kind.Done bot instance message bundle sends dumps key line) = numbered (s.next_message + length sends) s.next_dump bot step.moment dumps
+    made s (kind.Retry bot instance message bundle fault) = []
+    made s (kind.Fail bot instance message bundle fault queues halts) =
+        record { no = s.next_dump; bot = bot; message = record { no = message; body = body_in_hand bot instance s }; note = fault; moment = step.moment } ∷ []
+    made s (kind.Reload bundle) = []
+    made s (kind.Redo dump) = []
+    made s (kind.Round bot) = []
 
 -- one of the steps made this dump
 pub record IsMade (m : Meaning) (first : Base) (steps : List Step) (dump : Dump) : Type 0 where

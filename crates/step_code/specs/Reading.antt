@@ -2,12 +2,12 @@
 use Rattle.std.specs.Prelude.{◌==◌, ℕ, List, Some, None, if◌then◌else◌}
 use Rattle.std.specs.Int.{w32, w64}
 use Rattle.base_types.specs.declared.message.FaultNote.{FaultNote}
-use Rattle.base_types.specs.Code.{bot_at, byte_at, flag_at, framed_at, list_at, moment_at, number_at, optional_at, queue_at}
-use Rattle.base_types.specs.Coded.{◌>>=◌, Reader, both, made}
-use Rattle.base_types.specs.Hand.{hand_at}
-use Rattle.base_types.specs.Mark.{mark_at}
-use Rattle.base_types.specs.Message.{dump_at, note_at}
-use Rattle.base_types.specs.Queue.{waiting_at}
+use Rattle.stored_types.specs.Code.{bot_at, byte_at, flag_at, framed_at, list_at, moment_at, number_at, optional_at, queue_at}
+use Rattle.stored_types.specs.Coded.{◌>>=◌, Reader, both, made}
+use Rattle.stored_types.specs.Hand.{hand_at}
+use Rattle.stored_types.specs.Mark.{mark_at}
+use Rattle.stored_types.specs.Message.{dump_at, note_at}
+use Rattle.stored_types.specs.Queue.{waiting_at}
 use Rattle.step_code.specs.declared.base.Base.{Base}
 use Rattle.step_code.specs.declared.base.Heads.{Heads}
 use Rattle.step_code.specs.declared.cache.BotCache.{BotCache}
@@ -37,6 +37,24 @@ done_at bytes =
     made (λ (((((((bot, instance), message), bundle), sends), dumps), key), line). kind.Done bot instance message bundle sends dumps key line)
     (both (both (both (both (both (both (both bot_at byte_at) (number_at w64)) (number_at w64)) (list_at send_at)) (list_at bad_part_at)) optional_at) flag_at) bytes
 
+unfoldable pub retry_at : Reader StepKind
+retry_at bytes =
+    made (λ ((((bot, instance), message), bundle), fault). kind.Retry bot instance message bundle fault) (both (both (both (both bot_at byte_at) (number_at w64)) (number_at w64)) note_at) bytes
+
+unfoldable pub fail_at : Reader StepKind
+fail_at bytes =
+    made (λ ((((((bot, instance), message), bundle), fault), queues), halts). kind.Fail bot instance message bundle fault queues halts)
+    (both (both (both (both (both (both bot_at byte_at) (number_at w64)) (number_at w64)) note_at) (list_at queue_at)) flag_at) bytes
+
+unfoldable pub reload_at : Reader StepKind
+reload_at bytes = made (λ bundle. kind.Reload bundle) (framed_at w32) bytes
+
+unfoldable pub redo_at : Reader StepKind
+redo_at bytes = made (λ dump. kind.Redo dump) (number_at w64) bytes
+
+unfoldable pub round_at : Reader StepKind
+round_at bytes = made (λ bot. kind.Round bot) bot_at bytes
+
 -- the fields behind the byte of a kind
 unfoldable pub kind_at : ℕ → Reader StepKind
 kind_at byte bytes =
@@ -44,7 +62,12 @@ kind_at byte bytes =
     else (if byte == 2 then collect_at bytes
     else (if byte == 3 then feed_end_at bytes
     else (if byte == 4 then take_at bytes
-    else (if byte == 5 then done_at bytes else None))))
+    else (if byte == 5 then done_at bytes
+    else (if byte == 6 then retry_at bytes
+    else (if byte == 7 then fail_at bytes
+    else (if byte == 8 then reload_at bytes
+    else (if byte == 9 then redo_at bytes
+    else (if byte == 10 then round_at bytes else None)))))))))
 
 unfoldable pub step_at : Reader Step
 step_at bytes = do

@@ -6,13 +6,13 @@ use Rattle.std.specs.List.Sorted.{IsSorted, IsStrictlySortedBy}
 use Rattle.std.specs.Ordering.{nat_cmp}
 use Rattle.step_code.specs.declared.base.Base.{Base}
 use Rattle.step_code.specs.declared.cache.BotCache.{BotCache}
-use Rattle.base_types.specs.declared.hand.Hand.{Hand}
+use Rattle.stored_types.specs.declared.hand.Hand.{Hand}
 use Rattle.step_code.specs.declared.rules.Facts.{Facts}
 use Rattle.step_code.specs.Code.{code_of_base, first_format}
 use Rattle.base_types.specs.Lists.{IsIn}
 use Rattle.step_code.specs.Places.{standing}
 use Rattle.step_code.specs.Rules.{Meaning, collects, last_moment, writes}
-use Rattle.base_types.specs.Hand.{is_hand}
+use Rattle.stored_types.specs.Hand.{is_hand}
 use Rattle.step_code.specs.State.{is_instance}
 use Rattle.base_types.specs.Name.{queue_name}
 

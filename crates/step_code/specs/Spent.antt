@@ -1,5 +1,5 @@
 -- The numbers that a step brings, and the first of them that passes the last one that may be given.
-use Rattle.std.specs.Prelude.{◌≡◌, ◌+◌, ◌-◌, ◌^◌, ℕ, Bool, List, ◌∷◌, length, map, min, sum_by, Option, None, find, nat_lt}
+use Rattle.std.specs.Prelude.{◌≡◌, ◌+◌, ◌-◌, ◌^◌, ℕ, Bool, List, [], ◌∷◌, length, map, min, sum_by, Option, None, find, nat_lt}
 use Rattle.step_code.specs.declared.base.Base.{Base}
 use Rattle.step_code.specs.declared.output.Output.{Output}
 use Rattle.step_code.specs.declared.step.Step.{Step}
@@ -36,3 +36,8 @@ spent m s step = find is_past (map (λ n. min n last_u64) (numbers_brought (afte
 -- the step brings no such number
 abbrev pub StaysSmall : Meaning → Base → Step → Type 0
 StaysSmall m s step = spent m s step ≡ None
+
+-- so it is with each of these steps, in the state that the steps before it leave
+abbrev pub NothingIsSpent : Meaning → Base → List Step → Type 0
+NothingIsSpent m s [] = Unit {0}
+NothingIsSpent m s (step ∷ steps) = StaysSmall m s step × NothingIsSpent m (after m s step) steps

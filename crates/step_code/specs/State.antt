@@ -1,24 +1,29 @@
 -- The parts of a state, as steps look at them.
-use Rattle.std.specs.Prelude.{◌&&◌, ℕ, Bool, not, List, [], Option, option_map, unwrap_or, find, filter, sum_by, nat_le}
+use Rattle.std.specs.Prelude.{◌&&◌, ◌==◌, ℕ, Bool, false, not, List, [], Option, option_map, unwrap_or, find, filter, sum_by, nat_le}
 use Rattle.std.specs.List.{list_any}
 use Rattle.std.specs.Str.{bytes_eq}
+use Rattle.stored_types.specs.declared.message.Dump.{Dump}
 use Rattle.base_types.specs.declared.message.Msg.{Msg}
 use Rattle.step_code.specs.declared.base.Base.{Base}
-use Rattle.base_types.specs.declared.queue.Queue.{Queue}
-use Rattle.base_types.specs.declared.hand.Hand.{Hand}
+use Rattle.stored_types.specs.declared.queue.Queue.{Queue}
+use Rattle.stored_types.specs.declared.hand.Hand.{Hand}
 use Rattle.step_code.specs.declared.feed.Feed.{Feed}
-use Rattle.base_types.specs.declared.mark.Mark.{Mark}
+use Rattle.stored_types.specs.declared.mark.Mark.{Mark}
 use Rattle.step_code.specs.declared.cache.BotCache.{BotCache}
 use Rattle.step_code.specs.declared.output.Output.{Output}
 use Rattle.step_code.specs.declared.rules.Facts.{Facts}
-use Rattle.base_types.specs.Hand.{is_hand}
+use Rattle.stored_types.specs.Hand.{is_hand}
 use Rattle.base_types.specs.Name.{queue_name}
-use Rattle.base_types.specs.Queue.{bytes_in, queued}
+use Rattle.stored_types.specs.Queue.{bytes_in, queued}
 use Rattle.step_code.specs.Rules.{Meaning, bot_named, collects, passes}
+
+-- the bots of a bundle, and none where it is no bundle
+abbrev pub bots_of : Meaning → List ℕ → List Facts
+bots_of m bundle = unwrap_or (m.facts bundle) []
 
 -- the bots of the bundle in force
 abbrev pub bots_in_force : Meaning → Base → List Facts
-bots_in_force m s = unwrap_or (m.facts s.bundle) []
+bots_in_force m s = bots_of m s.bundle
 
 abbrev pub is_feed : List ℕ → Feed → Bool
 is_feed bot f = bytes_eq f.bot bot
@@ -28,6 +33,16 @@ is_cache bot c = bytes_eq c.bot bot
 
 abbrev pub is_out : List ℕ → Output → Bool
 is_out bot o = bytes_eq o.bot bot
+
+abbrev pub is_dump : ℕ → Dump → Bool
+is_dump number d = d.no == number
+
+-- the feed of a collector, and the output of a bot that writes, as they begin
+abbrev pub new_feed : Facts → Feed
+new_feed f = record { bot = f.bot; round = 1; position = 0; finished = false }
+
+abbrev pub new_out : Facts → Output
+new_out f = record { bot = f.bot; sealed_bytes = 0; sealed_lines = 0; lines = [] }
 
 -- the messages that wait in the queue of this name
 abbrev pub waiting : List ℕ → Base → List Msg
@@ -40,6 +55,10 @@ hand_of bot instance s = find (is_hand bot instance) s.hands
 -- the number of the message that an instance holds
 abbrev pub held : List ℕ → ℕ → Base → Option ℕ
 held bot instance s = option_map (λ h. h.message.no) (hand_of bot instance s)
+
+-- how often the message that an instance holds was tried again
+abbrev pub tries_of : List ℕ → ℕ → Base → ℕ
+tries_of bot instance s = unwrap_or (option_map (λ h. h.tries) (hand_of bot instance s)) 0
 
 -- how far a collector has come
 abbrev pub position_of : List ℕ → Base → ℕ

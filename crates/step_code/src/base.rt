@@ -1,16 +1,15 @@
 ghost use Rattle.std.specs.Prelude.{◌≡◌, ◌++◌, OnOk};
-ghost use Rattle.base_types.specs.Code.{blob, IsBlob, IsMoment, IsNumber};
-ghost use Rattle.base_types.specs.Coded.{Gives};
+ghost use Rattle.stored_types.specs.Code.{blob, IsBlob, IsMoment, IsNumber};
+ghost use Rattle.stored_types.specs.Coded.{Gives};
 ghost use Rattle.step_code.specs.Code.{code_of_base, first_format, heads, IsWritableBase};
 ghost use Rattle.step_code.specs.Reading.{base_at, heads_at};
 
 use crate::cache::CacheList;
 use crate::feed::FeedList;
 use crate::output::OutList;
-use base_types::{
-    Blob, BotName, CodeFault, Coded, DumpList, HandList, ListOf, Moment, OutOfMemory, WaitingList,
-};
+use base_types::{Blob, BotName, ListOf, Moment, OutOfMemory};
 use std::alloc::Global;
+use stored_types::{CodeFault, Coded, DumpList, HandList, WaitingList};
 
 /// The whole state of a pipeline.
 ///

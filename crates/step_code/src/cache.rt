@@ -1,8 +1,9 @@
 ghost use Rattle.step_code.specs.Code.{cache, IsCache};
 ghost use Rattle.step_code.specs.Reading.{cache_at};
 
-use base_types::{Blob, BotName, CodeFault, Coded, ListOf, MarkList, OutOfMemory};
+use base_types::{Blob, BotName, ListOf, OutOfMemory};
 use std::alloc::Global;
+use stored_types::{CodeFault, Coded, MarkList};
 
 /// A bot's marks, the oldest first.
 #[derive(Debug, Drop)]

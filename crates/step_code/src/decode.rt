@@ -3,8 +3,8 @@ ghost use Rattle.step_code.specs.Code.{code_of_step, code_of_base, first_format,
 
 use crate::base::Base;
 use crate::step::Step;
-use base_types::{CodeFault, Coded};
 use std::alloc::Global;
+use stored_types::{CodeFault, Coded};
 
 /// The step whose code stands in front of the bytes, and the length of its code.
 pub fn decode_step(alloc: Global, bytes: &[u8]) -> Result<(Step, usize), CodeFault>

@@ -3,8 +3,9 @@ ghost use Rattle.step_code.specs.Code.{code_of_step, code_of_base, first_format,
 
 use crate::base::Base;
 use crate::step::Step;
-use base_types::{Blob, Coded, OutOfMemory};
+use base_types::{Blob, OutOfMemory};
 use std::alloc::Global;
+use stored_types::Coded;
 
 /// The code of a step. Where a length can't be written in its bytes, there is no code, as where memory runs out.
 pub fn encode_step(alloc: Global, step: &Step) -> Result<Blob, OutOfMemory>

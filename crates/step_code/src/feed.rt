@@ -1,8 +1,9 @@
 ghost use Rattle.step_code.specs.Code.{feed, IsFeed};
 ghost use Rattle.step_code.specs.Reading.{feed_at};
 
-use base_types::{Blob, BotName, CodeFault, Coded, ListOf, OutOfMemory};
+use base_types::{Blob, BotName, ListOf, OutOfMemory};
 use std::alloc::Global;
+use stored_types::{CodeFault, Coded};
 
 /// How far a collector has read its feed, in bytes, in which round from 1, and whether it has read all of it.
 #[derive(Debug, Drop)]

@@ -1,8 +1,9 @@
 ghost use Rattle.step_code.specs.Code.{output, IsOutput};
 ghost use Rattle.step_code.specs.Reading.{output_at};
 
-use base_types::{Blob, BotName, CodeFault, Coded, LineList, ListOf, OutOfMemory};
+use base_types::{Blob, BotName, LineList, ListOf, OutOfMemory};
 use std::alloc::Global;
+use stored_types::{CodeFault, Coded};
 
 /// What a bot has written: so many bytes and lines that are sealed in its file, and the lines behind them.
 #[derive(Debug, Drop)]

@@ -1,14 +1,15 @@
 ghost use Rattle.std.specs.Prelude.{◌≡◌, ◌+◌, ◌++◌, ◌∷◌, length, min, OnOk, IfOk};
-ghost use Rattle.base_types.specs.Code.{byte, flag, list, name, number, optional, IsBot, IsList, IsOptional};
-ghost use Rattle.base_types.specs.Coded.{Gives};
+ghost use Rattle.stored_types.specs.Code.{byte, flag, list, name, number, optional, IsBot, IsList, IsOptional};
+ghost use Rattle.stored_types.specs.Coded.{Gives};
 ghost use Rattle.base_types.specs.Number.{last_u64};
 ghost use Rattle.step_code.specs.Code.{bad_part, code_of_step, kind_byte, kind_fields, send, IsBadPart, IsSend, IsWritable, IsWritableKind};
-ghost use Rattle.step_code.specs.Reading.{collect_at, done_at, feed_end_at, kind_at, step_at, take_at};
+ghost use Rattle.step_code.specs.Reading.{collect_at, done_at, fail_at, feed_end_at, kind_at, redo_at, reload_at, retry_at, round_at, step_at, take_at};
 
 use base_types::{
-    Blob, BotName, CodeFault, Coded, ListOf, Moment, NoteList, OutOfMemory, SendList,
+    Blob, BotName, FaultNote, ListOf, Moment, NoteList, OutOfMemory, QueueList, SendList,
 };
 use std::alloc::Global;
+use stored_types::{CodeFault, Coded};
 
 /// One step of the pipeline, taken whole or not at all.
 #[derive(Debug, Drop)]
@@ -52,6 +53,38 @@ pub enum StepKind {
         key: Option<Blob>,
         line: bool,
     },
+    /// A bot's instance could not process the message in its hand, for this cause, and will try it again.
+    Retry {
+        bot: BotName,
+        instance: u8,
+        message: u64,
+        bundle: u64,
+        note: FaultNote,
+    },
+    /// A bot's instance could not process the message in its hand, for this cause, and was tried as often as the bot may:
+    /// the message is put aside, and its body goes to each of these queues as a new message. The bot is halted where that
+    /// is asked.
+    Fail {
+        bot: BotName,
+        instance: u8,
+        message: u64,
+        bundle: u64,
+        note: FaultNote,
+        queues: QueueList,
+        halts: bool,
+    },
+    /// This bundle, in the code of bundles, is in force from now on.
+    Reload {
+        bundle: Blob,
+    },
+    /// The message of the dump with this number goes to the end of its bot's queue again, under its own number.
+    Redo {
+        dump: u64,
+    },
+    /// A collector that has read its feed to the end begins it anew.
+    Round {
+        bot: BotName,
+    },
 }
 
 /// Why a step may not be taken.
@@ -75,6 +108,14 @@ pub enum StepRefusal {
     Behind { position: u64 },
     /// The bodies in the queues have so many bytes together.
     Backlog { bytes: u64 },
+    /// The message was tried so often: too often to be tried again, or not often enough to be put aside.
+    Tries { tries: u32 },
+    /// There is no dump with the number.
+    NoDump,
+    /// The feed isn't finished.
+    Unfinished,
+    /// The bundle gives no plan.
+    Refused,
     OutOfMemory,
 }
 
@@ -120,6 +161,11 @@ fn kind_byte(what: &StepKind) -> u8
         StepKind::FeedEnd { .. } => 3,
         StepKind::Take { .. } => 4,
         StepKind::Done { .. } => 5,
+        StepKind::Retry { .. } => 6,
+        StepKind::Fail { .. } => 7,
+        StepKind::Reload { .. } => 8,
+        StepKind::Redo { .. } => 9,
+        StepKind::Round { .. } => 10,
     }
 }
 
@@ -163,6 +209,35 @@ fn put_kind(to: &mut Blob, what: &StepKind) -> Result<(), OutOfMemory>
             bundle.put(to)?;
             put_given(to, sends, dumps, key, *line)
         }
+        StepKind::Retry {
+            bot,
+            instance,
+            message,
+            bundle,
+            note,
+        } => {
+            put_taken(to, bot, *instance, *message)?;
+            bundle.put(to)?;
+            note.put(to)
+        }
+        StepKind::Fail {
+            bot,
+            instance,
+            message,
+            bundle,
+            note,
+            queues,
+            halts,
+        } => {
+            put_taken(to, bot, *instance, *message)?;
+            bundle.put(to)?;
+            note.put(to)?;
+            queues.put(to)?;
+            halts.put(to)
+        }
+        StepKind::Reload { bundle } => bundle.put(to),
+        StepKind::Redo { dump } => dump.put(to),
+        StepKind::Round { bot } => bot.put(to),
     }
 }
 
@@ -205,6 +280,11 @@ fn kind_of(alloc: Global, byte: u8, bytes: &[u8]) -> Result<(StepKind, &[u8]), C
         3 => feed_end_of(alloc, bytes),
         4 => take_of(alloc, bytes),
         5 => done_of(alloc, bytes),
+        6 => retry_of(alloc, bytes),
+        7 => fail_of(alloc, bytes),
+        8 => reload_of(alloc, bytes),
+        9 => redo_of(alloc, bytes),
+        10 => round_of(alloc, bytes),
         _ => Err(CodeFault::Bad),
     }
 }
@@ -287,6 +367,81 @@ fn done_of(alloc: Global, bytes: &[u8]) -> Result<(StepKind, &[u8]), CodeFault>
     Ok((what, rest))
 }
 
+#[tactic(auto, unfolding(crate::specs::Reading::retry_at))]
+fn retry_of(alloc: Global, bytes: &[u8]) -> Result<(StepKind, &[u8]), CodeFault>
+    ensures { Gives (λ x. (x.0, x.1.now)) result (retry_at bytes.now) }
+{
+    let (bot, rest) = match BotName::take(alloc, bytes) {
+        Ok(found) => found,
+        Err(fault) => return Err(fault),
+    };
+    let (instance, rest) = u8::take(alloc, rest)?;
+    let (message, rest) = u64::take(alloc, rest)?;
+    let (bundle, rest) = u64::take(alloc, rest)?;
+    let (note, rest) = FaultNote::take(alloc, rest)?;
+    let what = StepKind::Retry {
+        bot,
+        instance,
+        message,
+        bundle,
+        note,
+    };
+    Ok((what, rest))
+}
+
+#[tactic(auto, unfolding(crate::specs::Reading::fail_at))]
+fn fail_of(alloc: Global, bytes: &[u8]) -> Result<(StepKind, &[u8]), CodeFault>
+    ensures { Gives (λ x. (x.0, x.1.now)) result (fail_at bytes.now) }
+{
+    let (bot, rest) = match BotName::take(alloc, bytes) {
+        Ok(found) => found,
+        Err(fault) => return Err(fault),
+    };
+    let (instance, rest) = u8::take(alloc, rest)?;
+    let (message, rest) = u64::take(alloc, rest)?;
+    let (bundle, rest) = u64::take(alloc, rest)?;
+    let (note, rest) = FaultNote::take(alloc, rest)?;
+    let (queues, rest) = QueueList::take(alloc, rest)?;
+    let (halts, rest) = bool::take(alloc, rest)?;
+    let what = StepKind::Fail {
+        bot,
+        instance,
+        message,
+        bundle,
+        note,
+        queues,
+        halts,
+    };
+    Ok((what, rest))
+}
+
+#[tactic(auto, unfolding(crate::specs::Reading::reload_at))]
+fn reload_of(alloc: Global, bytes: &[u8]) -> Result<(StepKind, &[u8]), CodeFault>
+    ensures { Gives (λ x. (x.0, x.1.now)) result (reload_at bytes.now) }
+{
+    let (bundle, rest) = Blob::take(alloc, bytes)?;
+    Ok((StepKind::Reload { bundle }, rest))
+}
+
+#[tactic(auto, unfolding(crate::specs::Reading::redo_at))]
+fn redo_of(alloc: Global, bytes: &[u8]) -> Result<(StepKind, &[u8]), CodeFault>
+    ensures { Gives (λ x. (x.0, x.1.now)) result (redo_at bytes.now) }
+{
+    let (dump, rest) = u64::take(alloc, bytes)?;
+    Ok((StepKind::Redo { dump }, rest))
+}
+
+#[tactic(auto, unfolding(crate::specs::Reading::round_at))]
+fn round_of(alloc: Global, bytes: &[u8]) -> Result<(StepKind, &[u8]), CodeFault>
+    ensures { Gives (λ x. (x.0, x.1.now)) result (round_at bytes.now) }
+{
+    let (bot, rest) = match BotName::take(alloc, bytes) {
+        Ok(found) => found,
+        Err(fault) => return Err(fault),
+    };
+    Ok((StepKind::Round { bot }, rest))
+}
+
 fn fields_len(what: &StepKind) -> u64
     ensures { result ≡ min (length (kind_fields what.now)) last_u64 }
 {
@@ -323,6 +478,33 @@ fn fields_len(what: &StepKind) -> u64
             .saturating_add(dumps.code_len())
             .saturating_add(key.code_len())
             .saturating_add(1),
+        StepKind::Retry {
+            bot,
+            instance: _,
+            message: _,
+            bundle: _,
+            note,
+        } => bot
+            .code_len()
+            .saturating_add(17)
+            .saturating_add(note.code_len()),
+        StepKind::Fail {
+            bot,
+            instance: _,
+            message: _,
+            bundle: _,
+            note,
+            queues,
+            halts: _,
+        } => bot
+            .code_len()
+            .saturating_add(17)
+            .saturating_add(note.code_len())
+            .saturating_add(queues.code_len())
+            .saturating_add(1),
+        StepKind::Reload { bundle } => bundle.code_len(),
+        StepKind::Redo { dump: _ } => 8,
+        StepKind::Round { bot } => bot.code_len(),
     }
 }
 
@@ -374,5 +556,40 @@ fn copy_of_kind(alloc: Global, what: &StepKind) -> Result<StepKind, OutOfMemory>
             key: key.copy(alloc)?,
             line: *line,
         }),
+        StepKind::Retry {
+            bot,
+            instance,
+            message,
+            bundle,
+            note,
+        } => Ok(StepKind::Retry {
+            bot: *bot,
+            instance: *instance,
+            message: *message,
+            bundle: *bundle,
+            note: note.copy(alloc)?,
+        }),
+        StepKind::Fail {
+            bot,
+            instance,
+            message,
+            bundle,
+            note,
+            queues,
+            halts,
+        } => Ok(StepKind::Fail {
+            bot: *bot,
+            instance: *instance,
+            message: *message,
+            bundle: *bundle,
+            note: note.copy(alloc)?,
+            queues: queues.copy(alloc)?,
+            halts: *halts,
+        }),
+        StepKind::Reload { bundle } => Ok(StepKind::Reload {
+            bundle: bundle.copy(alloc)?,
+        }),
+        StepKind::Redo { dump } => Ok(StepKind::Redo { dump: *dump }),
+        StepKind::Round { bot } => Ok(StepKind::Round { bot: *bot }),
     }
 }

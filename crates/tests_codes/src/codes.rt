@@ -1,6 +1,5 @@
 use base_types::{
-    Blob, BotName, CodeFault, Dump, DumpList, FaultNote, Hand, HandList, ListOf, Mark, Moment, Msg,
-    NoteList, Queue, QueueName, SendList, Text, WaitingList,
+    Blob, BotName, FaultNote, ListOf, Moment, Msg, NoteList, QueueName, SendList, Text,
 };
 use std::alloc::Global;
 use std::process::Abort;
@@ -9,6 +8,7 @@ use step_code::{
     Base, BotCache, BotList, CacheList, Feed, FeedList, OutList, Output, Step, StepKind,
     decode_base, decode_step, encode_base, encode_step,
 };
+use stored_types::{CodeFault, Dump, DumpList, Hand, HandList, Mark, Queue, WaitingList};
 
 // What bytes are to be the code of.
 #[derive(Clone, Copy, Debug)]
@@ -754,10 +754,10 @@ fn swapped(alloc: Global, pieces: &[Piece], place: usize, by: &[u8]) -> Result<V
 }
 
 #[test]
-fn steps_are_of_five_kinds(rt: HostRuntime) -> Result<(), Fail> {
+fn steps_are_of_ten_kinds(rt: HostRuntime) -> Result<(), Fail> {
     let alloc = rt.alloc();
     for pieces in &STEPS {
-        for byte in &[0u8, 6, 255] {
+        for byte in &[0u8, 11, 255] {
             let code = swapped(alloc, pieces, 0, &[*byte])?;
             check_bad(&rt, alloc, Kind::Step, &code)?;
         }

@@ -39,7 +39,7 @@ fn complete(
     if sealed > 1_000_000 || text_of(alloc, lines)?.len() > 1_000_000 {
         return Err(Fail::from("a file of more than a million bytes"));
     }
-    Ok(bring_up(alloc, disk, FILE, sealed, lines))
+    Ok(bring_up(alloc, disk, FILE, sealed, lines.as_slice()))
 }
 
 // A file, how much of it is sealed, and the lines with which it is completed.
@@ -294,7 +294,7 @@ fn a_failed_sync_is_not_tried_again(rt: HostRuntime) -> Result<(), Fail> {
     let mut disk = UntoldDisk::new(alloc, b"head\n");
     disk.fail_sync(1);
     assert_eq!(rt;
-        bring_up(alloc, &mut disk, FILE, 5, &lines),
+        bring_up(alloc, &mut disk, FILE, 5, lines.as_slice()),
         Err(OutFault::Disk)
     );
     assert_eq!(rt; disk.trace(), b"lwcs".as_slice());

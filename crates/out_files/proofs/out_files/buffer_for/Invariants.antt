@@ -3,6 +3,6 @@ use Rattle.out_files.proofs.out_files.buffer_for.Given as goal
 
 abbrev pub invariant-lines : goal.invariant-lines
 invariant-lines l = record {
-  each : (i : ℕ) (line : List ℕ) → i < l.line-index → line ≡ get_or l.line-items i line → length line ≤ l.longest;
+  each : (i : ℕ) (line : List ℕ) → i < l.line-index → line ≡ get_or l.lines i line → length line ≤ l.longest;
   small : l.longest ≤ 2 ^ 63;
 }

@@ -1,4 +1,4 @@
-use Rattle.std.proofs.Common.{◌≡◌, ◌<◌, ◌+◌, ℕ, List, length, take, get_or, true, refl, ap, ◌∙◌, subst, arith}
+use Rattle.std.proofs.Common.{◌≡◌, ◌+◌, ℕ, List, length, take, true, refl, ap, ◌∙◌, arith}
 use Rattle.std.proofs.lemmas.List.{take_all}
 use Rattle.edge_traits.specs.Disk.{Image}
 use Rattle.out_files.specs.Output.{lines_text, completed}
@@ -20,15 +20,15 @@ lines-init g c = record {
 
 pub push_line-requires : goal.push_line-requires
 push_line-requires g c =
-    let enough = c.requires.room c.lines.line-index c.line-item.result (subst (λ (ls : List (List ℕ)). c.lines.line-index < length ls) c.as_slice-line-items.ensures c.lines-test.true) (c.line-item.is ∙ ap (λ (ls : List (List ℕ)). get_or ls c.lines.line-index c.line-item.result) c.as_slice-line-items.ensures) in
+    let enough = c.requires.room c.lines.line-index c.line-item.result c.lines-test.true c.line-item.is in
     omega (arith, enough, c.lines.invariant.room, c.lines.invariant.less, ap length c.bytes.ensures)
 
 pub write_out-requires-clause-small : goal.write_out-requires-clause-small
 write_out-requires-clause-small g c =
-    let whole = lines_no_longer c.as_slice-line-items.result.now (c.lines.line-index + 1) in
+    let whole = lines_no_longer c.args.lines.now (c.lines.line-index + 1) in
     let pushed = pushed_same c.push_line.new.buffer.items c.lines.buffer.items c.bytes.result.now c.line-item.result c.push_line.ensures.items c.bytes.ensures in
-    let size = size_more c.lines.at c.args.sealed c.lines.buffer.items c.push_line.new.buffer.items c.as_slice-line-items.result.now c.lines.line-index c.line-item.result c.lines-test.true c.line-item.is pushed c.lines.invariant.size in
-    omega (arith, size, whole, ap (λ (ls : List (List ℕ)). length (lines_text ls)) c.as_slice-line-items.ensures)
+    let size = size_more c.lines.at c.args.sealed c.lines.buffer.items c.push_line.new.buffer.items c.args.lines.now c.lines.line-index c.line-item.result c.lines-test.true c.line-item.is pushed c.lines.invariant.size in
+    omega (arith, size, whole)
 
 pub write_out-requires-clause-within : goal.write_out-requires-clause-within
 write_out-requires-clause-within g c files told =
@@ -45,7 +45,7 @@ returns-in_err-at-clause-failed g c _ =
 
 pub lines-preserved : goal.lines-preserved
 lines-preserved g c =
-    let items = c.as_slice-line-items.result.now in
+    let items = c.args.lines.now in
     let pushed = pushed_same c.push_line.new.buffer.items c.lines.buffer.items c.bytes.result.now c.line-item.result c.push_line.ensures.items c.bytes.ensures in
     let size = size_more c.lines.at c.args.sealed c.lines.buffer.items c.push_line.new.buffer.items items c.lines.line-index c.line-item.result c.lines-test.true c.line-item.is pushed c.lines.invariant.size in
     record {
@@ -63,8 +63,8 @@ lines-preserved g c =
 
 pub write_out-requires-2-clause-small : goal.write_out-requires-2-clause-small
 write_out-requires-2-clause-small g c =
-    let whole = lines_no_longer c.as_slice-line-items.result.now c.lines.line-index in
-    omega (arith, c.lines.invariant.size, whole, ap (λ ls. length (lines_text ls)) c.as_slice-line-items.ensures)
+    let whole = lines_no_longer c.args.lines.now c.lines.line-index in
+    omega (arith, c.lines.invariant.size, whole)
 
 pub write_out-requires-2-clause-within : goal.write_out-requires-2-clause-within
 write_out-requires-2-clause-within g c files told =
@@ -81,16 +81,16 @@ returns-in_err-write_out-clause-failed g c _ =
 
 pub returns-clause-end : goal.returns-clause-end
 returns-clause-end g c =
-    let items = c.as_slice-line-items.result.now in
-    let all : take c.lines.line-index items ≡ c.args.lines.now = take_all c.lines.line-index items c.lines-test.false ∙ c.as_slice-line-items.ensures in
+    let items = c.args.lines.now in
+    let all : take c.lines.line-index items ≡ c.args.lines.now = take_all c.lines.line-index items c.lines-test.false ∙ refl in
     omega (arith, c.in_ok-write_out.ensures.less, c.in_ok-write_out.ensures.end.1, c.lines.invariant.size, ap (λ (ls : List (List ℕ)). length (lines_text ls)) all)
 
 pub returns-clause-written : goal.returns-clause-written
 returns-clause-written g c files after told told_after =
     let mid = c.lines.invariant.run.elsewhere files told in
     let before = c.lines.invariant.text files mid.0 told mid.1 in
-    let items = c.as_slice-line-items.result.now in
-    let all : take c.lines.line-index items ≡ c.args.lines.now = take_all c.lines.line-index items c.lines-test.false ∙ c.as_slice-line-items.ensures in
+    let items = c.args.lines.now in
+    let all : take c.lines.line-index items ≡ c.args.lines.now = take_all c.lines.line-index items c.lines-test.false ∙ refl in
     all_written (after c.args.file) c.in_ok-write_out.field-0 c.write_out-2.new.buffer.items _ _ c.in_ok-write_out.ensures.less
     (ap (λ (ls : List (List ℕ)). completed (files c.args.file) c.args.sealed ls) all)
     (c.in_ok-write_out.ensures.written mid.0 after _ mid.1 told_after before)

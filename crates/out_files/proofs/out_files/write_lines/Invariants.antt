@@ -8,9 +8,9 @@ use Rattle.out_files.proofs.out_files.write_lines.Given as goal
 abbrev pub invariant-lines : goal.invariant-lines
 invariant-lines g l = record {
   above : l.sealed ≤ l.at;
-  size : l.at + length l.buffer.items ≡ l.sealed + length (lines_text (take l.line-index l.line-items));
+  size : l.at + length l.buffer.items ≡ l.sealed + length (lines_text (take l.line-index l.lines));
   text : (files after : Image) → (g.D.Disk.disk l.fn.disk).told ≡ Some files → (g.D.Disk.disk l.disk).told ≡ Some after
-      → IsSoFar (after l.file) l.at l.buffer.items (completed (files l.file) l.sealed (take l.line-index l.line-items));
+      → IsSoFar (after l.file) l.at l.buffer.items (completed (files l.file) l.sealed (take l.line-index l.lines));
   less : length l.buffer.items < piece_length;
   room : vec_capacity l.fn.buffer ≤ vec_capacity l.buffer;
   run : RunsAbove g.D.Disk.disk g.D.Disk.may_leave g.D.Disk.left_since l.fn.disk l.disk l.file l.sealed;

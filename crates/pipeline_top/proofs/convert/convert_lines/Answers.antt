@@ -4,9 +4,9 @@ use Rattle.std.proofs.lemmas.List.{append-nil}
 use Rattle.std.proofs.lemmas.Result.{MatchResult-from_err}
 use Rattle.pipeline_top.specs.Convert.{lines, conversion, line_of}
 use Rattle.pipeline_top.specs.Line.{lines_behind, PutLine}
-use Rattle.pipeline_top.specs.Output.{Moved}
+use Rattle.edge_traits.specs.Output.{Moved}
 use Rattle.pipeline_top.proofs.LineEnds.{Moved-line, end_line}
-use Rattle.pipeline_top.proofs.Outputs.{Moved-through, TookFront-some}
+use Rattle.edge_traits.proofs.Outputs.{Moved-through, TookFront-some}
 use Rattle.pipeline_top.proofs.convert.convert_lines.Goals as goal
 
 pub returns-in_err-flush_full-clause-front : goal.returns-in_err-flush_full-clause-front

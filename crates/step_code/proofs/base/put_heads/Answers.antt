@@ -1,5 +1,5 @@
 use Rattle.std.proofs.Common.{◌++◌}
-use Rattle.base_types.specs.Code.{blob, moment, number}
+use Rattle.stored_types.specs.Code.{blob, moment, number}
 use Rattle.base_types.proofs.Appended.{and_then, at_last}
 use Rattle.step_code.proofs.base.put_heads.Goals as goal
 

@@ -1,4 +1,4 @@
-use Rattle.base_types.proofs.Readers.{one_code}
+use Rattle.stored_types.proofs.Readers.{one_code}
 use Rattle.step_code.proofs.StepLaws.{step_law}
 use Rattle.step_code.proofs.code_laws.steps_have_one_code.Goals as goal
 

@@ -1,6 +1,6 @@
 use Rattle.std.proofs.Common.{arith}
 use Rattle.std.proofs.lemmas.Result.{err_from_is_err_and}
-use Rattle.base_types.proofs.Readers.{refused, read_code, rest_within}
+use Rattle.stored_types.proofs.Readers.{refused, read_code, rest_within}
 use Rattle.step_code.proofs.StateLaws.{base_law}
 use Rattle.step_code.proofs.decode.decode_base.Goals as goal
 

@@ -14,6 +14,6 @@ returns g c bots bundle steps plan legal =
       no_other = λ number low high. in_no_place m start refl refl number steps legal high;
       no_zero = no_zero m start refl refl steps legal;
       dumps = dumps_are_made m start steps refl;
-      bodies = stay_lawful m bots (g.met.R.Rules.reports_are_lawful bots) (g.met.R.Rules.given_fits bots) start steps plan legal
+      bodies = stay_lawful m g.met.R.Rules.reports_are_lawful g.met.R.Rules.given_fits start steps (bots, plan) legal
           (record { queues = tt; hands = tt; dumps = tt; outs = no_lines m (filter writes bots) });
     }

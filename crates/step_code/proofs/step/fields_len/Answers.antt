@@ -1,5 +1,5 @@
 use Rattle.std.proofs.Common.{◌≡◌, ◌+◌, Bool, true, false, length, refl, arith, sym, ◌∙◌, ap, min}
-use Rattle.base_types.specs.Code.{byte, flag, list, name, number, optional}
+use Rattle.stored_types.specs.Code.{byte, flag, list, name, number, optional}
 use Rattle.base_types.specs.Number.{last_u64}
 use Rattle.step_code.specs.Code.{bad_part, kind_fields, send}
 use Rattle.step_code.proofs.Lengths.{of_eight}

@@ -1,8 +1,8 @@
 use Rattle.std.proofs.Common.{◌++◌}
-use Rattle.base_types.specs.Code.{list, name}
-use Rattle.base_types.specs.Hand.{hand}
-use Rattle.base_types.specs.Message.{dump}
-use Rattle.base_types.specs.Queue.{queue}
+use Rattle.stored_types.specs.Code.{list, name}
+use Rattle.stored_types.specs.Hand.{hand}
+use Rattle.stored_types.specs.Message.{dump}
+use Rattle.stored_types.specs.Queue.{queue}
 use Rattle.base_types.proofs.Appended.{and_then, at_last}
 use Rattle.step_code.specs.Code.{cache, feed, heads, output}
 use Rattle.step_code.proofs.base.BaseCoded.put.Goals as goal

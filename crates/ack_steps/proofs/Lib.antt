@@ -1,0 +1,10 @@
+mod Back
+mod Backlog
+mod Bounded
+mod Coming
+mod Counted
+mod Entries
+mod Kept
+mod Lists
+mod Results
+mod Taken

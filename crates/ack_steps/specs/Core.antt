@@ -1,0 +1,52 @@
+-- The core of the pipeline, as contracts see it.
+use Rattle.std.specs.Prelude.{◌≡◌, ◌≤◌, ◌+◌, ℕ, List, Option, Some}
+use Rattle.step_code.specs.declared.base.Base.{Base}
+use Rattle.base_types.specs.declared.message.Moment.{Moment}
+use Rattle.step_code.specs.declared.step.Step.{Step}
+use Rattle.step_code.specs.declared.step.StepKind.{StepKind}
+use Rattle.step_code.specs.declared.step.StepKind.TheVariants as kind
+use Rattle.step_code.specs.declared.step.StepRefusal.{StepRefusal}
+use Rattle.step_code.specs.declared.step.StepRefusal.TheVariants as refusal
+use Rattle.std.specs.List.{AllByRecursion}
+use Rattle.step_code.specs.Sound.{last_number}
+use Rattle.step_code.specs.Spent.{last_given}
+use Rattle.core_state.specs.Room.{HaveDumpsBelow}
+
+-- the rules that it goes by, and the state
+pub record CoreView (R : Type 0) : Type 0 where
+  pub rules : R
+  pub state : Base
+
+-- no number of a step, a message or a dump is past the last one
+pub record HasSmallNumbers (s : Base) : Type 0 where
+  pub steps : s.steps ≤ last_given
+  pub messages : s.next_message ≤ last_given + 1
+  pub dumps : s.next_dump ≤ last_given + 1
+  pub bundles : s.bundle_no ≤ last_given
+
+-- no number is near the end of its 64 bits: dumps have numbers below the next one, and a round ended a step before the next
+pub record IsBounded (s : Base) : Type 0 where
+  pub dumps : HaveDumpsBelow s
+  pub rounds : AllByRecursion (λ f. f.round ≤ last_number + s.steps) s.feeds
+
+-- the step puts no bundle in force
+abbrev pub IsNoReload : StepKind → Type 0
+IsNoReload kind.Start = Unit {0}
+IsNoReload (kind.Collect bot from upto piece) = Unit {0}
+IsNoReload (kind.FeedEnd bot position) = Unit {0}
+IsNoReload (kind.Take bot instance message) = Unit {0}
+IsNoReload (kind.Done bot instance message bundle sends dumps key line) = Unit {0}
+IsNoReload (kind.Retry bot instance message bundle fault) = Unit {0}
+IsNoReload (kind.Fail bot instance message bundle fault queues halts) = Unit {0}
+IsNoReload (kind.Reload bundle) = ⊥
+IsNoReload (kind.Redo dump) = Unit {0}
+IsNoReload (kind.Round bot) = Unit {0}
+
+-- the answer is this refusal; memory may run out where there is none
+abbrev pub IsRefusal : Option StepRefusal → StepRefusal → Type 0
+IsRefusal first refusal.OutOfMemory = Unit {0}
+IsRefusal first refusal = first ≡ Some refusal
+
+-- the step that puts a bundle in force
+abbrev pub reload_of : List ℕ → Moment → Step
+reload_of bundle now = record { moment = now; what = kind.Reload bundle }

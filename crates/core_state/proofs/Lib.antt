@@ -1,0 +1,4 @@
+mod Brought
+mod Lists
+pub mod Numbered
+mod Seen

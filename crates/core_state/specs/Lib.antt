@@ -1,0 +1,6 @@
+-- what public contracts cite
+pub mod Caches
+pub mod Outputs
+pub mod Room
+pub mod Spent
+pub mod State

@@ -1,0 +1,23 @@
+-- The state in its parts, as the lists that it stands for.
+use Rattle.step_code.specs.declared.base.Base.{Base}
+use Rattle.core_state.specs.Caches.{caches_of}
+use Rattle.core_state.specs.Outputs.{outs_of}
+use Rattle.core_state.specs.declared.state.State.{State}
+
+abbrev pub state_of : State → Base
+state_of s = record {
+  steps = s.steps;
+  next_message = s.next_message;
+  next_dump = s.next_dump;
+  discarded = s.discarded;
+  latest = s.latest;
+  bundle_no = s.bundle_no;
+  bundle = s.bundle;
+  queues = s.broker.queues;
+  hands = s.broker.hands;
+  caches = caches_of s.caches.items;
+  dumps = s.dumps.dumps;
+  outs = outs_of s.outs.items;
+  feeds = s.feeds.items;
+  halted = s.halted.items;
+}

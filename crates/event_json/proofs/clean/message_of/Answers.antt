@@ -1,0 +1,10 @@
+use Rattle.std.proofs.Common.{refl, sym, ◌∙◌}
+use Rattle.event_json.proofs.Reading.{all_lenient}
+use Rattle.event_json.proofs.clean.message_of.Goals as goal
+
+pub returns-then-not-has_decimals : goal.returns-then-not-has_decimals
+returns-then-not-has_decimals c = all_lenient c.args.bytes.now c.args.bytes.now c.message_of_quoted.result (sym (c.if-not-has_decimals.ensures refl)) c.message_of_quoted.ensures
+
+pub returns : goal.returns
+returns c =
+    all_lenient c.args.bytes.now c.bytes.result.now c.message_of_quoted-2.result (c.bytes.ensures ∙ c.in_ok-quoted.ensures) c.message_of_quoted-2.ensures

@@ -1,0 +1,18 @@
+use Rattle.std.proofs.Common.{◌≡◌, Some, drop, get_or, false, ◌==◌, sym, ap, ◌∙◌, arith, rules}
+use Rattle.fast_float.specs.Text.{scan}
+use Rattle.serde_json.specs.Data.{unsigned}
+use Rattle.serde_json.specs.Read.{number_of, number_from}
+use Rattle.event_json.proofs.leaf.whole_in.Goals as goal
+
+pub returns-in-Some : goal.returns-in-Some
+unfolding number_of
+returns-in-Some c =
+    let s = c.as_bytes-bytes.result.now in
+    let plain : (get_or s 0 0 == 45) ≡ false = sym c.if-has_minus.ensures in
+    let read : number_from false (scan s) ≡ number_of s = rw plain in
+    record {
+      value = c.in-Some.n;
+      is = search rules;
+      read = ap number_of (sym c.as_bytes-bytes.ensures.value) ∙ sym read ∙ ap (number_from false) (sym c.scan.ensures.parts) ∙ c.in-Some.ensures;
+      short = search rules;
+    }

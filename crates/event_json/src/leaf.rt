@@ -1,0 +1,256 @@
+//! What the values of JSON members set.
+ghost use Rattle.std.specs.Prelude.{◌≡◌, ◌==◌, ◌∷◌, [], true, false, None, Some, IfOk, IfSome, slice_index, string_bytes};
+ghost use Rattle.json.specs.Json.{object};
+ghost use Rattle.json.specs.Value.{value_view, items_view, members_view};
+ghost use Rattle.serde_json.specs.Data.{string, unsigned};
+ghost use Rattle.serde_json.specs.Read.{number_from};
+ghost use Rattle.event_model.specs.Fields.{IsField};
+ghost use Rattle.event_model.specs.Lenient.{member_name};
+ghost use Rattle.event_model.specs.Trees.{lexeme_in};
+ghost use Rattle.event_json.specs.Direct.{data_members, named_values, IsItem, IsDecimal, AreItems, IsWhole, PutsCleaned, Sets, SetsValue, SetsTree, SetsMembers};
+
+use crate::ordered::{Member, in_order};
+use base_types::{OutOfMemory, Text};
+use event_model::{FieldsBuilder, flattens, is_dropped_text};
+use fast_float::Numeral;
+use field_types::{
+    FieldFault, Item, ItemList, Value, sanitise_own, sanitise_text, strip, type_of_bytes,
+};
+use json::Value as Tree;
+use scalar_text::read_decimal;
+use std::alloc::Global;
+
+const DEC_KEY: &str = "$dec";
+
+// No field has a longer name.
+const LONGEST_NAME: usize = 206;
+
+// A whole number of more than 18 digits is none that a field takes.
+const TOO_LONG: u64 = 1_000_000_000_000_000_000;
+
+fn has_minus(numeral: &[u8]) -> bool
+    ensures { result ≡ (slice_index numeral.now 0 == 45) }
+{
+    !numeral.is_empty() && numeral[0] == b'-'
+}
+
+fn unsigned(numeral: &Numeral<'_>) -> Option<u64>
+    ensures { IfSome result (λ n. number_from false numeral.now ≡ Some (unsigned n)) }
+{
+    numeral.to_u64()
+}
+
+// The whole number that a numeral writes, if it has no minus and at most 18 digits.
+fn whole_in(numeral: &str) -> Option<i64>
+    ensures { IfSome result (IsWhole numeral.now) }
+{
+    let bytes = numeral.as_bytes();
+    if has_minus(bytes) {
+        return None;
+    }
+    match unsigned(&Numeral::scan(bytes)) {
+        Some(n) if n < TOO_LONG => Some(n as i64),
+        _ => None,
+    }
+}
+
+// The text of a decimal under quotes.
+fn decimal_in(name: &str, value: &Tree<'_>) -> Option<i64>
+    ensures { IfSome result (IsDecimal name.now (value_view value.now)) }
+{
+    if name != DEC_KEY {
+        return None;
+    }
+    match value {
+        Tree::String(lexeme) => read_decimal(lexeme.as_bytes()).ok(),
+        _ => None,
+    }
+}
+
+// What a value is as an item of a list, if it is a text, a number or a flag.
+fn item_of(alloc: Global, value: &Tree<'_>) -> Result<Option<Item>, OutOfMemory>
+    ensures { IfOk result (λ found. IfSome found (IsItem (value_view value.now))) }
+{
+    match value {
+        Tree::String(text) => Ok(Some(Item::Text(Text::from(String::from_str(alloc, text)?)))),
+        Tree::Bool(flag) => Ok(Some(Item::Flag(*flag))),
+        Tree::Number(numeral) => Ok(whole_in(numeral).map(Item::Whole)),
+        Tree::Object(members) => match members.as_slice() {
+            [(name, inner)] => Ok(decimal_in(name, inner).map(Item::Decimal)),
+            _ => Ok(None),
+        },
+        Tree::Null | Tree::Array(_) => Ok(None),
+    }
+}
+
+// The values as items of a list.
+fn items_of(alloc: Global, values: &[Tree<'_>]) -> Result<Option<ItemList>, OutOfMemory>
+    ensures { IfOk result (λ found. IfSome found (AreItems (items_view values.now))) }
+{
+    let mut items = Vec::with_capacity(alloc, values.len())?;
+    let mut rest = values;
+    'values: while let [value, more @ ..] = rest {
+        let Some(item) = item_of(alloc, value)? else {
+            return Ok(None);
+        };
+        items.push(item)?;
+        rest = more;
+    }
+    Ok(Some(ItemList::from(items)))
+}
+
+// Sets a field to what cleaning gave.
+fn put_cleaned(
+    alloc: Global,
+    key: &str,
+    cleaned: Result<Value, FieldFault>,
+    fields: &mut FieldsBuilder,
+) -> Result<bool, OutOfMemory>
+    requires { IfOk cleaned (IsField key.now) }
+    ensures { IfOk result (λ taken. taken ≡ true → PutsCleaned key.now cleaned fields.old fields.new) }
+{
+    match cleaned {
+        Ok(value) => {
+            fields.put(Text::from(String::from_str(alloc, key)?), value)?;
+            Ok(true)
+        }
+        Err(FieldFault::BadValue) => Ok(false),
+        Err(FieldFault::OutOfMemory) => Err(OutOfMemory),
+    }
+}
+
+// Sets a field to its canonical value for a value.
+fn add_value(
+    alloc: Global,
+    key: &str,
+    value: Value,
+    fields: &mut FieldsBuilder,
+) -> Result<bool, OutOfMemory>
+    ensures { IfOk result (λ taken. taken ≡ true → SetsValue key.now value fields.old fields.new) }
+{
+    let Some(kind) = type_of_bytes(key.as_bytes()) else {
+        return Ok(false);
+    };
+    put_cleaned(alloc, key, sanitise_own(alloc, kind, value), fields)
+}
+
+// Sets a field to its canonical value for a text, which isn't copied before.
+fn add_text(
+    alloc: Global,
+    key: &str,
+    text: &str,
+    fields: &mut FieldsBuilder,
+) -> Result<bool, OutOfMemory>
+    ensures { IfOk result (λ taken. taken ≡ true → Sets ((key.now, string text.now) ∷ []) fields.old fields.new) }
+{
+    let stripped = strip(text);
+    if is_dropped_text(stripped) {
+        return Ok(true);
+    }
+    let Some(kind) = type_of_bytes(key.as_bytes()) else {
+        return Ok(false);
+    };
+    put_cleaned(alloc, key, sanitise_text(alloc, kind, text), fields)
+}
+
+// The name of a member of an object that is flattened, if it isn't longer than those of fields.
+fn member_name(alloc: Global, key: &str, inner: &str) -> Result<Option<String>, OutOfMemory>
+    ensures { IfOk result (λ found. IfSome found (λ name. string_bytes name ≡ member_name key.now inner.now)) }
+{
+    if key.len() > LONGEST_NAME || inner.len() > LONGEST_NAME {
+        return Ok(None);
+    }
+    let mut name = String::with_capacity(alloc, key.len() + inner.len() + 1)?;
+    name.push_str(key)?;
+    name.push('.')?;
+    name.push_str(inner)?;
+    Ok(Some(name))
+}
+
+/// Whether the members may be those of a decimal under quotes.
+pub fn may_be_decimal(members: &[Member<'_, '_>]) -> bool
+    ensures { result ≡ false → lexeme_in (data_members (named_values members.now)) ≡ None }
+{
+    match members {
+        [member] => member.0 == DEC_KEY,
+        _ => false,
+    }
+}
+
+/// Sets the fields that a value under this name sets, and answers whether all of it is of the usual forms: what it set
+/// counts only then. Objects may nest so deep.
+#[cycle(direct)]
+pub fn add_tree<'m, 't>(
+    alloc: Global,
+    key: &str,
+    value: &'m Tree<'t>,
+    depth: usize,
+    fields: &mut FieldsBuilder,
+) -> Result<bool, OutOfMemory>
+    ensures { IfOk result (λ taken. taken ≡ true → SetsTree key.now (value_view value.now) fields.old fields.new) }
+{
+    match value {
+        Tree::Null => Ok(true),
+        Tree::String(text) => add_text(alloc, key, text, fields),
+        Tree::Bool(flag) => add_value(alloc, key, Value::Flag(*flag), fields),
+        Tree::Number(numeral) => match whole_in(numeral) {
+            Some(n) => add_value(alloc, key, Value::Whole(n), fields),
+            None => Ok(false),
+        },
+        Tree::Array(values) => match items_of(alloc, values)? {
+            Some(items) => add_value(alloc, key, Value::List(items), fields),
+            None => Ok(false),
+        },
+        Tree::Object(members) => add_object(alloc, key, members, depth, fields),
+    }
+}
+
+#[cycle(direct)]
+fn add_object<'m, 't>(
+    alloc: Global,
+    key: &str,
+    members: &'m [(&'t str, Tree<'t>)],
+    depth: usize,
+    fields: &mut FieldsBuilder,
+) -> Result<bool, OutOfMemory>
+    ensures { IfOk result (λ taken. taken ≡ true → SetsTree key.now (object (members_view members.now)) fields.old fields.new) }
+{
+    if let [member] = members {
+        if let Some(n) = decimal_in(member.0, &member.1) {
+            return add_value(alloc, key, Value::Decimal(n), fields);
+        }
+    }
+    if depth == 0 || !flattens(key.as_bytes()) {
+        return Ok(false);
+    }
+    let Some(ordered) = in_order(alloc, members)? else {
+        return Ok(false);
+    };
+    if may_be_decimal(&ordered) {
+        return Ok(false);
+    }
+    add_members(alloc, key, &ordered, depth - 1, fields)
+}
+
+#[cycle(direct)]
+fn add_members<'m, 't>(
+    alloc: Global,
+    key: &str,
+    members: &[Member<'m, 't>],
+    depth: usize,
+    fields: &mut FieldsBuilder,
+) -> Result<bool, OutOfMemory>
+    ensures { IfOk result (λ taken. taken ≡ true → SetsMembers key.now (named_values members.now) fields.old fields.new) }
+{
+    let mut rest = members;
+    'members: while let [member, more @ ..] = rest {
+        let Some(name) = member_name(alloc, key, member.0)? else {
+            return Ok(false);
+        };
+        if !add_tree(alloc, &name, member.1, depth, fields)? {
+            return Ok(false);
+        }
+        rest = more;
+    }
+    Ok(true)
+}

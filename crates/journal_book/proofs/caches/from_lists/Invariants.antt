@@ -1,9 +1,0 @@
-use Rattle.std.proofs.Common.{◌≡◌, ◌++◌}
-use Rattle.journal_book.specs.Caches.{caches_of}
-use Rattle.journal_book.proofs.caches.from_lists.Given as goal
-
-abbrev pub invariant-caches : goal.invariant-caches
-invariant-caches l =
-    (goal.iterator-caches).can_next l.cache-iterator
-    × (goal.iterator-caches).is_finite l.cache-iterator
-    × (caches_of l.caches.items ++ l.cache-iterator.rest.items ≡ l.fn.list)

@@ -1,5 +1,0 @@
-use Rattle.std.proofs.Common.{◌≡◌, map, take}
-use Rattle.journal_book.proofs.distinct.bots_differ.Given as goal
-
-abbrev pub invariant-bots : goal.invariant-bots
-invariant-bots l = map (λ name. name.now) l.names.items ≡ take l.bot-index l.bots

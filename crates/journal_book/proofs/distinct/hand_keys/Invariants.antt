@@ -1,6 +1,0 @@
-use Rattle.std.proofs.Common.{◌≡◌, map, take}
-use Rattle.journal_book.specs.SoundTests.{hand_key}
-use Rattle.journal_book.proofs.distinct.hand_keys.Given as goal
-
-abbrev pub invariant-hands : goal.invariant-hands
-invariant-hands l = l.keys.items ≡ map hand_key (take l.hand-index l.hands)

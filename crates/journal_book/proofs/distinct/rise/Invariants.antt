@@ -1,6 +1,0 @@
-use Rattle.std.proofs.Common.{◌≡◌, drop}
-use Rattle.journal_book.specs.SoundTests.{rise}
-use Rattle.journal_book.proofs.distinct.rise.Given as goal
-
-abbrev pub invariant-numbers : goal.invariant-numbers
-invariant-numbers l = rise 0 l.numbers ≡ rise l.last (drop l.number-index l.numbers)

@@ -1,6 +1,0 @@
-use Rattle.std.proofs.Common.{◌≡◌, map, drop}
-use Rattle.journal_book.specs.SoundTests.{do_not_fall}
-use Rattle.journal_book.proofs.soundness.are_in_order.Given as goal
-
-abbrev pub invariant-marks : goal.invariant-marks
-invariant-marks l = do_not_fall 0 (map (λ mark. mark.moment.0) l.marks) ≡ do_not_fall l.last (map (λ mark. mark.moment.0) (drop l.mark-index l.marks))

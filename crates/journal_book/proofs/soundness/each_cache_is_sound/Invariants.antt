@@ -1,7 +1,0 @@
-use Rattle.std.proofs.Common.{◌≡◌, take, true}
-use Rattle.std.specs.List.{list_all}
-use Rattle.journal_book.specs.SoundTests.{is_sound_cache}
-use Rattle.journal_book.proofs.soundness.each_cache_is_sound.Given as goal
-
-abbrev pub invariant-caches : goal.invariant-caches
-invariant-caches l = list_all (is_sound_cache l.latest.0) (take l.cache-index l.caches) ≡ true

@@ -1,5 +1,0 @@
-use Rattle.std.proofs.Common.{◌≡◌, ◌++◌, map, take}
-use Rattle.journal_book.proofs.standing.push_dumps.Given as goal
-
-abbrev pub invariant-dumps : goal.invariant-dumps
-invariant-dumps l = l.numbers.items ≡ l.fn.numbers.items ++ map (λ d. d.message.no) (take l.dump-index l.dumps)

@@ -1,0 +1,4 @@
+mod Changes
+mod Fronts
+mod Lengths
+mod There

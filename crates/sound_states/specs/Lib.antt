@@ -1,0 +1,2 @@
+-- what only proofs use
+pub mod SoundTests

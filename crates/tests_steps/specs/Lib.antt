@@ -1,2 +1,0 @@
-pub mod Tiny
-pub mod TinyLaws
