@@ -1,7 +1,13 @@
 -- What the core needs of its numbers, and keeps.
-use Rattle.std.proofs.Common.{◌≡◌, ◌+◌, ◌≤◌, ◌<◌, ℕ, suc, Bool, true, is_some, nat_lt, List, [], ◌∷◌, ◌++◌, map, flat_map, Option, Some, None, find, option_map, unwrap_or, refl, sym, ◌∙◌, ap, subst, arith}
+use Rattle.std.proofs.Common.{◌≡◌, ◌+◌, ◌≤◌, ◌<◌, ℕ, suc, is_some, List, [], ◌∷◌, ◌++◌, map, flat_map, Option, Some, None, find, option_map, unwrap_or, refl, sym, ◌∙◌, ap, subst, arith}
 use Rattle.std.specs.List.{AllByRecursion}
+use Rattle.std.specs.List.Sorted.{IsSorted, IsSortedByKey}
+use Rattle.std.specs.Ordering.{is_lt, nat_cmp}
 use Rattle.std.proofs.lemmas.Bool.{ltb-true}
+use Rattle.std.proofs.lemmas.List.{get_or-map, length-map}
+use Rattle.std.proofs.lemmas.List.Elements.{All-from_recursion}
+use Rattle.std.proofs.lemmas.List.Sorted.{IsNonDecreasingBy-from_sort}
+use Rattle.stored_types.specs.declared.mark.Mark.{Mark}
 use Rattle.base_types.specs.declared.message.FaultNote.{FaultNote}
 use Rattle.base_types.specs.declared.message.Moment.{Moment}
 use Rattle.stored_types.specs.declared.message.Dump.{Dump}
@@ -9,6 +15,7 @@ use Rattle.stored_types.specs.declared.hand.Hand.{Hand}
 use Rattle.base_types.specs.Number.{last_u64}
 use Rattle.base_types.proofs.Everywhere.{all-append, all_found, all_wider}
 use Rattle.step_code.specs.declared.base.Base.{Base}
+use Rattle.step_code.specs.declared.cache.BotCache.{BotCache}
 use Rattle.step_code.specs.declared.feed.Feed.{Feed}
 use Rattle.step_code.specs.declared.rules.Facts.{Facts}
 use Rattle.step_code.specs.declared.step.StepKind.TheVariants as kind
@@ -17,12 +24,13 @@ use Rattle.step_code.specs.After.{after, instances_of, numbered}
 use Rattle.step_code.specs.Fits.{Fits, first_failing, retries_of}
 use Rattle.step_code.specs.Places.{standing}
 use Rattle.step_code.specs.Rules.{Meaning, AreSound, IsSoundBot, bot_named}
-use Rattle.step_code.specs.Sound.{IsSound, last_number}
+use Rattle.step_code.specs.Sound.{IsSound, IsSoundCache, last_number}
 use Rattle.step_code.specs.Spent.{last_given}
 use Rattle.step_code.specs.State.{bots_in_force, bots_of, hand_of, is_feed, tries_of}
 use Rattle.step_code.proofs.Parts.{retry_fits}
-use Rattle.step_code.proofs.Steps.{kept-all_given_back}
-use Rattle.ack_steps.specs.Core.{reload_of, HasSmallNumbers, IsBounded}
+use Rattle.step_code.proofs.GivenBack.{kept-all_given_back}
+use Rattle.ack_steps.specs.Core.{reload_of, HasSmallNumbers, IsOrderly}
+use Rattle.core_state.specs.Caches.{AreInOrder}
 use Rattle.core_state.specs.Room.{AreAbove}
 
 all_behind : (P : ℕ → Type 0) (xs ys : List ℕ) → AllByRecursion P (xs ++ ys) → AllByRecursion P ys
@@ -42,20 +50,35 @@ other_numbers b =
     ++ flat_map (λ d. d.no ∷ d.moment.0 ∷ []) b.dumps
     ++ flat_map (λ o. o.sealed_bytes ∷ o.sealed_lines ∷ []) b.outs
 
--- a sound state has room for numbers
-pub sound_bounded : (m : Meaning) (b : Base) → IsSound m b → IsBounded b
-sound_bounded m b sound = record {
+-- marks in the order of the list of their moments
+by_moment : (marks : List Mark) → IsSorted nat_cmp (map (λ mark. mark.moment.0) marks) → IsSortedByKey (λ mark. mark.moment.0) nat_cmp marks
+by_moment marks sorted k d low high =
+    let moment : Mark → ℕ = λ mark. mark.moment.0 in
+    let later = get_or-map moment marks (k + 1) d (moment d) high in
+    let earlier = get_or-map moment marks k d (moment d) (omega (arith, high)) in
+    sym (λ i. is_lt (nat_cmp (later i) (earlier i))) ∙ sorted k (moment d) low (omega (arith, high, length-map marks moment))
+
+sound_marks : (latest : ℕ) (c : BotCache) → IsSoundCache latest c → AreInOrder latest c.marks
+sound_marks latest c sound = record {
+  order = IsNonDecreasingBy-from_sort (λ (mark : Mark). mark.moment.0) c.marks (by_moment c.marks sound.order);
+  past = All-from_recursion (λ (mark : Mark). mark.moment.0 ≤ latest) c.marks sound.past;
+}
+
+-- a sound state has room for numbers, and its marks stand in order
+pub sound_orderly : (m : Meaning) (b : Base) → IsSound m b → IsOrderly b
+sound_orderly m b sound = record {
   dumps = all_wider (λ (d : Dump). (1 ≤ d.no) × (d.no < b.next_dump)) (λ d. d.no < b.next_dump) b.dumps (λ d both. both.1) sound.state.each_dump;
   rounds = all_wider (λ (f : Feed). f.round ≤ last_number) (λ f. f.round ≤ last_number + b.steps) b.feeds (λ f within. omega (arith, within))
       (rounds_within b.feeds (all_behind (λ n. n ≤ last_number) (other_numbers b) (flat_map (λ (f : Feed). f.round ∷ f.position ∷ []) b.feeds) sound.state.numbers));
+  marks = all_wider (IsSoundCache b.latest.0) (λ c. AreInOrder b.latest.0 c.marks) b.caches (sound_marks b.latest.0) sound.state.each_cache;
 }
 
 -- no round is the last number of 64 bits
-pub rounds_small : (b : Base) → IsBounded b → b.steps ≤ last_given → AllByRecursion (λ f. f.round < last_u64) b.feeds
-rounds_small b bounded few = all_wider (λ (f : Feed). f.round ≤ last_number + b.steps) (λ f. f.round < last_u64) b.feeds (λ f within. omega (arith, within, few)) bounded.rounds
+pub rounds_small : (b : Base) → IsOrderly b → b.steps ≤ last_given → AllByRecursion (λ f. f.round < last_u64) b.feeds
+rounds_small b orderly few = all_wider (λ (f : Feed). f.round ≤ last_number + b.steps) (λ f. f.round < last_u64) b.feeds (λ f within. omega (arith, within, few)) orderly.rounds
 
-pub round_small : (b : Base) (bot : List ℕ) (f : Feed) → IsBounded b → b.steps ≤ last_given → find (is_feed bot) b.feeds ≡ Some f → f.round < last_u64
-round_small b bot f bounded few found = all_found (λ (f : Feed). f.round < last_u64) (is_feed bot) b.feeds f (rounds_small b bounded few) found
+pub round_small : (b : Base) (bot : List ℕ) (f : Feed) → IsOrderly b → b.steps ≤ last_given → find (is_feed bot) b.feeds ≡ Some f → f.round < last_u64
+round_small b bot f orderly few found = all_found (λ (f : Feed). f.round < last_u64) (is_feed bot) b.feeds f (rounds_small b orderly few) found
 
 -- a bundle that loads may be put in force
 pub may_reload : (m : Meaning) (s : Base) (bundle : List ℕ) (now : Moment) (bots : List Facts) → m.facts bundle ≡ Some bots → Fits m s (reload_of bundle now)

@@ -1,6 +1,6 @@
 mod Back
 mod Backlog
-mod Bounded
+mod Orderly
 mod Coming
 mod Counted
 mod Entries

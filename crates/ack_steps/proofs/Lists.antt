@@ -1,11 +1,7 @@
 -- Lists of entries: whether one is there, and entries that come one by one.
-use Rattle.std.proofs.Common.{◌≡◌, ◌+◌, ◌≤◌, ◌<◌, ◌||◌, ℕ, zero, suc, Bool, true, false, cond, List, [], ◌∷◌, ◌++◌, length, map, filter, take, drop, set, get_or, find, Option, Some, None, refl, sym, ◌∙◌, ap, subst, arith}
+use Rattle.std.proofs.Common.{◌≡◌, ◌≤◌, ◌<◌, ℕ, zero, suc, Bool, true, false, cond, List, [], ◌∷◌, ◌++◌, length, map, filter, take, drop, set, get_or, find, Some, None, refl, ◌∙◌, ap, arith}
 use Rattle.std.proofs.lemmas.List.{append-nil, length-map, take_all}
 use Rattle.std.specs.List.{AllByRecursion, list_any}
-use Rattle.base_types.specs.declared.message.Msg.{Msg}
-use Rattle.stored_types.specs.declared.queue.Queue.{Queue}
-use Rattle.base_types.specs.Lists.{changed_or_added, without}
-use Rattle.stored_types.specs.Queue.{is_queue, put, put_all}
 
 any_here : {A : Type 0} (here : Bool) (p : A → Bool) (x y : A) (xs : List A) → p x ≡ here → (find p xs ≡ Some y → list_any p xs ≡ true) → cond here (Some x) (find p xs) ≡ Some y → list_any p (x ∷ xs) ≡ true
 any_here true p x y xs passes later is = rw passes refl
@@ -72,12 +68,3 @@ half_back f xs ys n is count =
     let whole : length (map f xs) ≤ n = omega (arith, length-map xs f, count) in
     let none : drop (length (map f xs)) xs ≡ [] = ap (λ k. drop k xs) (length-map xs f) ∙ drop-length xs in
     ap (λ l. take n (l ++ drop (length l) xs)) is ∙ ap (λ l. take n (map f xs ++ l)) none ∙ ap (take n) (append-nil (map f xs)) ∙ take_all n (map f xs) whole
-
-none_leaves : {A : Type 0} (here : Bool) (x : A) (xs ys : List A) (found : Option A) → (found ≡ None → ys ≡ xs) → cond here (Some x) found ≡ None → cond here xs (x ∷ ys) ≡ x ∷ xs
-none_leaves true x xs ys found later is = absurd (cc)
-none_leaves false x xs ys found later is = ap (λ l. x ∷ l) (later is)
-
--- where none passes, none leaves
-pub without_none : {A : Type 0} (is : A → Bool) (xs : List A) → find is xs ≡ None → without is xs ≡ xs
-without_none is [] none = refl
-without_none is (x ∷ xs) none = none_leaves (is x) x xs (without is xs) (find is xs) (without_none is xs) none

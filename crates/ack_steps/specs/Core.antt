@@ -10,6 +10,7 @@ use Rattle.step_code.specs.declared.step.StepRefusal.TheVariants as refusal
 use Rattle.std.specs.List.{AllByRecursion}
 use Rattle.step_code.specs.Sound.{last_number}
 use Rattle.step_code.specs.Spent.{last_given}
+use Rattle.core_state.specs.Caches.{AreInOrder}
 use Rattle.core_state.specs.Room.{HaveDumpsBelow}
 
 -- the rules that it goes by, and the state
@@ -24,10 +25,12 @@ pub record HasSmallNumbers (s : Base) : Type 0 where
   pub dumps : s.next_dump ≤ last_given + 1
   pub bundles : s.bundle_no ≤ last_given
 
--- no number is near the end of its 64 bits: dumps have numbers below the next one, and a round ended a step before the next
-pub record IsBounded (s : Base) : Type 0 where
+-- what the core keeps of its state: dumps have numbers below the next one, a round ended a step before the next, and the
+-- marks of each cache stand in the order of their moments, none of them later than the latest
+pub record IsOrderly (s : Base) : Type 0 where
   pub dumps : HaveDumpsBelow s
   pub rounds : AllByRecursion (λ f. f.round ≤ last_number + s.steps) s.feeds
+  pub marks : AllByRecursion (λ c. AreInOrder s.latest.0 c.marks) s.caches
 
 -- the step puts no bundle in force
 abbrev pub IsNoReload : StepKind → Type 0

@@ -43,6 +43,26 @@ pub fn rule_of(bots: &[Facts], bot: &BotName) -> Option<CacheRule>
     }
 }
 
+/// Whether the key is that of a message that the bot let through not long before the moment.
+pub fn is_duplicate(
+    state: &State,
+    bots: &[Facts],
+    bot: &BotName,
+    now: Moment,
+    key: &Option<Blob>,
+) -> bool
+    ensures { (m : Meaning) → m.facts state.now.bundle ≡ Some bots.now
+        → result ≡ is_duplicate m (state_of state.now) bot.now now.0 key.now }
+{
+    let Some(key) = key else {
+        return false;
+    };
+    match rule_of(bots, bot) {
+        Some(rule) => is_marked(&state.caches, &rule, bot, now, key),
+        None => false,
+    }
+}
+
 // A mark is made only by a bot that drops duplicates, and for no duplicate.
 fn is_new_mark(
     state: &State,

@@ -5,6 +5,7 @@ ghost use Rattle.stored_types.specs.Hand.{is_hand};
 ghost use Rattle.step_code.specs.After.{body_in_hand, cached, dumped, sent, written};
 ghost use Rattle.step_code.specs.Spent.{last_given};
 ghost use Rattle.ack_steps.specs.Held.{IsHeld};
+ghost use Rattle.core_state.specs.Caches.{HaveOrder};
 ghost use Rattle.core_state.specs.Outputs.{HasLineRoom, HaveLengths};
 ghost use Rattle.core_state.specs.Room.{AreAbove, HasRoom, HaveDumpsBelow};
 ghost use Rattle.core_state.specs.State.{state_of};
@@ -108,6 +109,7 @@ pub fn done(
 ) -> Result<(), OutOfMemory>
     requires held { IsHeld held.bot held.instance held.message (state_of state.old) }
     requires below { HaveDumpsBelow (state_of state.old) }
+    requires order { HaveOrder (state_of state.old).caches }
     requires messages { state.old.next_message + length made.sends.now + length made.dumps.now ≤ last_given + 1 }
     requires dumps { state.old.next_dump + length made.dumps.now ≤ last_given + 1 }
     ensures ok { OnOk result (state_of state.new ≡ dumped held.bot held.now made.entry.dumps.now (sent made.entry.sends.now (record (state_of state.old) {

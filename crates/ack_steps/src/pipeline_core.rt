@@ -5,7 +5,7 @@ ghost use Rattle.step_code.specs.Content.{IsInTime, MayReplay};
 ghost use Rattle.step_code.specs.Fits.{Fits, first_failing, parts};
 ghost use Rattle.step_code.specs.Rules.{IsPlanOf, is_collector, last_moment};
 ghost use Rattle.step_code.specs.Sound.{IsSound};
-ghost use Rattle.ack_steps.specs.Core.{reload_of, HasSmallNumbers, IsBounded, IsNoReload, IsRefusal};
+ghost use Rattle.ack_steps.specs.Core.{reload_of, HasSmallNumbers, IsOrderly, IsNoReload, IsRefusal};
 ghost use Rattle.core_state.specs.Outputs.{HaveLengths};
 ghost use Rattle.step_code.specs.Spent.{last_given, spent, StaysSmall};
 ghost use Rattle.core_state.specs.State.{state_of};
@@ -56,7 +56,7 @@ pub struct Core<R: Rules> {
 impl<R: Rules> Model for Core<R> {
     ghost use Rattle.step_code.specs.Rules.{IsPlanOf};
     ghost use Rattle.std.specs.Prelude.{◌≡◌};
-    ghost use Rattle.ack_steps.specs.Core.{CoreView, IsBounded};
+    ghost use Rattle.ack_steps.specs.Core.{CoreView, IsOrderly};
     ghost use Rattle.core_state.specs.Outputs.{HaveLengths};
     ghost use Rattle.core_state.specs.State.{state_of};
 
@@ -64,7 +64,7 @@ impl<R: Rules> Model for Core<R> {
 
     ghost view = { λ c. record { rules = c.rules; state = state_of c.state } };
 
-    ghost invariant = { λ c. (R.bundle_of c.plan ≡ c.state.bundle) × IsPlanOf R.meaning c.state.bundle (R.bots_of c.plan) × HaveLengths c.state.outs.items × IsBounded (state_of c.state) };
+    ghost invariant = { λ c. (R.bundle_of c.plan ≡ c.state.bundle) × IsPlanOf R.meaning c.state.bundle (R.bots_of c.plan) × HaveLengths c.state.outs.items × IsOrderly (state_of c.state) };
 }
 
 // The plan of the state's bundle, where a store may hold the state.
@@ -128,9 +128,9 @@ fn act<R: Rules>(
     requires bundle { R.bundle_of plan.now ≡ state.old.bundle }
     requires plan { IsPlanOf R.meaning state.old.bundle (R.bots_of plan.now) }
     requires fits { Fits R.meaning (state_of state.old) step.now }
-    requires time { step.now.moment.0 ≤ last_moment }
+    requires time { IsInTime (state_of state.old) step.now }
     requires small { HasSmallNumbers (after R.meaning (state_of state.old) step.now) }
-    requires bounded { IsBounded (state_of state.old) }
+    requires orderly { IsOrderly (state_of state.old) }
     requires kind { IsNoReload step.now.what }
     ensures ok { OnOk result (state_of state.new ≡ acted R.meaning step.now.moment (state_of state.old) step.now.what) }
     ensures err { OnErr result (state_of state.new ≡ state_of state.old) }
@@ -207,14 +207,14 @@ fn act_and_count<R: Rules>(
     requires bundle { R.bundle_of plan.now ≡ state.old.bundle }
     requires plan { IsPlanOf R.meaning state.old.bundle (R.bots_of plan.now) }
     requires fits { Fits R.meaning (state_of state.old) step.now }
-    requires time { step.now.moment.0 ≤ last_moment }
+    requires time { IsInTime (state_of state.old) step.now }
     requires small { HasSmallNumbers (after R.meaning (state_of state.old) step.now) }
-    requires bounded { IsBounded (state_of state.old) }
+    requires orderly { IsOrderly (state_of state.old) }
     requires kind { IsNoReload step.now.what }
     ensures ok { OnOk result (state_of state.new ≡ after R.meaning (state_of state.old) step.now) }
     ensures err { OnErr result (state_of state.new ≡ state_of state.old) }
     ensures bundle { state.new.bundle ≡ state.old.bundle }
-    ensures bounded { IsBounded (state_of state.new) }
+    ensures orderly { IsOrderly (state_of state.new) }
     ensures lengths { HaveLengths state.old.outs.items → HaveLengths state.new.outs.items }
 {
     act(rules, plan, state, alloc, step)?;
@@ -252,12 +252,13 @@ fn put_in_force<R: Rules>(
     requires bundle { R.bundle_of plan.old ≡ state.old.bundle }
     requires plan { IsPlanOf R.meaning state.old.bundle (R.bots_of plan.old) }
     requires small { Fits R.meaning (state_of state.old) (reload_of bundle.now now) → HasSmallNumbers (after R.meaning (state_of state.old) (reload_of bundle.now now)) }
-    requires bounded { IsBounded (state_of state.old) }
+    requires orderly { IsOrderly (state_of state.old) }
+    requires order { Fits R.meaning (state_of state.old) (reload_of bundle.now now) → state.old.latest.0 ≤ now.0 }
     ensures fits { OnOk result (Fits R.meaning (state_of state.old) (reload_of bundle.now now)) }
     ensures ok { OnOk result (state_of state.new ≡ after R.meaning (state_of state.old) (reload_of bundle.now now)) }
     ensures bundle { R.bundle_of plan.new ≡ state.new.bundle }
     ensures plan { IsPlanOf R.meaning state.new.bundle (R.bots_of plan.new) }
-    ensures bounded { IsBounded (state_of state.new) }
+    ensures orderly { IsOrderly (state_of state.new) }
     ensures refused { IfErr result (IsRefusal (first_failing (parts R.meaning (state_of state.old) (kind.Reload bundle.now)))) }
     ensures err { OnErr result ((state_of state.new ≡ state_of state.old) × (plan.new ≡ plan.old)) }
     ensures lengths { HaveLengths state.old.outs.items → HaveLengths state.new.outs.items }

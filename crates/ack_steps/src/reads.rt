@@ -5,8 +5,10 @@ ghost use Rattle.base_types.specs.Number.{last_u64};
 ghost use Rattle.stored_types.specs.Queue.{queued};
 ghost use Rattle.queue_broker.specs.Broker.{front_of, total};
 ghost use Rattle.core_state.specs.Outputs.{outs_of};
+ghost use Rattle.step_code.specs.Content.{is_duplicate};
 ghost use Rattle.step_code.specs.State.{backlog, bots_in_force, hand_of, is_feed, is_halted};
 
+use crate::content::is_duplicate;
 use crate::failing::is_halted;
 use crate::pipeline_core::Core;
 use crate::refusal::live_bytes;
@@ -167,6 +169,13 @@ impl<R: Rules> Core<R> {
         ensures { result.now ≡ self.now.state.halted }
     {
         &self.state.halted
+    }
+
+    /// Whether the key is that of a message that the bot let through not long before the moment.
+    pub fn is_duplicate(&self, bot: &BotName, now: Moment, key: &Option<Blob>) -> bool
+        ensures { result ≡ is_duplicate R.meaning self.now.state bot.now now.0 key.now }
+    {
+        is_duplicate(&self.state, self.bots(), bot, now, key)
     }
 
     pub fn outs_len(&self) -> usize

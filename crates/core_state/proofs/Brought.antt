@@ -1,9 +1,8 @@
 -- The numbers that a step brings, and the first of them past the last one.
-use Rattle.std.proofs.Common.{◌≡◌, ◌+◌, ◌-◌, ◌≤◌, ℕ, zero, suc, Bool, true, false, cond, List, [], ◌∷◌, ◌++◌, length, map, min, drop, take, get_or, find, position, Option, Some, None, option_map, refl, sym, ◌∙◌, ap, arith}
+use Rattle.std.proofs.Common.{◌≡◌, ◌+◌, ◌-◌, ℕ, zero, suc, Bool, true, false, cond, List, [], ◌∷◌, ◌++◌, length, map, min, drop, take, get_or, find, position, Option, Some, None, option_map, refl, sym, ◌∙◌, ap, arith}
 use Rattle.std.proofs.lemmas.List.{append-nil, length-append, length-map, map-append}
 use Rattle.std.specs.Option.{option_or}
 use Rattle.std.specs.Str.{bytes_eq}
-use Rattle.std.proofs.lemmas.Bool.{ltb-false}
 use Rattle.std.proofs.lemmas.List.Folds.{find-append}
 use Rattle.std.proofs.lemmas.List.Sums.{sum_by-append}
 use Rattle.base_types.specs.declared.message.Moment.{Moment}
@@ -12,16 +11,15 @@ use Rattle.stored_types.specs.declared.message.Dump.{Dump}
 use Rattle.step_code.specs.declared.output.Output.{Output}
 use Rattle.step_code.specs.declared.rules.Facts.{Facts}
 use Rattle.step_code.specs.declared.base.Base.{Base}
-use Rattle.step_code.specs.declared.step.Step.{Step}
 use Rattle.step_code.specs.declared.step.StepKind.{StepKind}
 use Rattle.step_code.specs.declared.step.StepKind.TheVariants as kind
 use Rattle.step_code.specs.After.{after, body_in_hand, instances_of, redone, renewed, reports, taken_first, with_feeds, with_outs, written}
 use Rattle.base_types.specs.Lists.{changed}
 use Rattle.step_code.specs.Rules.{Meaning}
 use Rattle.step_code.specs.State.{bots_in_force, bots_of, is_dump, is_out, new_out, waiting}
-use Rattle.step_code.proofs.Steps.{kept-all_given_back}
+use Rattle.step_code.proofs.GivenBack.{kept-all_given_back}
 use Rattle.base_types.specs.Name.{queue_name}
-use Rattle.step_code.specs.Spent.{is_past, last_given, numbers_brought, out_length, spent, up_to_spent, StaysSmall}
+use Rattle.step_code.specs.Spent.{is_past, numbers_brought, out_length, spent, up_to_spent}
 use Rattle.base_types.specs.Number.{last_u64}
 use Rattle.base_types.proofs.Found.{IsFirst, changed_missing, first_at}
 use Rattle.core_state.specs.declared.outputs.Written.{Written}

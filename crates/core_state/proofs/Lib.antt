@@ -1,4 +1,5 @@
 mod Brought
+pub mod InOrder
 mod Lists
 pub mod Numbered
 mod Seen

@@ -1,13 +1,8 @@
 -- Lists seen as others, and messages that come one by one.
-use Rattle.std.proofs.Common.{◌≡◌, ◌+◌, ◌≤◌, ◌||◌, ℕ, suc, Bool, true, false, cond, List, [], ◌∷◌, ◌++◌, length, map, refl, ◌∙◌, ap, arith}
-use Rattle.std.specs.List.{list_any}
+use Rattle.std.proofs.Common.{◌≡◌, ◌+◌, ◌≤◌, ℕ, suc, Bool, true, false, cond, List, [], ◌∷◌, ◌++◌, length, ◌∙◌, ap, arith}
 use Rattle.base_types.specs.declared.message.Msg.{Msg}
 use Rattle.stored_types.specs.declared.queue.Queue.{Queue}
 use Rattle.stored_types.specs.Queue.{is_queue, put, put_all}
-
-pub any_map : {A B : Type 0} (f : A → B) (p : B → Bool) (xs : List A) → list_any p (map f xs) ≡ list_any (λ x. p (f x)) xs
-any_map f p [] = refl
-any_map f p (x ∷ xs) = ap (λ b. p (f x) || b) (any_map f p xs)
 
 -- one more message is put behind the others
 pub put_all-push : (next : ℕ) (sends : List (List ℕ × List ℕ)) (send : List ℕ × List ℕ) (queues : List Queue)

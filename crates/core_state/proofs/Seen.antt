@@ -69,3 +69,9 @@ pub all_set : {A : Type 0} (P : A → Type 0) (xs : List A) (i : ℕ) (x new : A
 all_set P [] i x new is keeps all = tt
 all_set P (y ∷ ys) zero x new is keeps all = (keeps (subst P (sym is) all.0), all.1)
 all_set P (y ∷ ys) (suc i) x new is keeps all = (all.0, all_set P ys i x new is keeps all.1)
+
+-- what holds of each entry holds of that of the item at a place
+pub all_seen : {A B : Type 0} (P : B → Type 0) (view : A → B) (xs : List A) (i : ℕ) (x : A) → AllByRecursion P (map view xs) → i < length xs → x ≡ get_or xs i x → P (view x)
+all_seen P view [] i x all inside is = absurd (omega (arith, inside))
+all_seen P view (y ∷ ys) zero x all inside is = subst (λ z. P (view z)) (sym is) all.0
+all_seen P view (y ∷ ys) (suc i) x all inside is = all_seen P view ys i x all.1 (omega (arith, inside)) is

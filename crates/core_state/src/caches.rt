@@ -4,7 +4,7 @@ ghost use Rattle.std.specs.VecDeque.{deque_len, deque_capacity};
 ghost use Rattle.step_code.specs.After.{cached, marked};
 ghost use Rattle.stored_types.specs.Mark.{trimmed, fresh, is_marked};
 ghost use Rattle.step_code.specs.State.{marks_of};
-ghost use Rattle.core_state.specs.Caches.{cache_of, caches_of, has_bot};
+ghost use Rattle.core_state.specs.Caches.{DoNotFall, HaveOrder, cache_of, caches_of, has_bot, has_expired};
 
 use base_types::{Blob, BotName, Moment, OutOfMemory};
 use std::alloc::{AllocError, Global};
@@ -32,13 +32,26 @@ fn is_fresh(mark: &Mark, ttl: u64, now: Moment) -> bool
     now.0.saturating_sub(mark.moment.0) < ttl
 }
 
-// Marks that have expired leave. It takes no memory.
+// Whether the oldest mark has expired.
+fn has_expired(marks: &VecDeque<Mark>, ttl: u64, now: Moment) -> bool
+    ensures { result ≡ has_expired ttl now.0 marks.now.items }
+{
+    match marks.front() {
+        Some(mark) => !is_fresh(mark, ttl, now),
+        None => false,
+    }
+}
+
+// Marks that have expired leave. Since moments don't fall, they stand in front. It takes no memory.
 fn drop_expired(marks: &mut VecDeque<Mark>, ttl: u64, now: Moment)
+    requires order { DoNotFall marks.old.items }
     ensures fresh { marks.new.items ≡ fresh ttl now.0 marks.old.items }
     ensures len { deque_len marks.new ≤ deque_len marks.old }
     ensures capacity { deque_capacity marks.new ≡ deque_capacity marks.old }
 {
-    marks.retain(|mark| is_fresh(mark, ttl, now));
+    'expired: while has_expired(marks, ttl, now) {
+        marks.pop_front();
+    }
 }
 
 // The oldest marks leave until fewer than `below` are there, or none.
@@ -60,6 +73,7 @@ fn mark_in(
     now: Moment,
     key: Blob,
 ) -> Result<(), AllocError>
+    requires order { DoNotFall marks.old.items }
     ensures ok { OnOk result (marks.new.items ≡ marked rule.now now key marks.old.items) }
     ensures err { OnErr result (marks.new.items ≡ marks.old.items) }
 {
@@ -97,6 +111,7 @@ fn mark_key(
     now: Moment,
     key: Blob,
 ) -> Result<(), AllocError>
+    requires order { HaveOrder (caches_of caches.old.items) }
     ensures ok { OnOk result (caches_of caches.new.items ≡ cached (Some rule.now) bot.now now (Some key) (caches_of caches.old.items)) }
     ensures err { OnErr result (caches_of caches.new.items ≡ caches_of caches.old.items) }
 {
@@ -108,6 +123,7 @@ fn mark_key(
 
 // Marks of the bot that have expired leave.
 fn drop_old(caches: &mut Vec<Marks>, rule: &CacheRule, bot: &BotName, now: Moment)
+    requires order { HaveOrder (caches_of caches.old.items) }
     ensures { caches_of caches.new.items ≡ cached (Some rule.now) bot.now now None (caches_of caches.old.items) }
 {
     if let Some(i) = place_of_cache(caches, bot) {
@@ -124,6 +140,7 @@ pub fn mark(
     now: Moment,
     key: Option<Blob>,
 ) -> Result<(), AllocError>
+    requires order { HaveOrder (caches_of caches.old.items) }
     ensures ok { OnOk result (caches_of caches.new.items ≡ cached rule bot.now now key (caches_of caches.old.items)) }
     ensures err { OnErr result (caches_of caches.new.items ≡ caches_of caches.old.items) }
 {

@@ -1,13 +1,15 @@
 pub mod Ends
 pub mod Items
+pub mod Lines
 pub mod MessageText
 pub mod Messages
 pub mod PairTexts
 pub mod Placing
+pub mod Putting
 pub mod Readable
 pub mod Reading
+pub mod Rising
 pub mod Runs
-pub mod Setting
 pub mod Slices
 pub mod Strings
 pub mod Unescaped

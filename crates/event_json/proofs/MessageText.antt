@@ -77,21 +77,24 @@ fields_above (e ∷ es) fields = and_from _ _ (field_above e.0 e.1 fields.0) (fi
 
 -- ---- the pairs in order
 
-kind_first : (kind : Kind) (fields : FieldMap) → AreFields (entries fields) → entries (with_kind kind fields) ≡ (type_key, value.Text (kind_word kind)) ∷ entries fields
-kind_first kind fields are =
-    entries-insert nat_list_cmp_total fields type_key (value.Text (kind_word kind)) ∙ put_first type_key (value.Text (kind_word kind)) (entries fields) (fields_above (entries fields) are)
+kind_first : (kind : Kind) (fields : FieldMap) → below_all order type_key (entries fields) ≡ true → entries (with_kind kind fields) ≡ (type_key, value.Text (kind_word kind)) ∷ entries fields
+kind_first kind fields below =
+    entries-insert nat_list_cmp_total fields type_key (value.Text (kind_word kind)) ∙ put_first type_key (value.Text (kind_word kind)) (entries fields) below
 
 joined : (first : Key × Value) (es : Pairs) → join_with_byte 44 (map pair_text (first ∷ es)) ≡ pair_text first ++ pairs_text es
 joined first [] = sym (append-nil (pair_text first))
 joined first (e ∷ es) = ap (λ (t : Key). pair_text first ++ 44 ∷ t) (joined e es)
 
 -- the opening, the other pairs, and the end
-pub message_text-parts : (message : Message) → AreFields (entries message.fields) → message_text message ≡ opening message.kind ++ (pairs_text (entries message.fields) ++ 125 ∷ [])
+pub message_text-above : (message : Message) → below_all order type_key (entries message.fields) ≡ true → message_text message ≡ opening message.kind ++ (pairs_text (entries message.fields) ++ 125 ∷ [])
 unfolding message_text opening
-message_text-parts message are =
-    ap (λ (pairs : Pairs). 123 ∷ join_with_byte 44 (map pair_text pairs) ++ 125 ∷ []) (kind_first message.kind message.fields are)
+message_text-above message below =
+    ap (λ (pairs : Pairs). 123 ∷ join_with_byte 44 (map pair_text pairs) ++ 125 ∷ []) (kind_first message.kind message.fields below)
     ∙ ap (λ (t : Key). 123 ∷ t ++ 125 ∷ []) (joined (type_key, value.Text (kind_word message.kind)) (entries message.fields))
     ∙ ap (λ (t : Key). 123 ∷ t) (append_assoc (pair_text (type_key, value.Text (kind_word message.kind))) (pairs_text (entries message.fields)) (125 ∷ []))
+
+pub message_text-parts : (message : Message) → AreFields (entries message.fields) → message_text message ≡ opening message.kind ++ (pairs_text (entries message.fields) ++ 125 ∷ [])
+message_text-parts message are = message_text-above message (fields_above (entries message.fields) are)
 
 regrouped : (out opened pairs : Key) → ((out ++ opened) ++ pairs) ++ 125 ∷ [] ≡ out ++ (opened ++ (pairs ++ 125 ∷ []))
 regrouped out opened pairs = simp append_assoc

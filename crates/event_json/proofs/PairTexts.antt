@@ -125,11 +125,11 @@ pub no_field : (text : Key) (fields : FieldMap) (found : Pair) (rest : Key) → 
 no_field text fields found rest at none pair behind typed above stop is =
     none (subst (λ (p : Pair). IsField p.0 p.1) (sym (same_pair text found pair rest behind at typed stop is).0) typed.field)
 
-pub refused : (name bytes : Key) (v : Value) (is : Bool) → bytes ≡ name → (IsTrue is ↔ IsField bytes v) → is ≡ false → IsField name v → ⊥
-refused name bytes v is same so none field = absurd (cc (none, so.1 (subst (λ n. IsField n v) (sym same) field)))
+pub refused : (name : Key) (v : Value) (is : Bool) → (IsTrue is ↔ IsField name v) → is ≡ false → IsField name v → ⊥
+refused name v is so none field = absurd (cc (none, so.1 field))
 
-pub accepted : (name bytes : Key) (v : Value) (is : Bool) → bytes ≡ name → (IsTrue is ↔ IsField bytes v) → is ≡ true → IsField name v
-accepted name bytes v is same so found = subst (λ n. IsField n v) same (so.0 found)
+pub accepted : (name : Key) (v : Value) (is : Bool) → (IsTrue is ↔ IsField name v) → is ≡ true → IsField name v
+accepted name v is so found = so.0 found
 
 pub not_above : (text : Key) (fields : FieldMap) (found : Pair) (rest : Key) → pair_at text ≡ Some (found, rest) → is_above_all found.0 (entries fields) ≡ false → TakesNone text fields
 not_above text fields found rest at low pair behind typed above stop is =

@@ -1,5 +1,5 @@
 -- Members that are put in order of their names, one by one.
-use Rattle.std.proofs.Common.{◌≡◌, ℕ, suc, ◌-◌, ◌≤◌, List, [], ◌∷◌, ◌++◌, length, take, drop, get_or, true, Some, option_and_then, Less, Greater, refl, sym, ap, subst, ◌∙◌, append_assoc, arith, Bor}
+use Rattle.std.proofs.Common.{◌≡◌, ℕ, suc, ◌-◌, ◌≤◌, List, [], ◌∷◌, ◌++◌, length, take, get_or, true, option_and_then, Less, Greater, refl, sym, ap, subst, ◌∙◌, append_assoc, arith, Bor}
 use Rattle.std.specs.declared.alloc.Global.{Global}
 use Rattle.std.specs.List.{insert as place_in}
 use Rattle.std.specs.Ordering.{is_lt, ordering_reverse}
@@ -11,12 +11,12 @@ use Rattle.std.proofs.lemmas.Cmp.{nat_list_cmp_total}
 use Rattle.json.specs.Json as json
 use Rattle.json.specs.Value.{value_view, members_view}
 use Rattle.json.specs.declared.value.Value.{Value as Tree}
-use Rattle.serde_json.specs.Data.{Members, no_members, member, put}
+use Rattle.serde_json.specs.Data.{no_members, member, put}
 use Rattle.serde_json.specs.Read.{of_members}
 use Rattle.base_types.specs.Place.{is_above_all, BelongsAt}
 use Rattle.base_types.proofs.Places.{Key, order, less_of, lt_of}
 use Rattle.event_json.proofs.Slices.{last_of}
-use Rattle.event_json.specs.Direct.{Named, named_values, data_of, data_members, IsData, AreData, PutsMember, ReadsInOrder}
+use Rattle.event_json.specs.Direct.{Named, named_values, data_of, data_members, IsData, AreData, PutsMember}
 
 abbrev pub Held : Type 0
 Held = Bor (List ℕ) × Bor (Tree Global)

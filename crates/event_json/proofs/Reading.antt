@@ -1,14 +1,13 @@
 -- A text that is read as a message without a tree that owns its texts.
-use Rattle.std.proofs.Common.{◌≡◌, ℕ, List, [], ◌∷◌, Bool, true, false, Option, Some, None, Result, Ok, Err, IfOk, IfSome, IsUtf8, is_some, option_map, option_and_then, if◌then◌else◌, refl, sym, ap, ap₂, subst, ◌∙◌}
-use Rattle.std.specs.FinMap.{empty}
+use Rattle.std.proofs.Common.{◌≡◌, ℕ, List, [], ◌∷◌, ◌++◌, Bool, true, Option, Some, None, Result, Ok, Err, IfOk, OnOk, IsUtf8, is_some, option_map, option_and_then, if◌then◌else◌, sym, ap, subst, ◌∙◌}
 use Rattle.json.specs.Json as json
 use Rattle.json.specs.Json.{if_last, value}
 use Rattle.json.specs.Lex.{tokens}
-use Rattle.serde_json.specs.Data.{Data, Members, no_members, object}
+use Rattle.serde_json.specs.Data.{no_members, object}
 use Rattle.serde_json.specs.Find.{get_member}
 use Rattle.serde_json.specs.Read.{of_json, of_members, read}
+use Rattle.base_types.specs.declared.memory.OutOfMemory.{OutOfMemory}
 use Rattle.scalar_text.specs.Quote.{quote}
-use Rattle.event_model.specs.Fields.{FieldMap}
 use Rattle.event_model.specs.Lenient.{kind_of, leaves_of, least, lenient_tree, of_kind, set_all, type_key, with_fields}
 use Rattle.event_model.specs.Lenient as lenient_of
 use Rattle.event_model.specs.Trees.{json_of, lexeme_in, tree_in}
@@ -16,21 +15,31 @@ use Rattle.event_model.specs.declared.fault.ReadFault.TheVariants as fault
 use Rattle.event_model.specs.declared.message.Kind.{Kind}
 use Rattle.event_model.specs.declared.message.Message.{Message}
 use Rattle.event_model.proofs.Bytes.{json_of-read}
-use Rattle.event_model.proofs.Gathering.{all_set}
-use Rattle.event_json.specs.Direct.{Named, data_members, AreData, IsMessageOf, IsMessageOfTree, ReadsAs, SetsAll}
-use Rattle.event_json.specs.Lenient.{lenient, of_tree}
+use Rattle.event_json.specs.Decode.{opening, pairs_text}
+use Rattle.event_json.specs.Direct.{Named, data_members, AreData, HasText, IsMessageOf, IsMessageOfTree, PutsAll, ReadsAs, Rise, Written}
+use Rattle.event_json.specs.Lenient.{lenient, of_tree, PutsText}
+use Rattle.event_json.proofs.Putting.{if_taken}
+use Rattle.event_json.proofs.Rising.{entries_of, sorted_of, text_of_rising}
+use Rattle.event_json.specs.Strict.{AreTyped, IsTextOf}
 
-pub message_is : (js : json.Members) (ordered : List Named) (kind : Kind) (fields : FieldMap) → (AreData ordered → of_members js no_members ≡ Some (data_members ordered)) → lexeme_in (data_members ordered) ≡ None
-    → kind_of (get_member type_key (data_members ordered)) ≡ Some kind → SetsAll ordered empty fields → IsMessageOf js (record { kind = kind; fields = fields })
-message_is js ordered kind fields reads none is sets =
+-- the text that was put together is that of the message
+pub message_is : (js : json.Members) (ordered : List Named) (kind : Kind) (opened put : Written) (text : List ℕ) → (AreData ordered → of_members js no_members ≡ Some (data_members ordered)) → lexeme_in (data_members ordered) ≡ None
+    → kind_of (get_member type_key (data_members ordered)) ≡ Some kind → opened ≡ (opening kind, type_key) → PutsAll ordered opened put → text ≡ put.0 ++ 125 ∷ [] → HasText (IsMessageOf js) text
+message_is js ordered kind opened put text reads none is begun puts ended =
     let ms = data_members ordered in
-    let set : set_all (lenient_of.pairs_of (leaves_of ms)) ≡ fields = sym (sets.sets.fields ∙ all_set (lenient_of.pairs_of (leaves_of ms))) in
+    let pairs = lenient_of.pairs_of (leaves_of ms) in
+    let rise : Rise type_key pairs put.1 = subst (λ (l : Written). Rise l.1 pairs put.1) begun puts.puts.rise in
     record {
-      members = ms;
-      in_range = reads sets.in_range;
-      read = ap (λ (l : Option (List ℕ)). if is_some l then Err fault.NotObject else of_kind (kind_of (get_member type_key ms)) (leaves_of ms)) none
-          ∙ ap (λ k. of_kind k (leaves_of ms)) is
-          ∙ ap₂ (λ names f. with_fields kind (least names) f) sets.sets.good set;
+      message = record { kind = kind; fields = set_all pairs };
+      is = record {
+        members = ms;
+        in_range = reads puts.in_range;
+        read = ap (λ (l : Option (List ℕ)). if is_some l then Err fault.NotObject else of_kind (kind_of (get_member type_key ms)) (leaves_of ms)) none
+            ∙ ap (λ k. of_kind k (leaves_of ms)) is
+            ∙ ap (λ names. with_fields kind (least names) (set_all pairs)) puts.puts.good;
+      };
+      typed = subst AreTyped (sym (entries_of pairs (sorted_of type_key pairs put.1 rise))) puts.puts.typed;
+      text_is = ended ∙ ap (λ (t : List ℕ). t ++ 125 ∷ []) (puts.puts.text ∙ ap (λ (l : Written). l.0 ++ pairs_text pairs) begun) ∙ sym (text_of_rising kind pairs put.1 rise);
     }
 
 whole : (text : List ℕ) (j : json.Json) → value 127 (tokens text) ≡ Some (j, []) → read text ≡ of_json j
@@ -56,19 +65,31 @@ lenient_quoted : (bytes q : List ℕ) (message : Message) → q ≡ quote bytes 
 unfolding lenient tree_in
 lenient_quoted bytes q message same is = ap (λ t. of_tree (json_of t)) (sym same) ∙ is
 
-pub if_found : {A E : Type 0} (r : Result (Option A) E) (P Q : A → Type 0) → ((a : A) → P a → Q a) → IfOk r (λ o. IfSome o P) → IfOk r (λ o. IfSome o Q)
-if_found (Ok (Some a)) P Q f p = f a p
-if_found (Ok None) P Q f p = tt
-if_found (Err e) P Q f p = tt
+-- what is said of the message of a text that was taken
+pub text_on : (r : Result Bool OutOfMemory) (text : List ℕ) (P Q : Message → Type 0) → ((m : Message) → P m → Q m) → IfOk r (λ taken. taken ≡ true → HasText P text) → IfOk r (λ taken. taken ≡ true → HasText Q text)
+text_on r text P Q f = if_taken r _ _ (λ has. record { message = has.message; is = f has.message has.is; typed = has.typed; text_is = has.text_is })
 
-pub all_quoted : {E : Type 0} (bytes text : List ℕ) (r : Result (Option Message) E) → text ≡ bytes → IsUtf8 bytes → IfOk r (λ o. IfSome o (ReadsAs text)) → IfOk r (λ o. IfSome o (λ m. of_tree (json_of bytes) ≡ Ok m))
-all_quoted bytes text r same good = if_found r _ _ (λ m. quoted_read bytes text m same good)
+pub all_quoted : (bytes text line : List ℕ) (r : Result Bool OutOfMemory) → text ≡ bytes → IsUtf8 bytes → IfOk r (λ taken. taken ≡ true → HasText (ReadsAs text) line)
+    → IfOk r (λ taken. taken ≡ true → HasText (λ m. of_tree (json_of bytes) ≡ Ok m) line)
+all_quoted bytes text line r same good = text_on r line _ _ (λ m. quoted_read bytes text m same good)
 
-pub all_lenient : {E : Type 0} (bytes q : List ℕ) (r : Result (Option Message) E) → q ≡ quote bytes → IfOk r (λ o. IfSome o (λ m. of_tree (json_of q) ≡ Ok m)) → IfOk r (λ o. IfSome o (λ m. lenient bytes ≡ Ok m))
-all_lenient bytes q r same = if_found r _ _ (λ m. lenient_quoted bytes q m same)
+pub all_lenient : (bytes q line : List ℕ) (r : Result Bool OutOfMemory) → q ≡ quote bytes → IfOk r (λ taken. taken ≡ true → HasText (λ m. of_tree (json_of q) ≡ Ok m) line)
+    → IfOk r (λ taken. taken ≡ true → HasText (λ m. lenient bytes ≡ Ok m) line)
+all_lenient bytes q line r same = text_on r line _ _ (λ m. lenient_quoted bytes q m same)
 
-pub all_read : {E : Type 0} (text : List ℕ) (j : json.Json) (r : Result (Option Message) E) → value 127 (tokens text) ≡ Some (j, []) → IfOk r (λ o. IfSome o (IsMessageOfTree j)) → IfOk r (λ o. IfSome o (ReadsAs text))
-all_read text j r is = if_found r _ _ (λ m. reads_tree text j m is)
+pub all_read : (text line : List ℕ) (j : json.Json) (r : Result Bool OutOfMemory) → value 127 (tokens text) ≡ Some (j, []) → IfOk r (λ taken. taken ≡ true → HasText (IsMessageOfTree j) line)
+    → IfOk r (λ taken. taken ≡ true → HasText (ReadsAs text) line)
+all_read text line j r is = text_on r line _ _ (λ m. reads_tree text j m is)
 
-pub all_objects : {E : Type 0} (j : json.Json) (js : json.Members) (r : Result (Option Message) E) → j ≡ json.object js → IfOk r (λ o. IfSome o (IsMessageOf js)) → IfOk r (λ o. IfSome o (IsMessageOfTree j))
-all_objects j js r is = if_found r _ _ (λ m of. subst (λ k. IsMessageOfTree k m) (sym is) of)
+pub all_objects : (j : json.Json) (js : json.Members) (line : List ℕ) (r : Result Bool OutOfMemory) → j ≡ json.object js → IfOk r (λ taken. taken ≡ true → HasText (IsMessageOf js) line)
+    → IfOk r (λ taken. taken ≡ true → HasText (IsMessageOfTree j) line)
+all_objects j js line r is = text_on r line _ _ (λ m of. subst (λ k. IsMessageOfTree k m) (sym is) of)
+
+-- the text of the message that was read went behind what was there
+pub puts_text : {A E : Type 0} (r : Result A E) (bytes line text old new : List ℕ) → HasText (λ m. lenient bytes ≡ Ok m) line → text ≡ line → OnOk r (new ≡ old ++ text) → OnOk r (PutsText (lenient bytes) old new)
+puts_text (Ok a) bytes line text old new has same is = record { message = has.message; read = has.is; text = is ∙ ap (λ (t : List ℕ). old ++ t) (same ∙ has.text_is) }
+puts_text (Err e) bytes line text old new has same is = tt
+
+-- the strict reading of its text gives it back
+pub text_of_message : (bytes line : List ℕ) (has : HasText (λ m. lenient bytes ≡ Ok m) line) → IsTextOf line has.message
+text_of_message bytes line has = record { typed = has.typed; text = sym has.text_is }

@@ -1,7 +1,8 @@
 -- What a content writes, escape by escape.
-use Rattle.std.proofs.Common.{◌≡◌, ℕ, zero, suc, ◌+◌, ◌-◌, ◌<◌, ◌≤◌, ◌==◌, ◌||◌, not, List, true, false, Some, None, [], ◌∷◌, ◌++◌, length, take, drop, get_or, fold, flat_map, length-append, subst, refl, sym, ap, ◌∙◌, arith, append_assoc}
+use Rattle.std.proofs.Common.{◌≡◌, ℕ, zero, suc, ◌+◌, ◌-◌, ◌<◌, ◌≤◌, ◌==◌, ◌||◌, not, List, true, false, Some, None, [], ◌∷◌, ◌++◌, length, take, drop, get_or, fold, flat_map, length-append, subst, refl, sym, ap, ◌∙◌, arith, append_assoc, if◌then◌else◌}
 use Rattle.std.proofs.lemmas.Bool.{eqb-true, ne_eqb, eq-eqb}
 use Rattle.std.proofs.lemmas.List.{drop_more, take_rest, take_at}
+use Rattle.std.specs.Str.{is_utf8}
 use Rattle.memchr.specs.Find.{IsFirstByte, is_byte}
 use Rattle.field_types.specs.Writing.{is_plain, escaped, quoted}
 use Rattle.field_types.proofs.Plain.{content-plain}
@@ -41,12 +42,19 @@ no_escape (b ∷ bs) none =
     let plain : (b == 92) ≡ false = ne_eqb b 92 (λ is. none 0 (omega arith) (omega arith) (eq-eqb b 92 is)) in
     rw plain (ap (λ t. b ∷ t) (no_escape bs (λ k low below. none (suc k) (omega arith) (omega arith))))
 
--- a plain content is the text itself
-pub plain_text : (content : List ℕ) → fold (λ found b. found || not (is_plain b)) false content ≡ false → text_in content ≡ utf8_text content
-plain_text content none =
-    let written = content-plain content none in
+-- a content that is how the text itself is written
+written_text : (content : List ℕ) → flat_map escaped content ≡ content → text_in content ≡ utf8_text content
+written_text content written =
     let read : unescaped content ≡ content = ap unescaped (sym written) ∙ unescaped_written content in
     rw (read, written, same_bytes content) refl
+
+-- a plain content is the text itself
+pub plain_text : (content : List ℕ) → fold (λ found b. found || not (is_plain b)) false content ≡ false → text_in content ≡ utf8_text content
+plain_text content none = written_text content (content-plain content none)
+
+-- such a content that is UTF-8 is its text
+pub known_text : (content known : List ℕ) → flat_map escaped content ≡ content → is_utf8 content ≡ true → known ≡ content → Some known ≡ text_in content
+known_text content known written utf8 same = ap Some same ∙ sym (written_text content written ∙ ap (λ b. if b then Some content else None) utf8)
 
 -- ---- what is written stands between quotation marks
 

@@ -1,29 +1,35 @@
--- What is read of a JSON text without a tree that owns its texts.
-use Rattle.std.specs.Prelude.{◌≡◌, ℕ, ℤ, pos, List, [], ◌∷◌, ◌++◌, Bool, true, map, codes, Option, Some, None, Result, Ok}
+-- What a JSON text puts into a canonical text, without a message.
+use Rattle.std.specs.Prelude.{◌≡◌, ℕ, ℤ, pos, List, [], ◌∷◌, ◌++◌, Bool, true, false, map, Option, Some, None, Result, Ok}
 use Rattle.std.specs.Borrow.{Bor}
 use Rattle.std.specs.declared.alloc.Global.{Global}
-use Rattle.std.specs.Ordering.{nat_cmp}
+use Rattle.std.specs.Ordering.{nat_cmp, is_lt}
 use Rattle.std.specs.Cmp.Lexicographic.{slice_cmp}
-use Rattle.std.specs.FinMap.{insert}
 use Rattle.std.specs.FinMap.Entries.{below_all}
 use Rattle.std.specs.List.{AllByRecursion}
 use Rattle.json.specs.Json as json
 use Rattle.json.specs.Value.{value_view, members_view}
 use Rattle.json.specs.declared.value.Value.{Value as Tree}
-use Rattle.serde_json.specs.Data.{Data, null, number, unsigned, string, Items, Members, no_members, member}
+use Rattle.serde_json.specs.Data.{Data, null, unsigned, Items, Members, no_members, member}
 use Rattle.serde_json.specs.Read.{of_json, of_items, of_members, number_of, read as read_json}
 use Rattle.base_types.specs.Place.{is_above_all}
 use Rattle.scalar_text.specs.Number.{decimal_in}
 use Rattle.field_types.specs.Cleaning.{is_short}
+use Rattle.field_types.specs.Kept.{kept_value}
+use Rattle.field_types.specs.Writing.{quoted}
 use Rattle.field_types.specs.declared.fault.FieldFault.{FieldFault}
+use Rattle.field_types.specs.declared.kind.FieldType.{FieldType}
+use Rattle.field_types.specs.declared.kind.FieldType.TheVariants as kind
+use Rattle.field_types.specs.declared.texts.Kept.{Kept}
 use Rattle.field_types.specs.declared.value.Item.{Item}
 use Rattle.field_types.specs.declared.value.Value.{Value}
-use Rattle.event_model.specs.Fields.{FieldMap, value_for}
-use Rattle.event_model.specs.Gathered.{put_pairs}
+use Rattle.event_model.specs.Fields.{value_for}
 use Rattle.event_model.specs.Lenient.{bad_names, pairs_of, leaves, leaves_at, leaves_in, leaves_of, kind_of_word, lenient_tree, of_members as message_of}
 use Rattle.event_model.specs.Trees.{dec_key, item_of, items_of}
 use Rattle.event_model.specs.declared.message.Kind.{Kind}
 use Rattle.event_model.specs.declared.message.Message.{Message}
+use Rattle.event_json.specs.Decode.{pairs_text}
+use Rattle.event_json.specs.Strict.{AreTyped, is_utf8_pair, IsTyped}
+use Rattle.event_json.specs.Text.{pair_text, message_text}
 
 -- ---- the data of JSON values
 
@@ -95,41 +101,74 @@ pub record PutsMember (name : List ℕ) (j : json.Json) (old new : List Named) :
 abbrev pub ReadsInOrder : List (Bor (List ℕ) × Tree Global) → List Named → Type 0
 ReadsInOrder members ordered = AreData ordered → of_members (members_view members) no_members ≡ Some (data_members ordered)
 
--- ---- what is set
+-- ---- what is put into a text
+
+-- a text so far, and the last name in it
+abbrev pub Written : Type 0
+Written = List ℕ × List ℕ
+
+-- the name of a pair was put, which is above the last
+pub record PutsName (name : List ℕ) (old new : Written) : Type 0 where
+  pub above : is_lt (slice_cmp nat_cmp old.1 name) ≡ true
+  pub line : new ≡ (old.0 ++ 44 ∷ quoted name ++ 58 ∷ [], name)
+
+-- a pair was put, whose name is above the last
+pub record PutsPair (pair : List ℕ × Value) (old new : Written) : Type 0 where
+  pub above : is_lt (slice_cmp nat_cmp old.1 pair.0) ≡ true
+  pub texts : is_utf8_pair pair ≡ true
+  pub line : new ≡ (old.0 ++ 44 ∷ pair_text pair, pair.0)
+
+-- the names of pairs rise, from one that is below them to the last
+abbrev pub Rise : List ℕ → List (List ℕ × Value) → List ℕ → Type 0
+Rise from [] to = from ≡ to
+Rise from (pair ∷ pairs) to = (is_lt (slice_cmp nat_cmp from pair.0) ≡ true) × Rise pair.0 pairs to
+
+-- the kind of further data, whose names aren't in the table of fields
+abbrev pub is_extra : FieldType → Bool
+is_extra kind.Extra = true
+is_extra _ = false
 
 -- a field got what cleaning gave
-pub record PutsCleaned (key : List ℕ) (cleaned : Result Value FieldFault) (old new : FieldMap) : Type 0 where
+pub record PutsCleaned (key : List ℕ) (cleaned : Result Value FieldFault) (old new : Written) : Type 0 where
   pub value : Value
   pub is : cleaned ≡ Ok value
-  pub fields : new ≡ insert old key value
+  pub pair : PutsPair (key, value) old new
+
+-- a field got what its kind made of a stripped text
+pub record PutsKept (key text : List ℕ) (made : Result Kept FieldFault) (old new : Written) : Type 0 where
+  pub kept : Kept
+  pub is : made ≡ Ok kept
+  pub pair : PutsPair (key, kept_value text kept) old new
 
 -- a field got its canonical value for a value
-pub record SetsValue (key : List ℕ) (v : Value) (old new : FieldMap) : Type 0 where
+pub record PutsValue (key : List ℕ) (v : Value) (old new : Written) : Type 0 where
   pub value : Value
   pub is : value_for key v ≡ Some value
-  pub fields : new ≡ insert old key value
+  pub pair : PutsPair (key, value) old new
 
--- the leaves set what the fields got, and none of them is bad
-pub record Sets (all : List (List ℕ × Data)) (old new : FieldMap) : Type 0 where
-  pub fields : new ≡ put_pairs (pairs_of all) old
+-- what the leaves set was put, and none of them is bad
+pub record PutsLeaves (all : List (List ℕ × Data)) (old new : Written) : Type 0 where
+  pub typed : AreTyped (pairs_of all)
+  pub text : new.0 ≡ old.0 ++ pairs_text (pairs_of all)
+  pub rise : Rise old.1 (pairs_of all) new.1
   pub good : bad_names all ≡ []
 
 -- the same of the leaves of a value, of a member of a message, of the members of an object, and of those of a message
-pub record SetsTree (key : List ℕ) (j : json.Json) (old new : FieldMap) : Type 0 where
+pub record PutsTree (key : List ℕ) (j : json.Json) (old new : Written) : Type 0 where
   pub in_range : IsData j
-  pub sets : Sets (leaves key (data_of j)) old new
+  pub puts : PutsLeaves (leaves key (data_of j)) old new
 
-pub record SetsAt (key : List ℕ) (j : json.Json) (old new : FieldMap) : Type 0 where
+pub record PutsAt (key : List ℕ) (j : json.Json) (old new : Written) : Type 0 where
   pub in_range : IsData j
-  pub sets : Sets (leaves_at key (data_of j)) old new
+  pub puts : PutsLeaves (leaves_at key (data_of j)) old new
 
-pub record SetsMembers (key : List ℕ) (ms : List Named) (old new : FieldMap) : Type 0 where
+pub record PutsMembers (key : List ℕ) (ms : List Named) (old new : Written) : Type 0 where
   pub in_range : AreData ms
-  pub sets : Sets (leaves_in key (data_members ms)) old new
+  pub puts : PutsLeaves (leaves_in key (data_members ms)) old new
 
-pub record SetsAll (ms : List Named) (old new : FieldMap) : Type 0 where
+pub record PutsAll (ms : List Named) (old new : Written) : Type 0 where
   pub in_range : AreData ms
-  pub sets : Sets (leaves_of (data_members ms)) old new
+  pub puts : PutsLeaves (leaves_of (data_members ms)) old new
 
 -- ---- the message
 
@@ -162,3 +201,10 @@ pub record ReadsAs (text : List ℕ) (message : Message) : Type 0 where
   pub tree : Data
   pub read : read_json text ≡ Some tree
   pub is : lenient_tree tree ≡ Ok message
+
+-- the text is that of such a message
+pub record HasText (IsIt : Message → Type 0) (text : List ℕ) : Type 0 where
+  pub message : Message
+  pub is : IsIt message
+  pub typed : IsTyped message
+  pub text_is : text ≡ message_text message

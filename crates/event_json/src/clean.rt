@@ -1,10 +1,13 @@
 //! The lenient reading of messages.
-ghost use Rattle.std.specs.Prelude.{◌≡◌, Ok, IfOk, IfSome, MatchResult};
+ghost use Rattle.std.specs.Prelude.{◌≡◌, ◌++◌, Ok, Err, IfErr, IfOk, IsErr, MatchResult, OnErr, OnOk, true};
 ghost use Rattle.event_model.specs.Lenient.{IsFaultOf};
 ghost use Rattle.event_model.specs.Trees.{json_of};
-ghost use Rattle.event_json.specs.Lenient.{lenient, of_tree};
+ghost use Rattle.event_json.specs.Direct.{HasText};
+ghost use Rattle.event_json.specs.Lenient.{lenient, of_tree, PutsText};
 
-use crate::direct::message_in;
+use crate::direct::write_text;
+use crate::line::Line;
+use crate::strict::message_in;
 use base_types::OutOfMemory;
 use event_model::{Message, ReadFault, clean_tree, read_tree};
 use json::Scratch;
@@ -12,38 +15,40 @@ use scalar_text::{has_decimals, quote_decimals};
 use std::alloc::Global;
 use std::str;
 
-// The message of bytes whose decimals stand under quotes, where they are of the usual forms.
-fn message_of_quoted(
+// Makes the line the text of the message of bytes whose decimals stand under quotes, where they are of the usual forms.
+fn write_quoted(
     alloc: Global,
     bytes: &[u8],
     scratch: &mut Scratch,
-) -> Result<Option<Message>, OutOfMemory>
-    ensures { IfOk result (λ found. IfSome found (λ message. of_tree (json_of bytes.now) ≡ Ok message)) }
+    line: &mut Line,
+) -> Result<bool, OutOfMemory>
+    ensures { IfOk result (λ taken. taken ≡ true → HasText (λ message. of_tree (json_of bytes.now) ≡ Ok message) line.new.0) }
 {
     match str::from_utf8(bytes) {
-        Ok(text) => message_in(alloc, text, scratch),
-        Err(_) => Ok(None),
+        Ok(text) => write_text(alloc, text, scratch, line),
+        Err(_) => Ok(false),
     }
 }
 
-// The message of bytes of the usual forms.
-fn message_of(
+// Makes the line the text of the message of bytes of the usual forms.
+fn write_usual(
     alloc: Global,
     bytes: &[u8],
     scratch: &mut Scratch,
-) -> Result<Option<Message>, OutOfMemory>
-    ensures { IfOk result (λ found. IfSome found (λ message. lenient bytes.now ≡ Ok message)) }
+    line: &mut Line,
+) -> Result<bool, OutOfMemory>
+    ensures { IfOk result (λ taken. taken ≡ true → HasText (λ message. lenient bytes.now ≡ Ok message) line.new.0) }
 {
     if !has_decimals(bytes) {
-        return message_of_quoted(alloc, bytes, scratch);
+        return write_quoted(alloc, bytes, scratch, line);
     }
     let quoted = quote_decimals(alloc, bytes)?;
-    message_of_quoted(alloc, quoted.bytes(), scratch)
+    write_quoted(alloc, quoted.bytes(), scratch, line)
 }
 
-// The message of any bytes, or their first fault.
+/// The message of any bytes, or their first fault, by a tree.
 #[tactic(auto, unfolding(crate::specs::Lenient::lenient))]
-fn clean_any(alloc: Global, bytes: &[u8]) -> Result<Message, ReadFault>
+pub fn clean_any(alloc: Global, bytes: &[u8]) -> Result<Message, ReadFault>
     ensures { MatchResult result (λ message. lenient bytes.now ≡ Ok message) (IsFaultOf (lenient bytes.now)) }
 {
     match read_tree(alloc, bytes) {
@@ -52,10 +57,50 @@ fn clean_any(alloc: Global, bytes: &[u8]) -> Result<Message, ReadFault>
     }
 }
 
+// Makes the line the text of the message of any bytes.
+fn write_any(alloc: Global, bytes: &[u8], line: &mut Line) -> Result<(), ReadFault>
+    ensures text { OnOk result (HasText (λ message. lenient bytes.now ≡ Ok message) line.new.0) }
+    ensures fault { IfErr result (IsFaultOf (lenient bytes.now)) }
+{
+    let message = match clean_any(alloc, bytes) {
+        Ok(message) => message,
+        Err(fault) => return Err(fault),
+    };
+    match line.write(&message) {
+        Ok(()) => Ok(()),
+        Err(OutOfMemory) => Err(ReadFault::OutOfMemory),
+    }
+}
+
+// The message of the bytes, by its canonical text.
+fn message_of(alloc: Global, bytes: &[u8], text: &[u8]) -> Result<Message, ReadFault>
+    requires { HasText (λ message. lenient bytes.now ≡ Ok message) text.now }
+    ensures { MatchResult result (λ message. lenient bytes.now ≡ Ok message) (IsFaultOf (lenient bytes.now)) }
+{
+    match message_in(alloc, text) {
+        Ok(Some(message)) => Ok(message),
+        Ok(None) => clean_any(alloc, bytes),
+        Err(OutOfMemory) => Err(ReadFault::OutOfMemory),
+    }
+}
+
+// Puts a text behind `out`.
+fn put_behind(out: &mut Vec<u8>, text: &[u8]) -> Result<(), ReadFault>
+    ensures text { OnOk result (out.new.items ≡ out.old.items ++ text.now) }
+    ensures fault { IsErr result → result ≡ Err ReadFault.OutOfMemory }
+    ensures same { OnErr result (out.new.items ≡ out.old.items) }
+{
+    match out.extend_from_slice(text) {
+        Ok(()) => Ok(()),
+        Err(_) => Err(ReadFault::OutOfMemory),
+    }
+}
+
 /// Reads messages leniently, one after the other, in memory that it keeps.
 #[derive(Drop)]
 pub struct Cleaner {
     scratch: Scratch,
+    line: Line,
 }
 
 impl Cleaner {
@@ -63,6 +108,37 @@ impl Cleaner {
     pub fn new(alloc: Global) -> Self {
         Cleaner {
             scratch: Scratch::new(alloc),
+            line: Line::new(alloc),
+        }
+    }
+
+    // Makes the line the text of the message of the bytes.
+    fn write(&mut self, alloc: Global, bytes: &[u8]) -> Result<(), ReadFault>
+        ensures text { OnOk result (HasText (λ message. lenient bytes.now ≡ Ok message) self.new.line.0) }
+        ensures fault { IfErr result (IsFaultOf (lenient bytes.now)) }
+    {
+        match write_usual(alloc, bytes, &mut self.scratch, &mut self.line) {
+            Ok(true) => Ok(()),
+            Ok(false) => write_any(alloc, bytes, &mut self.line),
+            Err(OutOfMemory) => Err(ReadFault::OutOfMemory),
+        }
+    }
+
+    /// Puts the canonical text of a message, as `clean_message` reads it, behind `out`. Where it gives a fault, `out`
+    /// stays.
+    pub fn push_clean(
+        &mut self,
+        alloc: Global,
+        bytes: &[u8],
+        out: &mut Vec<u8>,
+    ) -> Result<(), ReadFault>
+        ensures text { OnOk result (PutsText (lenient bytes.now) out.old.items out.new.items) }
+        ensures fault { IfErr result (IsFaultOf (lenient bytes.now)) }
+        ensures same { OnErr result (out.new.items ≡ out.old.items) }
+    {
+        match self.write(alloc, bytes) {
+            Ok(()) => put_behind(out, self.line.text()),
+            Err(fault) => Err(fault),
         }
     }
 
@@ -71,9 +147,9 @@ impl Cleaner {
     pub fn clean_message(&mut self, alloc: Global, bytes: &[u8]) -> Result<Message, ReadFault>
         ensures { MatchResult result (λ message. lenient bytes.now ≡ Ok message) (IsFaultOf (lenient bytes.now)) }
     {
-        match message_of(alloc, bytes, &mut self.scratch) {
-            Ok(Some(message)) => Ok(message),
-            Ok(None) => clean_any(alloc, bytes),
+        match write_usual(alloc, bytes, &mut self.scratch, &mut self.line) {
+            Ok(true) => message_of(alloc, bytes, self.line.text()),
+            Ok(false) => clean_any(alloc, bytes),
             Err(OutOfMemory) => Err(ReadFault::OutOfMemory),
         }
     }

@@ -1,16 +1,17 @@
-//! The reading of a usual JSON text as a message, without a tree that owns its texts.
+//! The canonical text of the message that a usual JSON text is, without the message.
 ghost use Rattle.std.specs.Prelude.{◌≡◌, [], true, Some, IfOk, IfSome};
 ghost use Rattle.json.specs.Json.{value};
 ghost use Rattle.json.specs.Lex.{tokens};
 ghost use Rattle.json.specs.Value.{value_view, members_view};
 ghost use Rattle.serde_json.specs.Find.{get_member};
 ghost use Rattle.event_model.specs.Lenient.{kind_of, type_key};
-ghost use Rattle.event_json.specs.Direct.{data_members, named_values, kind_in, IsMessageOf, IsMessageOfTree, ReadsAs, SetsAt, SetsAll};
+ghost use Rattle.event_json.specs.Direct.{data_members, named_values, kind_in, HasText, IsMessageOf, IsMessageOfTree, ReadsAs, PutsAt, PutsAll};
 
-use crate::leaf::{add_tree, may_be_decimal};
+use crate::leaf::{may_be_decimal, push_tree};
+use crate::line::Line;
 use crate::ordered::{Member, in_order};
 use base_types::OutOfMemory;
-use event_model::{FieldsBuilder, Kind, Message, kind_of_word};
+use event_model::{Kind, kind_of_word};
 use json::{Error, Reader, Scratch, Value as Tree};
 use std::alloc::Global;
 
@@ -46,31 +47,31 @@ fn kind_of(members: &[Member<'_, '_>]) -> Option<Kind>
     Some(Kind::Event)
 }
 
-// Sets what a member of a message sets, which its kind doesn't.
-fn add_member<'m, 't>(
+// Puts what a member of a message sets, which its kind doesn't.
+fn push_member<'m, 't>(
     alloc: Global,
     name: &str,
     value: &'m Tree<'t>,
-    fields: &mut FieldsBuilder,
+    line: &mut Line,
 ) -> Result<bool, OutOfMemory>
-    ensures { IfOk result (λ taken. taken ≡ true → SetsAt name.now (value_view value.now) fields.old fields.new) }
+    ensures { IfOk result (λ taken. taken ≡ true → PutsAt name.now (value_view value.now) line.old line.new) }
 {
     if name == TYPE_KEY {
         return Ok(matches!(value, Tree::String(_)));
     }
-    add_tree(alloc, name, value, FIELD_DEPTH, fields)
+    push_tree(alloc, name, value, FIELD_DEPTH, line)
 }
 
-fn add_all<'m, 't>(
+fn push_all<'m, 't>(
     alloc: Global,
     members: &[Member<'m, 't>],
-    fields: &mut FieldsBuilder,
+    line: &mut Line,
 ) -> Result<bool, OutOfMemory>
-    ensures { IfOk result (λ taken. taken ≡ true → SetsAll (named_values members.now) fields.old fields.new) }
+    ensures { IfOk result (λ taken. taken ≡ true → PutsAll (named_values members.now) line.old line.new) }
 {
     let mut rest = members;
     'members: while let [member, more @ ..] = rest {
-        if !add_member(alloc, member.0, member.1, fields)? {
+        if !push_member(alloc, member.0, member.1, line)? {
             return Ok(false);
         }
         rest = more;
@@ -78,30 +79,29 @@ fn add_all<'m, 't>(
     Ok(true)
 }
 
-// The message of an object's members.
-fn message_of<'m, 't>(
+// Makes the line the text of the message of an object's members.
+fn write_members<'m, 't>(
     alloc: Global,
     members: &'m [(&'t str, Tree<'t>)],
-) -> Result<Option<Message>, OutOfMemory>
-    ensures { IfOk result (λ found. IfSome found (IsMessageOf (members_view members.now))) }
+    line: &mut Line,
+) -> Result<bool, OutOfMemory>
+    ensures { IfOk result (λ taken. taken ≡ true → HasText (IsMessageOf (members_view members.now)) line.new.0) }
 {
     let Some(ordered) = in_order(alloc, members)? else {
-        return Ok(None);
+        return Ok(false);
     };
     if may_be_decimal(&ordered) {
-        return Ok(None);
+        return Ok(false);
     }
     let Some(kind) = kind_of(&ordered) else {
-        return Ok(None);
+        return Ok(false);
     };
-    let mut fields = FieldsBuilder::new(alloc);
-    if !add_all(alloc, &ordered, &mut fields)? {
-        return Ok(None);
+    line.begin(kind)?;
+    if !push_all(alloc, &ordered, line)? {
+        return Ok(false);
     }
-    Ok(Some(Message {
-        kind,
-        fields: fields.build()?,
-    }))
+    line.end()?;
+    Ok(true)
 }
 
 // The JSON value of a text: nothing where it has none.
@@ -126,29 +126,32 @@ fn tree_of<'t>(
     Ok(Some(tree))
 }
 
-// The message of a JSON value.
-fn message_of_tree<'m, 't>(
+// Makes the line the text of the message of a JSON value.
+fn write_tree<'m, 't>(
     alloc: Global,
     tree: &'m Tree<'t>,
-) -> Result<Option<Message>, OutOfMemory>
-    ensures { IfOk result (λ found. IfSome found (IsMessageOfTree (value_view tree.now))) }
+    line: &mut Line,
+) -> Result<bool, OutOfMemory>
+    ensures { IfOk result (λ taken. taken ≡ true → HasText (IsMessageOfTree (value_view tree.now)) line.new.0) }
 {
     match tree {
-        Tree::Object(members) => message_of(alloc, members),
-        _ => Ok(None),
+        Tree::Object(members) => write_members(alloc, members, line),
+        _ => Ok(false),
     }
 }
 
-/// The message that a JSON text is, where it is one of the usual forms: nothing where it may be none.
-pub fn message_in(
+/// Makes the line the canonical text of the message that a JSON text is, and answers whether the text is one of the usual
+/// forms: where it isn't, the line is of no use.
+pub fn write_text(
     alloc: Global,
     text: &str,
     scratch: &mut Scratch,
-) -> Result<Option<Message>, OutOfMemory>
-    ensures { IfOk result (λ found. IfSome found (ReadsAs text.now)) }
+    line: &mut Line,
+) -> Result<bool, OutOfMemory>
+    ensures { IfOk result (λ taken. taken ≡ true → HasText (ReadsAs text.now) line.new.0) }
 {
     let Some(tree) = tree_of(alloc, text, scratch)? else {
-        return Ok(None);
+        return Ok(false);
     };
-    message_of_tree(alloc, &tree)
+    write_tree(alloc, &tree, line)
 }

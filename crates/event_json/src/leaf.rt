@@ -1,20 +1,22 @@
-//! What the values of JSON members set.
-ghost use Rattle.std.specs.Prelude.{◌≡◌, ◌==◌, ◌∷◌, [], true, false, None, Some, IfOk, IfSome, slice_index, string_bytes};
+//! What the values of JSON members put into a canonical text.
+ghost use Rattle.std.specs.Prelude.{◌≡◌, ◌==◌, ◌∷◌, [], true, false, flat_map, None, Some, IfOk, IfSome, slice_index, string_bytes};
 ghost use Rattle.json.specs.Json.{object};
 ghost use Rattle.json.specs.Value.{value_view, items_view, members_view};
 ghost use Rattle.serde_json.specs.Data.{string, unsigned};
 ghost use Rattle.serde_json.specs.Read.{number_from};
-ghost use Rattle.event_model.specs.Fields.{IsField};
 ghost use Rattle.event_model.specs.Lenient.{member_name};
 ghost use Rattle.event_model.specs.Trees.{lexeme_in};
-ghost use Rattle.event_json.specs.Direct.{data_members, named_values, IsItem, IsDecimal, AreItems, IsWhole, PutsCleaned, Sets, SetsValue, SetsTree, SetsMembers};
+ghost use Rattle.field_types.specs.Field.{type_of};
+ghost use Rattle.field_types.specs.Writing.{escaped};
+ghost use Rattle.event_json.specs.Direct.{data_members, named_values, is_extra, IsItem, IsDecimal, AreItems, IsWhole, PutsCleaned, PutsKept, PutsLeaves, PutsValue, PutsTree, PutsMembers};
 
+use crate::line::Line;
 use crate::ordered::{Member, in_order};
 use base_types::{OutOfMemory, Text};
-use event_model::{FieldsBuilder, flattens, is_dropped_text};
+use event_model::{flattens, is_dropped_text};
 use fast_float::Numeral;
 use field_types::{
-    FieldFault, Item, ItemList, Value, sanitise_own, sanitise_text, strip, type_of_bytes,
+    FieldFault, FieldType, Item, ItemList, Kept, Value, keep, sanitise_own, strip, type_of_bytes,
 };
 use json::Value as Tree;
 use scalar_text::read_decimal;
@@ -99,49 +101,77 @@ fn items_of(alloc: Global, values: &[Tree<'_>]) -> Result<Option<ItemList>, OutO
     Ok(Some(ItemList::from(items)))
 }
 
-// Sets a field to what cleaning gave.
-fn put_cleaned(
-    alloc: Global,
+fn is_extra(kind: FieldType) -> bool
+    ensures { result ≡ is_extra kind }
+{
+    match kind {
+        FieldType::Extra => true,
+        _ => false,
+    }
+}
+
+// Whether a field is one of the table. Their names stand in JSON strings as they are.
+fn is_of_table(key: &str, kind: FieldType) -> bool
+    requires { type_of key.now ≡ Some kind }
+    ensures { result ≡ true → flat_map escaped key.now ≡ key.now }
+{
+    !is_extra(kind)
+}
+
+// Puts a field with what cleaning gave.
+fn push_cleaned(
     key: &str,
+    plain: bool,
     cleaned: Result<Value, FieldFault>,
-    fields: &mut FieldsBuilder,
+    line: &mut Line,
 ) -> Result<bool, OutOfMemory>
-    requires { IfOk cleaned (IsField key.now) }
-    ensures { IfOk result (λ taken. taken ≡ true → PutsCleaned key.now cleaned fields.old fields.new) }
+    requires { plain ≡ true → flat_map escaped key.now ≡ key.now }
+    ensures { IfOk result (λ taken. taken ≡ true → PutsCleaned key.now cleaned line.old line.new) }
 {
     match cleaned {
-        Ok(value) => {
-            fields.put(Text::from(String::from_str(alloc, key)?), value)?;
-            Ok(true)
-        }
+        Ok(value) => line.push(key, plain, &value),
         Err(FieldFault::BadValue) => Ok(false),
         Err(FieldFault::OutOfMemory) => Err(OutOfMemory),
     }
 }
 
-// Sets a field to its canonical value for a value.
-fn add_value(
-    alloc: Global,
-    key: &str,
-    value: Value,
-    fields: &mut FieldsBuilder,
-) -> Result<bool, OutOfMemory>
-    ensures { IfOk result (λ taken. taken ≡ true → SetsValue key.now value fields.old fields.new) }
+// Puts a field with its canonical value for a value.
+fn push_value(alloc: Global, key: &str, value: Value, line: &mut Line) -> Result<bool, OutOfMemory>
+    ensures { IfOk result (λ taken. taken ≡ true → PutsValue key.now value line.old line.new) }
 {
     let Some(kind) = type_of_bytes(key.as_bytes()) else {
         return Ok(false);
     };
-    put_cleaned(alloc, key, sanitise_own(alloc, kind, value), fields)
+    push_cleaned(
+        key,
+        is_of_table(key, kind),
+        sanitise_own(alloc, kind, value),
+        line,
+    )
 }
 
-// Sets a field to its canonical value for a text, which isn't copied before.
-fn add_text(
-    alloc: Global,
+// Puts a field with what its kind made of a stripped text, which isn't copied before.
+fn push_kept(
     key: &str,
+    plain: bool,
     text: &str,
-    fields: &mut FieldsBuilder,
+    kept: Result<Kept, FieldFault>,
+    line: &mut Line,
 ) -> Result<bool, OutOfMemory>
-    ensures { IfOk result (λ taken. taken ≡ true → Sets ((key.now, string text.now) ∷ []) fields.old fields.new) }
+    requires { plain ≡ true → flat_map escaped key.now ≡ key.now }
+    ensures { IfOk result (λ taken. taken ≡ true → PutsKept key.now text.now kept line.old line.new) }
+{
+    match kept {
+        Ok(Kept::Same) => line.push_text(key, plain, text),
+        Ok(Kept::Other(value)) => line.push(key, plain, &value),
+        Err(FieldFault::BadValue) => Ok(false),
+        Err(FieldFault::OutOfMemory) => Err(OutOfMemory),
+    }
+}
+
+// Puts a field with its canonical value for a text.
+fn push_text(alloc: Global, key: &str, text: &str, line: &mut Line) -> Result<bool, OutOfMemory>
+    ensures { IfOk result (λ taken. taken ≡ true → PutsLeaves ((key.now, string text.now) ∷ []) line.old line.new) }
 {
     let stripped = strip(text);
     if is_dropped_text(stripped) {
@@ -150,7 +180,13 @@ fn add_text(
     let Some(kind) = type_of_bytes(key.as_bytes()) else {
         return Ok(false);
     };
-    put_cleaned(alloc, key, sanitise_text(alloc, kind, text), fields)
+    push_kept(
+        key,
+        is_of_table(key, kind),
+        stripped,
+        keep(alloc, kind, stripped),
+        line,
+    )
 }
 
 // The name of a member of an object that is flattened, if it isn't longer than those of fields.
@@ -177,47 +213,47 @@ pub fn may_be_decimal(members: &[Member<'_, '_>]) -> bool
     }
 }
 
-/// Sets the fields that a value under this name sets, and answers whether all of it is of the usual forms: what it set
-/// counts only then. Objects may nest so deep.
+/// Puts the fields that a value under this name sets, and answers whether all of it is of the usual forms and names rise:
+/// what it put counts only then. Objects may nest so deep.
 #[cycle(direct)]
-pub fn add_tree<'m, 't>(
+pub fn push_tree<'m, 't>(
     alloc: Global,
     key: &str,
     value: &'m Tree<'t>,
     depth: usize,
-    fields: &mut FieldsBuilder,
+    line: &mut Line,
 ) -> Result<bool, OutOfMemory>
-    ensures { IfOk result (λ taken. taken ≡ true → SetsTree key.now (value_view value.now) fields.old fields.new) }
+    ensures { IfOk result (λ taken. taken ≡ true → PutsTree key.now (value_view value.now) line.old line.new) }
 {
     match value {
         Tree::Null => Ok(true),
-        Tree::String(text) => add_text(alloc, key, text, fields),
-        Tree::Bool(flag) => add_value(alloc, key, Value::Flag(*flag), fields),
+        Tree::String(text) => push_text(alloc, key, text, line),
+        Tree::Bool(flag) => push_value(alloc, key, Value::Flag(*flag), line),
         Tree::Number(numeral) => match whole_in(numeral) {
-            Some(n) => add_value(alloc, key, Value::Whole(n), fields),
+            Some(n) => push_value(alloc, key, Value::Whole(n), line),
             None => Ok(false),
         },
         Tree::Array(values) => match items_of(alloc, values)? {
-            Some(items) => add_value(alloc, key, Value::List(items), fields),
+            Some(items) => push_value(alloc, key, Value::List(items), line),
             None => Ok(false),
         },
-        Tree::Object(members) => add_object(alloc, key, members, depth, fields),
+        Tree::Object(members) => push_object(alloc, key, members, depth, line),
     }
 }
 
 #[cycle(direct)]
-fn add_object<'m, 't>(
+fn push_object<'m, 't>(
     alloc: Global,
     key: &str,
     members: &'m [(&'t str, Tree<'t>)],
     depth: usize,
-    fields: &mut FieldsBuilder,
+    line: &mut Line,
 ) -> Result<bool, OutOfMemory>
-    ensures { IfOk result (λ taken. taken ≡ true → SetsTree key.now (object (members_view members.now)) fields.old fields.new) }
+    ensures { IfOk result (λ taken. taken ≡ true → PutsTree key.now (object (members_view members.now)) line.old line.new) }
 {
     if let [member] = members {
         if let Some(n) = decimal_in(member.0, &member.1) {
-            return add_value(alloc, key, Value::Decimal(n), fields);
+            return push_value(alloc, key, Value::Decimal(n), line);
         }
     }
     if depth == 0 || !flattens(key.as_bytes()) {
@@ -229,25 +265,25 @@ fn add_object<'m, 't>(
     if may_be_decimal(&ordered) {
         return Ok(false);
     }
-    add_members(alloc, key, &ordered, depth - 1, fields)
+    push_members(alloc, key, &ordered, depth - 1, line)
 }
 
 #[cycle(direct)]
-fn add_members<'m, 't>(
+fn push_members<'m, 't>(
     alloc: Global,
     key: &str,
     members: &[Member<'m, 't>],
     depth: usize,
-    fields: &mut FieldsBuilder,
+    line: &mut Line,
 ) -> Result<bool, OutOfMemory>
-    ensures { IfOk result (λ taken. taken ≡ true → SetsMembers key.now (named_values members.now) fields.old fields.new) }
+    ensures { IfOk result (λ taken. taken ≡ true → PutsMembers key.now (named_values members.now) line.old line.new) }
 {
     let mut rest = members;
     'members: while let [member, more @ ..] = rest {
         let Some(name) = member_name(alloc, key, member.0)? else {
             return Ok(false);
         };
-        if !add_tree(alloc, &name, member.1, depth, fields)? {
+        if !push_tree(alloc, &name, member.1, depth, line)? {
             return Ok(false);
         }
         rest = more;

@@ -4,6 +4,7 @@
 mod clean;
 mod direct;
 mod leaf;
+mod line;
 mod ordered;
 mod pairs;
 mod strict;

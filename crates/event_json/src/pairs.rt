@@ -5,12 +5,15 @@ ghost use Rattle.std.specs.Str.{bytes_eq};
 ghost use Rattle.event_model.specs.Fields.{FieldMap};
 ghost use Rattle.event_json.specs.Decode.{behind_comma, pair_at, value_behind_colon, IsTextOfFields, TakesField, TakesNone};
 
-use crate::string::text_at;
+use crate::string::name_at;
 use crate::value::value_at;
-use base_types::{OutOfMemory, Text};
+use base_types::OutOfMemory;
 use event_model::{Fields, is_field};
-use field_types::Value;
+use field_types::{FieldName, Value};
 use std::alloc::Global;
+
+// Most messages have fewer fields.
+const USUAL_FIELDS: usize = 24;
 
 // The value behind a colon, and what is behind it.
 fn value_behind_colon(alloc: Global, rest: &[u8]) -> Result<Option<(Value, &[u8])>, OutOfMemory>
@@ -24,13 +27,13 @@ fn value_behind_colon(alloc: Global, rest: &[u8]) -> Result<Option<(Value, &[u8]
 
 // The pair at the front, and what is behind it.
 #[tactic(auto, unfolding(crate::specs::Decode::pair_at))]
-fn pair_at(alloc: Global, rest: &[u8]) -> Result<Option<(Text, Value, &[u8])>, OutOfMemory>
+fn pair_at(alloc: Global, rest: &[u8]) -> Result<Option<(FieldName, Value, &[u8])>, OutOfMemory>
     ensures { IfOk result (λ found. option_map (λ at. ((at.0, at.1), at.2.now)) found ≡ pair_at rest.now) }
 {
     let [b'"', inside @ ..] = rest else {
         return Ok(None);
     };
-    let Some((name, behind)) = text_at(alloc, inside)? else {
+    let Some((name, behind)) = name_at(alloc, inside)? else {
         return Ok(None);
     };
     match value_behind_colon(alloc, behind)? {
@@ -53,7 +56,7 @@ fn take_field<'a>(
     let Some((name, value, behind)) = pair_at(alloc, text)? else {
         return Ok(None);
     };
-    if !is_field(alloc, name.bytes(), &value)? {
+    if !is_field(alloc, &name, &value)? {
         return Ok(None);
     }
     if fields.push(name, value)? {
@@ -83,7 +86,7 @@ pub fn fields_at(alloc: Global, text: &[u8]) -> Result<Option<Fields>, OutOfMemo
     ensures sound { IfOk result (λ found. IfSome found (IsTextOfFields text.now)) }
     ensures complete { (fields : FieldMap) → IsTextOfFields text.now fields → IfOk result (λ found. found ≡ Some fields) }
 {
-    let mut fields = Fields::new(alloc);
+    let mut fields = Fields::with_capacity(alloc, USUAL_FIELDS)?;
     let mut rest = text;
     'fields: loop {
         if is_end(rest) {

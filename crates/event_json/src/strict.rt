@@ -5,7 +5,7 @@ ghost use Rattle.event_model.specs.declared.message.Message.{Message as AnyMessa
 ghost use Rattle.event_json.specs.Decode.{opening};
 ghost use Rattle.event_json.specs.Strict.{IsStrictFault, IsTextOf};
 
-use crate::clean::clean_message;
+use crate::clean::clean_any;
 use crate::pairs::fields_at;
 use crate::write::opening;
 use base_types::OutOfMemory;
@@ -32,8 +32,8 @@ fn kind_at(text: &[u8]) -> Option<(Kind, &[u8])>
     }
 }
 
-// The message whose canonical text the bytes are.
-fn message_in(alloc: Global, bytes: &[u8]) -> Result<Option<Message>, OutOfMemory>
+/// The message whose canonical text the bytes are.
+pub fn message_in(alloc: Global, bytes: &[u8]) -> Result<Option<Message>, OutOfMemory>
     ensures sound { IfOk result (λ found. IfSome found (IsTextOf bytes.now)) }
     ensures complete { (message : AnyMessage) → IsTextOf bytes.now message → IfOk result (λ found. found ≡ Some message) }
 {
@@ -55,7 +55,7 @@ pub fn read_message(alloc: Global, bytes: &[u8]) -> Result<Message, ReadFault>
 {
     match message_in(alloc, bytes) {
         Ok(Some(message)) => Ok(message),
-        Ok(None) => match clean_message(alloc, bytes) {
+        Ok(None) => match clean_any(alloc, bytes) {
             Ok(_) => Err(ReadFault::Spelling),
             Err(fault) => Err(fault),
         },

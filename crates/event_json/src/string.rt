@@ -3,7 +3,7 @@ ghost use Rattle.std.specs.Prelude.{◌≡◌, ◌∷◌, ◌≤◌, length, opt
 ghost use Rattle.event_json.specs.Decode.{string_end, escape_end, KeepsEnd, short_escape, digit_of, control, unescaped, unescaped_behind, unescaped_control, utf8_text, is_content_of, text_in, text_at};
 
 use base_types::{OutOfMemory, Text, TextFault};
-use field_types::{has_escapes, push_quoted};
+use field_types::{FieldName, has_escapes, push_quoted};
 use memchr::{memchr, memchr2};
 use std::alloc::Global;
 
@@ -159,4 +159,31 @@ pub fn text_at(alloc: Global, inside: &[u8]) -> Result<Option<(Text, &[u8])>, Ou
         return Ok(None);
     };
     Ok(Some((text, behind)))
+}
+
+// The name that a content writes canonically.
+fn name_in(alloc: Global, content: &[u8]) -> Result<Option<FieldName>, OutOfMemory>
+    ensures { IfOk result (λ found. found ≡ text_in content.now) }
+{
+    if let Some(known) = FieldName::known(content) {
+        return Ok(Some(known));
+    }
+    match text_in(alloc, content)? {
+        Some(text) => Ok(Some(FieldName::from(text))),
+        None => Ok(None),
+    }
+}
+
+/// The name of a field whose inside begins here, as `text_at`. A name of the table of fields takes no memory.
+#[tactic(auto, unfolding(crate::specs::Decode::text_at))]
+pub fn name_at(alloc: Global, inside: &[u8]) -> Result<Option<(FieldName, &[u8])>, OutOfMemory>
+    ensures { IfOk result (λ found. option_map (λ at. (at.0, at.1.now)) found ≡ text_at inside.now) }
+{
+    let Some((content, behind)) = string_end(inside) else {
+        return Ok(None);
+    };
+    let Some(name) = name_in(alloc, content)? else {
+        return Ok(None);
+    };
+    Ok(Some((name, behind)))
 }

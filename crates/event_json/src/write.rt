@@ -5,22 +5,22 @@ ghost use Rattle.event_json.specs.Text.{pair_text, message_text};
 ghost use Rattle.event_json.specs.Decode.{opening, pairs_text};
 ghost use Rattle.event_json.specs.Strict.{is_utf8_pair, IsTyped};
 
-use base_types::{Blob, OutOfMemory, Text};
+use base_types::{Blob, OutOfMemory};
 use event_model::{Kind, Message};
-use field_types::{Value, push_text, push_value};
+use field_types::{FieldName, Value, push_name, push_value};
 use std::alloc::Global;
 
-fn push_pair(out: &mut Vec<u8>, pair: &(Text, Value)) -> Result<(), OutOfMemory>
+fn push_pair(out: &mut Vec<u8>, pair: &(FieldName, Value)) -> Result<(), OutOfMemory>
     ensures text { OnOk result (out.new.items ≡ out.old.items ++ pair_text pair.now) }
     ensures utf8 { OnOk result (is_utf8_pair pair.now ≡ true) }
 {
-    push_text(out, &pair.0)?;
+    push_name(out, &pair.0)?;
     out.push(b':')?;
     push_value(out, &pair.1)
 }
 
 // The pairs, each behind a comma.
-fn push_pairs(out: &mut Vec<u8>, pairs: &[(Text, Value)]) -> Result<(), OutOfMemory>
+fn push_pairs(out: &mut Vec<u8>, pairs: &[(FieldName, Value)]) -> Result<(), OutOfMemory>
     ensures text { OnOk result (out.new.items ≡ out.old.items ++ pairs_text pairs.now) }
     ensures utf8 { OnOk result (list_all is_utf8_pair pairs.now ≡ true) }
 {

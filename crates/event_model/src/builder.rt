@@ -10,8 +10,8 @@ ghost use Rattle.event_model.specs.Built.{is_below, has_same_name, AreSettled};
 
 use crate::Fields;
 use crate::place::is_above_all;
-use base_types::{OutOfMemory, Text};
-use field_types::Value;
+use base_types::OutOfMemory;
+use field_types::{FieldName, Value};
 use std::alloc::Global;
 use std::cmp::Ordering;
 use std::marker::Model;
@@ -22,7 +22,7 @@ use std::marker::Model;
 #[derive(Drop)]
 pub struct FieldsBuilder {
     // In the order in which they were set.
-    pairs: Vec<(Text, Value)>,
+    pairs: Vec<(FieldName, Value)>,
     // Whether each name is above all before it.
     rises: bool,
 }
@@ -44,20 +44,20 @@ impl Model for FieldsBuilder {
     ghost invariant = { λ b. AreBuilt b.pairs.items b.rises };
 }
 
-fn compare_names(a: &(Text, Value), b: &(Text, Value)) -> Ordering
+fn compare_names(a: &(FieldName, Value), b: &(FieldName, Value)) -> Ordering
     ensures { result ≡ slice_cmp nat_cmp a.now.0 b.now.0 }
 {
     a.0.bytes().cmp(b.0.bytes())
 }
 
-fn has_same_name(a: &(Text, Value), b: &(Text, Value)) -> bool
+fn has_same_name(a: &(FieldName, Value), b: &(FieldName, Value)) -> bool
     ensures { result ≡ has_same_name a.now b.now }
 {
     compare_names(a, b).is_eq()
 }
 
 // Whether the names still rise with this one behind them.
-fn goes_on(pairs: &[(Text, Value)], rises: bool, key: &[u8]) -> bool
+fn goes_on(pairs: &[(FieldName, Value)], rises: bool, key: &[u8]) -> bool
     requires { rises ≡ true → is_sorted (slice_cmp nat_cmp) pairs.now ≡ true }
     ensures { result ≡ (rises && is_above_all key.now pairs.now) }
 {
@@ -69,7 +69,7 @@ fn goes_on(pairs: &[(Text, Value)], rises: bool, key: &[u8]) -> bool
 }
 
 // Those of one name keep their order.
-fn sort_by_name(pairs: &mut Vec<(Text, Value)>) -> Result<(), OutOfMemory>
+fn sort_by_name(pairs: &mut Vec<(FieldName, Value)>) -> Result<(), OutOfMemory>
     ensures sorted { OnOk result (IsSortedBy is_below pairs.new.items) }
     ensures stable { IsStableBy is_below pairs.old.items pairs.new.items }
     ensures permutation { IsPermutation pairs.old.items pairs.new.items }
@@ -79,14 +79,14 @@ fn sort_by_name(pairs: &mut Vec<(Text, Value)>) -> Result<(), OutOfMemory>
 }
 
 // Of neighbours of one name the first stays.
-fn keep_first(pairs: &mut Vec<(Text, Value)>)
+fn keep_first(pairs: &mut Vec<(FieldName, Value)>)
     ensures { pairs.new.items ≡ dedup has_same_name pairs.old.items }
 {
     pairs.dedup_by(|a, b| has_same_name(a, b));
 }
 
 // Puts pairs in byte order of their names, where of those of one name the last stays.
-fn settle(pairs: &mut Vec<(Text, Value)>) -> Result<(), OutOfMemory>
+fn settle(pairs: &mut Vec<(FieldName, Value)>) -> Result<(), OutOfMemory>
     ensures { OnOk result (AreSettled pairs.old.items pairs.new.items) }
 {
     // The last of one name then comes first, and the sort leaves it there.
@@ -110,7 +110,7 @@ impl FieldsBuilder {
     }
 
     /// Sets a field to a value that is canonical for it. Without memory, nothing changes.
-    pub fn put(&mut self, key: Text, value: Value) -> Result<(), OutOfMemory>
+    pub fn put(&mut self, key: FieldName, value: Value) -> Result<(), OutOfMemory>
         requires { IsField key value }
         ensures ok { OnOk result (self.new ≡ insert self.old key value) }
         ensures err { OnErr result (self.new ≡ self.old) }

@@ -8,7 +8,7 @@ ghost use Rattle.event_model.specs.Edits.{wanted, set_to, added, updated, is_kep
 use crate::EventFault;
 use crate::place::{is_above_all, place_of};
 use base_types::{OutOfMemory, Text, TextList};
-use field_types::{FieldFault, Value, is_canonical, sanitise, type_of, type_of_bytes};
+use field_types::{FieldFault, FieldName, Value, is_canonical, sanitise, type_of};
 use std::alloc::Global;
 use std::marker::Model;
 
@@ -16,7 +16,7 @@ use std::marker::Model;
 #[derive(Debug, Drop)]
 pub struct Fields {
     // In byte order of the names.
-    pairs: Vec<(Text, Value)>,
+    pairs: Vec<(FieldName, Value)>,
 }
 
 impl Model for Fields {
@@ -35,7 +35,7 @@ impl Model for Fields {
 }
 
 // Puts a pair in place of the one that stands there.
-fn overwrite(pairs: &mut Vec<(Text, Value)>, i: usize, pair: (Text, Value))
+fn overwrite(pairs: &mut Vec<(FieldName, Value)>, i: usize, pair: (FieldName, Value))
     requires { i < length pairs.old.items }
     ensures { pairs.new.items ≡ slice_set pairs.old.items i pair }
 {
@@ -43,20 +43,23 @@ fn overwrite(pairs: &mut Vec<(Text, Value)>, i: usize, pair: (Text, Value))
 }
 
 // Takes the pair out that stands there.
-fn take_out(pairs: &mut Vec<(Text, Value)>, i: usize)
+fn take_out(pairs: &mut Vec<(FieldName, Value)>, i: usize)
     requires { i < length pairs.old.items }
     ensures { pairs.new.items ≡ without_item pairs.old.items i }
 {
     pairs.remove(i);
 }
 
-fn copy_pair(alloc: Global, pair: &(Text, Value)) -> Result<(Text, Value), OutOfMemory>
+fn copy_pair(alloc: Global, pair: &(FieldName, Value)) -> Result<(FieldName, Value), OutOfMemory>
     ensures { IfOk result (λ copied. copied ≡ pair.now) }
 {
     Ok((pair.0.copy(alloc)?, pair.1.copy(alloc)?))
 }
 
-fn copied_pairs(alloc: Global, pairs: &[(Text, Value)]) -> Result<Vec<(Text, Value)>, OutOfMemory>
+fn copied_pairs(
+    alloc: Global,
+    pairs: &[(FieldName, Value)],
+) -> Result<Vec<(FieldName, Value)>, OutOfMemory>
     ensures { IfOk result (λ copied. copied.items ≡ pairs.now) }
 {
     let mut copied = Vec::with_capacity(alloc, pairs.len())?;
@@ -66,13 +69,19 @@ fn copied_pairs(alloc: Global, pairs: &[(Text, Value)]) -> Result<Vec<(Text, Val
     Ok(copied)
 }
 
-fn is_one_of(keys: &TextList, key: &Text) -> bool
-    ensures { result ≡ list_any (bytes_eq key.now) keys.now }
+fn is_name(key: &FieldName, other: &Text) -> bool
+    ensures { result ≡ bytes_eq key.now other.now }
 {
-    keys.as_slice().iter().any(|other| key == other)
+    key.as_str() == other.as_str()
 }
 
-fn is_kept(keys: &TextList, keep: bool, key: &Text) -> bool
+fn is_one_of(keys: &TextList, key: &FieldName) -> bool
+    ensures { result ≡ list_any (bytes_eq key.now) keys.now }
+{
+    keys.as_slice().iter().any(|other| is_name(key, other))
+}
+
+fn is_kept(keys: &TextList, keep: bool, key: &FieldName) -> bool
     ensures { result ≡ is_kept keys.now keep key.now }
 {
     let found = is_one_of(keys, key);
@@ -82,10 +91,10 @@ fn is_kept(keys: &TextList, keep: bool, key: &Text) -> bool
 // The pairs that stay, one after the other.
 fn kept_pairs(
     alloc: Global,
-    pairs: &[(Text, Value)],
+    pairs: &[(FieldName, Value)],
     keys: &TextList,
     keep: bool,
-) -> Result<Vec<(Text, Value)>, OutOfMemory>
+) -> Result<Vec<(FieldName, Value)>, OutOfMemory>
     ensures { IfOk result (λ kept. kept.items ≡ filter (λ pair. is_kept keys.now keep pair.0) pairs.now) }
 {
     let mut kept = Vec::new(alloc);
@@ -114,10 +123,10 @@ fn wanted(alloc: Global, key: &Text, value: &Value) -> Result<Value, EventFault>
 
 /// Whether there is a field of this name, and the value is canonical for it.
 #[tactic(auto, unfolding(crate::specs::Fields::value_for))]
-pub fn is_field(alloc: Global, key: &[u8], value: &Value) -> Result<bool, OutOfMemory>
+pub fn is_field(alloc: Global, key: &FieldName, value: &Value) -> Result<bool, OutOfMemory>
     ensures { IfOk result (λ is. IsTrue is ↔ IsField key.now value.now) }
 {
-    match type_of_bytes(key) {
+    match key.kind() {
         Some(kind) => is_canonical(alloc, kind, value),
         None => Ok(false),
     }
@@ -135,8 +144,17 @@ impl Fields {
         }
     }
 
+    /// No fields, and room for so many.
+    pub fn with_capacity(alloc: Global, fields: usize) -> Result<Self, OutOfMemory>
+        ensures { IfOk result (λ none. none ≡ empty) }
+    {
+        Ok(Fields {
+            pairs: Vec::with_capacity(alloc, fields)?,
+        })
+    }
+
     // The fields that stand there.
-    pub(crate) fn of_pairs(pairs: Vec<(Text, Value)>) -> Self
+    pub(crate) fn of_pairs(pairs: Vec<(FieldName, Value)>) -> Self
         requires { AreFieldsInOrder pairs.items }
         ensures { result ≡ from_entries pairs.items }
     {
@@ -154,8 +172,8 @@ impl Fields {
         }
     }
 
-    /// Sets a field to a value that is canonical for it, without a look at its kind. Without memory, nothing changes.
-    pub fn put(&mut self, key: Text, value: Value) -> Result<(), OutOfMemory>
+    // Sets a field to a value that is canonical for it. Without memory, nothing changes.
+    fn put_named(&mut self, key: FieldName, value: Value) -> Result<(), OutOfMemory>
         requires { IsField key value }
         ensures ok { OnOk result (self.new ≡ insert self.old key value) }
         ensures err { OnErr result (self.new ≡ self.old) }
@@ -165,6 +183,15 @@ impl Fields {
             Err(i) => self.pairs.insert(i, (key, value))?,
         }
         Ok(())
+    }
+
+    /// Sets a field to a value that is canonical for it, without a look at its kind. Without memory, nothing changes.
+    pub fn put(&mut self, key: Text, value: Value) -> Result<(), OutOfMemory>
+        requires { IsField key value }
+        ensures ok { OnOk result (self.new ≡ insert self.old key value) }
+        ensures err { OnErr result (self.new ≡ self.old) }
+    {
+        self.put_named(FieldName::from(key), value)
     }
 
     /// Takes a field out, and answers whether it was there. It takes no memory.
@@ -230,7 +257,7 @@ impl Fields {
     }
 
     /// Puts a field behind all others, or answers `false` where its name isn't above all of theirs.
-    pub fn push(&mut self, key: Text, value: Value) -> Result<bool, OutOfMemory>
+    pub fn push(&mut self, key: FieldName, value: Value) -> Result<bool, OutOfMemory>
         requires field { IsField key value }
         ensures ok { IfOk result (λ pushed. IsPush pushed key value self.old self.new) }
         ensures err { OnErr result (self.new ≡ self.old) }
@@ -251,7 +278,7 @@ impl Fields {
     }
 
     /// The fields in byte order of their names, with their values.
-    pub fn pairs(&self) -> &[(Text, Value)]
+    pub fn pairs(&self) -> &[(FieldName, Value)]
         ensures pairs { result.now ≡ entries self.now }
         ensures fields { AreFieldsInOrder result.now }
     {

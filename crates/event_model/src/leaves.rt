@@ -10,7 +10,7 @@ use crate::part::Part;
 use crate::tree::lexeme_in;
 use crate::tree_value::value_of;
 use base_types::{OutOfMemory, Text};
-use field_types::{FieldFault, sanitise_own, strip, type_of_bytes};
+use field_types::{FieldFault, FieldName, sanitise_own, strip, type_of_bytes};
 use serde_json::{Map, Value as Tree};
 use std::alloc::Global;
 
@@ -94,7 +94,7 @@ fn add(alloc: Global, found: &mut Found, part: Part) -> Result<(), OutOfMemory>
         Part::Nothing => Ok(()),
         Part::Set(value) => {
             let name = name_of(alloc, found.names.name())?;
-            found.fields.put(name, value)
+            found.fields.put(FieldName::from(name), value)
         }
         Part::Bad => found.names.note(alloc),
     }

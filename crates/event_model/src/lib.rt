@@ -15,7 +15,6 @@ mod read;
 mod tree;
 mod tree_value;
 
-pub use builder::FieldsBuilder;
 pub use clean::{clean_tree, kind_of_word};
 pub use fault::{EventFault, ReadFault};
 pub use fields::{Fields, is_field};

@@ -1,13 +1,17 @@
 -- Looking up a kind in the table of fields: by the definition, row by row, and by a hash of the name.
-use Rattle.std.proofs.Common.{◌≡◌, ℕ, zero, suc, List, [], ◌∷◌, map, get_or, slice_get, Bool, true, false, Option, Some, None, option_and_then, if◌then◌else◌, refl, sym, ap, ◌∙◌}
+use Rattle.std.proofs.Common.{◌≡◌, ℕ, zero, suc, List, [], ◌∷◌, flat_map, fold, ◌||◌, not, map, get_or, slice_get, Bool, true, false, Option, Some, None, option_and_then, if◌then◌else◌, refl, sym, ap, ◌∙◌}
+use Rattle.std.specs.Option.{option_or}
 use Rattle.std.specs.Str.{bytes_eq}
 use Rattle.std.proofs.lemmas.Option.{none-some}
 use Rattle.std.proofs.lemmas.Slice.Eq.{bytes_eq-Decides}
 use Rattle.base_types.proofs.Places.{Key}
-use Rattle.field_types.specs.Field.{kind_in, field_table}
+use Rattle.field_types.specs.Field.{kind_in, field_table, is_extra_name, type_of}
 use Rattle.field_types.specs.Hash.{hash, if_named}
+use Rattle.field_types.specs.Writing.{escaped, is_plain}
 use Rattle.field_types.specs.declared.field.TheConstants as table
 use Rattle.field_types.specs.declared.kind.FieldType.{FieldType}
+use Rattle.field_types.specs.declared.kind.FieldType.TheVariants as type
+use Rattle.field_types.proofs.Plain.{content-plain}
 
 abbrev Table : Type 0
 Table = List (Key × FieldType)
@@ -75,3 +79,28 @@ same_answer key None (Some kind) e f = sym e ∙ found_in hashed field_table key
 
 pub hash_finds : (key : Key) → hashed key ≡ kind_in field_table key
 hash_finds key = same_answer key (hashed key) (kind_in field_table key) refl refl
+
+-- ---- the names of the table stand in JSON strings as they are
+
+abbrev has_escapes : Key → Bool
+has_escapes key = fold (λ found b. found || not (is_plain b)) false key
+
+abbrev plain_kind : Key → Option FieldType
+plain_kind key = if has_escapes key then None else kind_in field_table key
+
+rows_plain : AreAnswered plain_kind field_table
+unfolding field_table
+rows_plain = refl
+
+no_escapes : (b : Bool) (o : Option FieldType) (kind : FieldType) → (if b then None else o) ≡ Some kind → b ≡ false
+no_escapes true o kind is = absurd (none-some kind is)
+no_escapes false o kind is = refl
+
+pub plain_name : (key : Key) (kind : FieldType) → kind_in field_table key ≡ Some kind → flat_map escaped key ≡ key
+plain_name key kind found =
+    content-plain key (no_escapes (has_escapes key) (kind_in field_table key) kind (found_in plain_kind field_table key kind rows_plain found))
+
+-- a name of the table has the kind of its row
+pub known_kind : (key : Key) (kind : FieldType) → kind_in field_table key ≡ Some kind → Some kind ≡ type_of key
+unfolding type_of
+known_kind key kind found = sym (ap (λ o. option_or o (if is_extra_name key then Some type.Extra else None)) found)

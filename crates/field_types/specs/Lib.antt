@@ -3,5 +3,6 @@ pub mod Faults
 pub mod Field
 pub mod Hash
 pub mod Kept
+pub mod Names
 pub mod Strip
 pub mod Writing

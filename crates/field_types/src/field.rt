@@ -1,4 +1,4 @@
-ghost use Rattle.std.specs.Prelude.{◌≡◌, ◌<◌, nat_le, map, option_and_then, slice_get};
+ghost use Rattle.std.specs.Prelude.{◌≡◌, ◌<◌, true, IfSome, OnSome, nat_le, map, option_map, option_and_then, slice_get};
 ghost use Rattle.std.specs.List.{list_all};
 ghost use Rattle.std.specs.Str.{is_utf8};
 ghost use Rattle.field_types.specs.Field.{type_of, kind_in, field_table, is_extra_name, is_extra_part};
@@ -167,23 +167,31 @@ fn hash(name: &[u8]) -> usize
     sum % 256
 }
 
-// The kind in the row there, if its name is that one.
-fn kind_at(rows: &[(&'static str, FieldType)], at: usize, name: &[u8]) -> Option<FieldType>
-    ensures { result ≡ option_and_then (if_named name.now) (slice_get (map (λ row. (row.0.now, row.1)) rows.now) at) }
+// The row there, if its name is that one.
+fn row_at(
+    rows: &[(&'static str, FieldType)],
+    at: usize,
+    name: &[u8],
+) -> Option<(&'static str, FieldType)>
+    ensures kind { option_map (λ row. row.1) result ≡ option_and_then (if_named name.now) (slice_get (map (λ row. (row.0.now, row.1)) rows.now) at) }
+    ensures named { IfSome result (λ row. row.0.now ≡ name.now) }
+    ensures utf8 { OnSome result (is_utf8 name.now ≡ true) }
 {
     let row = rows.get(at)?;
     if row.0.as_bytes() == name {
-        Some(row.1)
+        Some(*row)
     } else {
         None
     }
 }
 
-// The kind in the row of that name.
-fn row_of(key: &[u8]) -> Option<FieldType>
-    ensures { result ≡ kind_in field_table key.now }
+/// The row of that name in the table. The names of the table stand in JSON strings as they are.
+pub(crate) fn row_of(name: &[u8]) -> Option<(&'static str, FieldType)>
+    ensures kind { option_map (λ row. row.1) result ≡ kind_in field_table name.now }
+    ensures named { IfSome result (λ row. row.0.now ≡ name.now) }
+    ensures utf8 { OnSome result (is_utf8 name.now ≡ true) }
 {
-    kind_at(&FIELDS, usize::from(ROWS[hash(key)]), key)
+    row_at(&FIELDS, usize::from(ROWS[hash(name)]), name)
 }
 
 /// The kind of a field, by the bytes of its name; None exactly where there is no such field. It takes no memory.
@@ -192,7 +200,7 @@ pub fn type_of_bytes(key: &[u8]) -> Option<FieldType>
     ensures { result ≡ type_of key.now }
 {
     match row_of(key) {
-        Some(kind) => Some(kind),
+        Some(row) => Some(row.1),
         None if is_extra_name(key) => Some(FieldType::Extra),
         None => None,
     }

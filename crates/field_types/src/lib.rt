@@ -7,6 +7,7 @@ mod cleaning;
 mod fault;
 mod field;
 mod kind;
+mod name;
 mod texts;
 mod value;
 mod writing;
@@ -17,5 +18,9 @@ pub use cleaning::{clean_values_stay, sanitise, sanitise_own, sanitise_text};
 pub use fault::FieldFault;
 pub use field::{FIELDS, type_of, type_of_bytes};
 pub use kind::FieldType;
+pub use name::FieldName;
+pub use texts::{Kept, keep};
 pub use value::{Item, ItemList, Value};
-pub use writing::{has_escapes, hex_digit, is_plain, push_quoted, push_text, push_value};
+pub use writing::{
+    has_escapes, hex_digit, is_plain, push_name, push_quoted, push_text, push_value,
+};

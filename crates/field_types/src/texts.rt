@@ -20,7 +20,7 @@ use std::alloc::Global;
 
 /// What a kind makes of a text.
 #[derive(Drop)]
-pub(crate) enum Kept {
+pub enum Kept {
     /// The text as it stands, which is canonical already.
     Same,
     Other(Value),
@@ -217,7 +217,7 @@ fn word(alloc: Global, text: &str, word: Option<&'static str>) -> Result<Kept, F
 }
 
 /// What a kind makes of a stripped text; `BadValue` exactly where it doesn't take the text.
-pub(crate) fn keep(alloc: Global, kind: FieldType, text: &str) -> Result<Kept, FieldFault>
+pub fn keep(alloc: Global, kind: FieldType, text: &str) -> Result<Kept, FieldFault>
     ensures { IsKeptAs (of_text kind text.now) text.now result }
 {
     match kind {

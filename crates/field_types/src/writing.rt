@@ -5,7 +5,7 @@ ghost use Rattle.std.specs.Str.{is_utf8};
 ghost use Rattle.scalar_text.specs.Number.{decimal_text};
 ghost use Rattle.field_types.specs.Writing.{escaped, hex_digit, is_plain, quoted, flag_word, item_text, value_text, is_utf8_item, is_utf8_value};
 
-use crate::{Item, Value};
+use crate::{FieldName, Item, Value};
 use base_types::{OutOfMemory, Text};
 use itoa::Buffer;
 use scalar_text::print_decimal;
@@ -122,6 +122,14 @@ pub fn push_text(out: &mut Vec<u8>, text: &Text) -> Result<(), OutOfMemory>
     ensures utf8 { is_utf8 text.now ≡ true }
 {
     push_quoted(out, text.as_str().as_bytes())
+}
+
+/// Puts the name of a field as a JSON string behind `out`. Without memory, a part of it may stand there.
+pub fn push_name(out: &mut Vec<u8>, name: &FieldName) -> Result<(), OutOfMemory>
+    ensures text { OnOk result (out.new.items ≡ out.old.items ++ quoted name.now) }
+    ensures utf8 { is_utf8 name.now ≡ true }
+{
+    push_quoted(out, name.as_str().as_bytes())
 }
 
 fn push_item(out: &mut Vec<u8>, item: &Item) -> Result<(), OutOfMemory>

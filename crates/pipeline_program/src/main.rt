@@ -40,8 +40,9 @@ Exit status:
    2  the words are no command
    4  the feed is absent, or can't be read
    6  standard output failed
+  12  a line of the feed passes 1,048,576 bytes; those before it are written
+  13  a line of the feed ends behind 1,073,741,824 bytes; those before it are written
   17  a line of the feed is no event or report; those before it are written
-  19  the feed has more than 1,048,576 bytes, which is too long for now
 ";
 
 const VERSION: &str = "intelpipe 0.1.0\n";

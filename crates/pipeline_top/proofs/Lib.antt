@@ -1,5 +1,5 @@
-pub mod LineEnds
-pub mod Lines
-pub mod Pieces
-pub mod Statuses
-pub mod Writing
+mod Ahead
+mod BotTexts
+mod LineEnds
+mod Statuses
+mod Writing

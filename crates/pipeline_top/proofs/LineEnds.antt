@@ -1,63 +1,91 @@
--- What a line does to the rest of a conversion.
-use Rattle.std.proofs.Common.{◌≡◌, ◌+◌, ℕ, List, [], ◌∷◌, ◌++◌, true, false, cond, ◌==◌, length, Ok, refl, sym, ◌∙◌, ap, subst, append_assoc}
+-- What a line comes to, and what it does to the rest of a conversion.
+use Rattle.std.proofs.Common.{◌≡◌, ◌+◌, ◌<◌, ◌≤◌, ℕ, List, [], ◌∷◌, ◌++◌, true, false, ◌==◌, nat_lt, Option, Some, None, unwrap_or, length, Result, Ok, IfOk, refl, sym, ◌∙◌, ap, subst, append_assoc}
+use Rattle.std.proofs.lemmas.Bool.{cond-true, cond-false, lt-ltb, le-ltb}
 use Rattle.event_model.specs.declared.message.Message.{Message}
-use Rattle.event_json.specs.Lenient.{lenient}
+use Rattle.event_json.specs.Lenient.{lenient, PutsText}
 use Rattle.event_json.specs.Text.{message_text}
-use Rattle.pipeline_top.specs.Convert.{Line, empty, text, bad, line_of, line_of_reading, put_line, converted, end_at, end_from}
+use Rattle.report_cut.specs.Line.{without_newline}
+use Rattle.report_cut.specs.Pieces.{longest_line}
+use Rattle.pipeline_top.specs.Convert.{Line, empty, text, refused, line_of, short_line, read_line, line_of_reading, longest_feed, convert_bot, behind_line, put_line, converted, end_at, end_from}
 use Rattle.edge_traits.specs.Sink.{SinkView}
 use Rattle.edge_traits.specs.Output.{Moved}
+use Rattle.edge_traits.proofs.Outputs.{Moved-write}
 use Rattle.pipeline_top.specs.Line.{PutLine}
+use Rattle.pipeline_top.specs.declared.line.Place.{Place}
 use Rattle.pipeline_top.specs.declared.status.Status.{Status}
 use Rattle.pipeline_top.specs.declared.status.Status.TheVariants as status
 
--- a line that isn't refused is in the buffer, and the lines behind it decide
-pub accepted : (line : Line) (old new later : List ℕ) → PutLine line old new true → old ++ put_line line later ≡ new ++ later
-accepted empty old new later put = ap (λ l. l ++ later) (sym put)
-accepted (text t) old new later put = simp append_assoc at (ap (λ l. l ++ later) (sym put))
-accepted bad old new later put = absurd put
-
-pub accepted_end : (line : Line) (old new : List ℕ) (number : ℕ) (later : Status) → PutLine line old new true → end_at line number later ≡ later
-accepted_end empty old new number later put = refl
-accepted_end (text t) old new number later put = refl
-accepted_end bad old new number later put = absurd put
-
 -- ---- what a line comes to
 
-line_of-empty : (line : List ℕ) → true ≡ (length line == 0) → line_of line ≡ empty
+pub line_of-long : (place : Place) (line : List ℕ) → longest_line < length line → line_of place line ≡ refused (status.LongLine convert_bot place.at)
 unfolding line_of
-line_of-empty line is = ap (λ b. cond b empty (line_of_reading (lenient line))) (sym is)
+line_of-long place line long = cond-true (nat_lt longest_line (length line)) _ _ (lt-ltb longest_line (length line) long)
 
-line_of-full : (line : List ℕ) → false ≡ (length line == 0) → line_of line ≡ line_of_reading (lenient line)
-unfolding line_of
-line_of-full line is = ap (λ b. cond b empty (line_of_reading (lenient line))) (sym is)
+pub line_of-far : (place : Place) (line : List ℕ) → length line ≤ longest_line → longest_feed < place.at + length line → line_of place line ≡ refused (status.LongFeed convert_bot)
+unfolding line_of short_line
+line_of-far place line short far =
+    cond-false (nat_lt longest_line (length line)) _ _ (le-ltb longest_line (length line) short) ∙ cond-true (nat_lt longest_feed (place.at + length line)) _ _ (lt-ltb longest_feed (place.at + length line) far)
 
-pub put_empty : (line buffer : List ℕ) → true ≡ (length line == 0) → PutLine (line_of line) buffer buffer true
-put_empty line buffer is = subst (λ l. PutLine l buffer buffer true) (sym (line_of-empty line is)) refl
+pub line_of-near : (place : Place) (line : List ℕ) → length line ≤ longest_line → place.at + length line ≤ longest_feed → line_of place line ≡ read_line place.number (without_newline line)
+unfolding line_of short_line
+line_of-near place line short near =
+    cond-false (nat_lt longest_line (length line)) _ _ (le-ltb longest_line (length line) short) ∙ cond-false (nat_lt longest_feed (place.at + length line)) _ _ (le-ltb longest_feed (place.at + length line) near)
 
-pub put_text : (line old : List ℕ) (message : Message) (new : List ℕ) → false ≡ (length line == 0) → lenient line ≡ Ok message → new ≡ old ++ message_text message ++ 10 ∷ [] → PutLine (line_of line) old new true
-put_text line old message new is reading put =
-    subst (λ l. PutLine l old new true) (sym (line_of-full line is ∙ ap line_of_reading reading)) put
+read_line-empty : (number : ℕ) (line : List ℕ) → true ≡ (length line == 0) → read_line number line ≡ empty
+unfolding read_line
+read_line-empty number line is = cond-true (length line == 0) _ _ (sym is)
 
-pub put_bad : (line buffer : List ℕ) → false ≡ (length line == 0) → line_of_reading (lenient line) ≡ bad → PutLine (line_of line) buffer buffer false
-put_bad line buffer is reading = subst (λ l. PutLine l buffer buffer false) (sym (line_of-full line is ∙ reading)) refl
+read_line-full : (number : ℕ) (line : List ℕ) → false ≡ (length line == 0) → read_line number line ≡ line_of_reading number (lenient line)
+unfolding read_line
+read_line-full number line is = cond-false (length line == 0) _ _ (sym is)
 
--- ---- the lines of a feed
+pub put_empty : (number : ℕ) (line buffer : List ℕ) → true ≡ (length line == 0) → PutLine (read_line number line) buffer buffer None
+put_empty number line buffer is = subst (λ l. PutLine l buffer buffer None) (sym (read_line-empty number line is)) refl
 
-pub Moved-line : {a b : SinkView} {whole : List ℕ} (line old new : List ℕ) (rest later : List (List ℕ)) → Moved a b whole (old ++ converted rest) → rest ≡ line ∷ later → PutLine (line_of line) old new true → Moved a b whole (new ++ converted later)
-Moved-line {a = a} {b = b} {whole = whole} line old new rest later moved first put =
-    subst (λ r. Moved a b whole r) (ap (λ ls. old ++ converted ls) first ∙ accepted (line_of line) old new (converted later) put) moved
+pub put_text : (number : ℕ) (line old mid new : List ℕ) → false ≡ (length line == 0) → PutsText (lenient line) old mid → new ≡ mid ++ 10 ∷ [] → PutLine (read_line number line) old new None
+put_text number line old mid new is put ended =
+    let whole : new ≡ old ++ message_text put.message ++ 10 ∷ [] = ended ∙ ap (λ l. l ++ 10 ∷ []) put.text in
+    subst (λ l. PutLine l old new None) (sym (read_line-full number line is ∙ ap (line_of_reading number) put.read)) whole
 
-pub end_line : (line old new : List ℕ) (number : ℕ) (rest later : List (List ℕ)) → rest ≡ line ∷ later → PutLine (line_of line) old new true → end_from (number + 1) later ≡ end_from number rest
-end_line line old new number rest later first put =
-    sym (ap (end_from number) first ∙ accepted_end (line_of line) old new number (end_from (number + 1) later) put)
+pub put_bad : (number : ℕ) (line buffer : List ℕ) → false ≡ (length line == 0) → line_of_reading number (lenient line) ≡ refused (status.BadLine number) → PutLine (read_line number line) buffer buffer (Some (status.BadLine number))
+put_bad number line buffer is reading = subst (λ l. PutLine l buffer buffer (Some (status.BadLine number))) (sym (read_line-full number line is ∙ reading)) (refl, refl)
 
-end_at_case : (P : Status → Type 0) → ((n : ℕ) → P (status.BadLine n)) → (line : Line) (n : ℕ) (later : Status) → P later → P (end_at line n later)
-end_at_case P bad_line empty n later then = then
-end_at_case P bad_line (text t) n later then = then
-end_at_case P bad_line bad n later then = bad_line n
+pub put_near : {E : Type 0} (place : Place) (line bare old new : List ℕ) (r : Result (Option Status) E) → line_of place line ≡ read_line place.number (without_newline line) → bare ≡ without_newline line → IfOk r (PutLine (read_line place.number bare) old new) → IfOk r (PutLine (line_of place line) old new)
+put_near place line bare old new r near is put =
+    subst (λ l. IfOk r (PutLine l old new)) (ap (read_line place.number) is ∙ sym near) put
 
--- what holds of each end that lines may cause holds of the end of these lines
-pub end_case : (P : Status → Type 0) → P status.Done → ((n : ℕ) → P (status.BadLine n)) → (n : ℕ) (ls : List (List ℕ)) → P (end_from n ls)
-end_case P done bad_line n [] = done
-end_case P done bad_line n (line ∷ later) =
-    end_at_case P bad_line (line_of line) n (end_from (n + 1) later) (end_case P done bad_line (n + 1) later)
+-- ---- a line and those behind it
+
+abbrev pub cond_later : Option Status → List ℕ → List ℕ
+cond_later None later = later
+cond_later (Some end) later = []
+
+-- a line is in the buffer, and the lines behind it decide, or it is refused
+pub put_one : (line : Line) (old new : List ℕ) (end : Option Status) (later : List ℕ) → PutLine line old new end → old ++ put_line line later ≡ new ++ cond_later end later
+put_one empty old new None later put = ap (λ l. l ++ later) (sym put)
+put_one empty old new (Some e) later put = absurd put
+put_one (text t) old new None later put = simp append_assoc at (ap (λ l. l ++ later) (sym put))
+put_one (text t) old new (Some e) later put = absurd put
+put_one (refused cause) old new None later put = absurd put
+put_one (refused cause) old new (Some e) later put = ap (λ l. l ++ []) (sym put.1)
+
+pub end_one : (line : Line) (old new : List ℕ) (end : Option Status) (later : Status) → PutLine line old new end → end_at line later ≡ unwrap_or end later
+end_one empty old new None later put = refl
+end_one empty old new (Some e) later put = absurd put
+end_one (text t) old new None later put = refl
+end_one (text t) old new (Some e) later put = absurd put
+end_one (refused cause) old new None later put = absurd put
+end_one (refused cause) old new (Some e) later put = sym put.0
+
+-- ---- the lines of a piece, whatever lines come later
+
+pub Moved-then : {a b c : SinkView} {whole rest more : List ℕ} → Moved a b whole rest → Moved b c rest more → Moved a c whole more
+Moved-then first second = Moved-write first second.took second.whole_is
+
+pub Moved-line : {a b : SinkView} {whole : List ℕ} (place : Place) (line old new : List ℕ) (end : Option Status) (lines more later : List (List ℕ)) → Moved a b whole (old ++ converted place (lines ++ later)) → lines ≡ line ∷ more → PutLine (line_of place line) old new end → Moved a b whole (new ++ cond_later end (converted (behind_line place line) (more ++ later)))
+Moved-line {a = a} {b = b} {whole = whole} place line old new end lines more later moved first put =
+    subst (Moved a b whole) (ap (λ ls. old ++ converted place (ls ++ later)) first ∙ put_one (line_of place line) old new end (converted (behind_line place line) (more ++ later)) put) moved
+
+pub end_line : (place : Place) (line old new : List ℕ) (end : Option Status) (lines more later : List (List ℕ)) → lines ≡ line ∷ more → PutLine (line_of place line) old new end → end_from place (lines ++ later) ≡ unwrap_or end (end_from (behind_line place line) (more ++ later))
+end_line place line old new end lines more later first put =
+    ap (λ ls. end_from place (ls ++ later)) first ∙ end_one (line_of place line) old new end (end_from (behind_line place line) (more ++ later)) put

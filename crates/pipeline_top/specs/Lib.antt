@@ -1,5 +1,4 @@
 pub mod Convert
-pub mod Feed
 pub mod Halt
 pub mod Line
 pub mod StatusText

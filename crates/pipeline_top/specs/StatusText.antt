@@ -15,8 +15,9 @@ text_of status.Memory = codes "memory"
 text_of status.Words = codes "words"
 text_of (status.Feed name why) = codes "feed " ++ name ++ codes " " ++ why_word why
 text_of status.Sink = codes "sink"
+text_of (status.LongLine bot at) = codes "long line " ++ bot ++ codes " " ++ decimal at
+text_of (status.LongFeed bot) = codes "long feed " ++ bot
 text_of (status.BadLine line) = codes "bad line " ++ decimal line
-text_of (status.Unbuilt line) = codes "unbuilt " ++ decimal line
 
 -- the number of a status, with which the program ends
 abbrev pub number_of : Status → ℕ
@@ -25,5 +26,6 @@ number_of status.Memory = 1
 number_of status.Words = 2
 number_of (status.Feed name why) = 4
 number_of status.Sink = 6
+number_of (status.LongLine bot at) = 12
+number_of (status.LongFeed bot) = 13
 number_of (status.BadLine line) = 17
-number_of (status.Unbuilt line) = 19

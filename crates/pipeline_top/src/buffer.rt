@@ -1,13 +1,14 @@
-ghost use Rattle.std.specs.Prelude.{◌≡◌, ◌<◌, ◌≤◌, ℕ, List, [], ◌∷◌, ◌++◌, length, OnOk, OnErr, IsErr};
+ghost use Rattle.std.specs.Prelude.{◌≡◌, ◌<◌, ◌≤◌, ℕ, List, [], ◌∷◌, ◌++◌, length, IfErr, OnOk, OnErr, IsErr};
 ghost use Rattle.edge_traits.specs.Count.{Rose};
 ghost use Rattle.edge_traits.specs.Sink.{Took};
-ghost use Rattle.event_json.specs.Text.{message_text};
+ghost use Rattle.event_model.specs.Lenient.{IsFaultOf};
+ghost use Rattle.event_json.specs.Lenient.{lenient, PutsText};
 ghost use Rattle.edge_traits.specs.Output.{TookFront, Moved};
 
 use base_types::OutOfMemory;
 use edge_traits::{Failed, Sink, write_all};
-use event_json::push_message;
-use event_model::Message;
+use event_json::Cleaner;
+use event_model::ReadFault;
 use std::alloc::Global;
 use std::marker::Model;
 
@@ -36,11 +37,24 @@ impl Buffer {
         }
     }
 
-    /// Puts the text of a message and a newline behind what is there. Without memory, some of them are there.
-    pub fn put_message(&mut self, message: &Message) -> Result<(), OutOfMemory>
-        ensures { OnOk result (self.new ≡ self.old ++ message_text message.now ++ 10 ∷ []) }
+    /// Puts the text of the message that a line is read as behind what is there, if it is read as one.
+    pub fn put_clean(
+        &mut self,
+        alloc: Global,
+        cleaner: &mut Cleaner,
+        line: &[u8],
+    ) -> Result<(), ReadFault>
+        ensures text { OnOk result (PutsText (lenient line.now) self.old self.new) }
+        ensures fault { IfErr result (IsFaultOf (lenient line.now)) }
+        ensures same { OnErr result (self.new ≡ self.old) }
     {
-        push_message(&mut self.bytes, message)?;
+        cleaner.push_clean(alloc, line, &mut self.bytes)
+    }
+
+    /// Ends a line.
+    pub fn end_line(&mut self) -> Result<(), OutOfMemory>
+        ensures { OnOk result (self.new ≡ self.old ++ 10 ∷ []) }
+    {
         self.bytes.push(b'\n')?;
         Ok(())
     }

@@ -3,7 +3,7 @@
 
 mod buffer;
 mod convert;
-mod feed;
+mod halt;
 mod line;
 mod status;
 mod tool;

@@ -1,9 +1,9 @@
 ghost use Rattle.std.specs.Prelude.{◌≡◌, Some, IfOk};
 ghost use Rattle.pipeline_top.specs.StatusText.{text_of, why_word, number_of};
 
-use base_types::{OutOfMemory, Text};
+use base_types::{BotName, OutOfMemory, Text};
 use std::alloc::Global;
-use std::fmt;
+use std::{fmt, str};
 
 /// Why a feed wasn't read.
 #[derive(Clone, Copy, Debug, PartialEq, Eq)]
@@ -36,10 +36,20 @@ pub enum Status {
     Feed { name: Text, why: FeedWhy },
     /// The output failed.
     Sink,
+    /// The line that begins at the feed offset `at`, in bytes, passes 1,048,576 bytes with its newline. The lines before
+    /// it are written. The feed of `convert` counts as a bot of that name.
+    LongLine { bot: BotName, at: u64 },
+    /// The next line ends behind the feed offset 1,073,741,824. The lines before it are written.
+    LongFeed { bot: BotName },
     /// The line, from 1, is no event or report. Those before it are written.
     BadLine { line: u64 },
-    /// The feed is too long for now. The line is 0.
-    Unbuilt { line: u64 },
+}
+
+// A bot's name as a text.
+fn bot_text(bot: &BotName) -> &str
+    ensures { result.now ≡ bot.now }
+{
+    str::from_utf8(bot.bytes()).unwrap()
 }
 
 impl Status {
@@ -53,8 +63,9 @@ impl Status {
             Status::Words => 2,
             Status::Feed { .. } => 4,
             Status::Sink => 6,
+            Status::LongLine { .. } => 12,
+            Status::LongFeed { .. } => 13,
             Status::BadLine { .. } => 17,
-            Status::Unbuilt { .. } => 19,
         }
     }
 }
@@ -69,8 +80,9 @@ impl fmt::Display for Status {
             Status::Words => write!(f, "words"),
             Status::Feed { name, why } => write!(f, "feed {} {why}", name.as_str()),
             Status::Sink => write!(f, "sink"),
+            Status::LongLine { bot, at } => write!(f, "long line {} {at}", bot_text(bot)),
+            Status::LongFeed { bot } => write!(f, "long feed {}", bot_text(bot)),
             Status::BadLine { line } => write!(f, "bad line {line}"),
-            Status::Unbuilt { line } => write!(f, "unbuilt {line}"),
         }
     }
 }

@@ -5,14 +5,12 @@ ghost use Rattle.edge_traits.specs.Sink.{Took};
 ghost use Rattle.pipeline_top.specs.declared.status.FeedWhy.{FeedWhy};
 ghost use Rattle.pipeline_top.specs.declared.status.FeedWhy.TheVariants.{Absent, Failed};
 ghost use Rattle.pipeline_top.specs.Words.{feed_name};
-ghost use Rattle.pipeline_top.specs.Convert.{conversion, end_of, IsOutside, Wrote};
-ghost use Rattle.pipeline_top.specs.Feed.{IsFaultStatus};
-ghost use Rattle.pipeline_top.specs.Halt.{status_of};
+ghost use Rattle.pipeline_top.specs.Convert.{conversion, convert_bot, end_of, IsOutside, Wrote};
 
-use crate::convert::{Halt, convert_feed};
-use crate::feed::{FeedFault, read_feed};
-use crate::{FeedWhy, Status, words};
-use base_types::{OutOfMemory, Text};
+use crate::convert::convert_feed;
+use crate::halt::halt_status;
+use crate::{Status, words};
+use base_types::Text;
 use edge_traits::{Clock, Disk, Shelf, Sink};
 use std::alloc::Global;
 
@@ -40,8 +38,9 @@ pub fn run_tool<H: Shelf, D: Disk, S: Sink, C: Clock>(
         → (feed_name words.now ≡ Some name) × Rose (count_on (H.shelf shelf.old) name) (count_on (H.shelf shelf.new) name) }
     ensures sink { result.0 ≡ Status.Sink → Rose (S.sink out.old).faults (S.sink out.new).faults }
 
-    // No line has a form that isn't read.
-    ensures unbuilt { (line : ℕ) → result.0 ≡ Status.Unbuilt line → line ≡ 0 }
+    // The feed of `convert` counts as a bot of that name.
+    ensures long_line { (bot : List ℕ) (at : ℕ) → result.0 ≡ Status.LongLine bot at → bot ≡ convert_bot }
+    ensures long_feed { (bot : List ℕ) → result.0 ≡ Status.LongFeed bot → bot ≡ convert_bot }
 
     // Where the feed is told: how its conversion ends, and what is written.
     ensures end { (name content : List ℕ) → feed_name words.now ≡ Some name → content_of (H.shelf shelf.old) name ≡ Some content
@@ -73,7 +72,8 @@ fn convert<H: Shelf, S: Sink>(alloc: Global, name: &Text, shelf: &mut H, out: &m
     ensures failed { (other : List ℕ) → result ≡ Status.Feed other Failed
         → Rose (count_on (H.shelf shelf.old) other) (count_on (H.shelf shelf.new) other) }
     ensures sink { result ≡ Status.Sink → Rose (S.sink out.old).faults (S.sink out.new).faults }
-    ensures unbuilt { (line : ℕ) → result ≡ Status.Unbuilt line → line ≡ 0 }
+    ensures long_line { (bot : List ℕ) (at : ℕ) → result ≡ Status.LongLine bot at → bot ≡ convert_bot }
+    ensures long_feed { (bot : List ℕ) → result ≡ Status.LongFeed bot → bot ≡ convert_bot }
 
     ensures end { (content : List ℕ) → content_of (H.shelf shelf.old) name.now ≡ Some content
         → IsOutside result ⊎ (result ≡ end_of content) }
@@ -86,35 +86,8 @@ fn convert<H: Shelf, S: Sink>(alloc: Global, name: &Text, shelf: &mut H, out: &m
         → count_on (H.shelf shelf.new) other ≡ count_on (H.shelf shelf.old) other }
     ensures sink_count { (S.sink out.old).faults ≤ (S.sink out.new).faults }
 {
-    match read_feed(alloc, shelf, name) {
-        Ok(feed) => written_status(convert_feed(alloc, feed.bytes(), out)),
-        Err(fault) => fault_status(alloc, name, fault),
-    }
-}
-
-// The status of a conversion, as it ended.
-fn written_status(end: Result<Status, Halt>) -> Status
-    ensures { result ≡ status_of end }
-{
-    match end {
+    match convert_feed(alloc, shelf, name, out) {
         Ok(status) => status,
-        Err(Halt::OutOfMemory) => Status::Memory,
-        Err(Halt::Sink) => Status::Sink,
-    }
-}
-
-// The status of a feed that wasn't read.
-fn fault_status(alloc: Global, name: &Text, fault: FeedFault) -> Status
-    ensures { IsFaultStatus name.now fault result }
-{
-    let why = match fault {
-        FeedFault::Absent => FeedWhy::Absent,
-        FeedFault::Failed => FeedWhy::Failed,
-        FeedFault::TooLong => return Status::Unbuilt { line: 0 },
-        FeedFault::OutOfMemory => return Status::Memory,
-    };
-    match name.copy(alloc) {
-        Ok(name) => Status::Feed { name, why },
-        Err(OutOfMemory) => Status::Memory,
+        Err(halt) => halt_status(alloc, name, halt),
     }
 }

@@ -2,9 +2,10 @@
 use Rattle.std.proofs.Common.{◌≡◌, ℕ, ◌+◌, ◌-◌, ◌≤◌, ◌⊎◌, inl, inr, ⊎_elim, true, false, cond, ◌&&◌, nat_lt, Some, None, MatchOption, IfSome, unwrap_or, List, [], ◌∷◌, ◌++◌, length, take, drop, refl, sym, ap, ◌∙◌, subst, arith, append_assoc, length-append}
 use Rattle.std.proofs.lemmas.Bool.{cond-true, cond-false, and_from, and_left, and_right, lt-ltb, le-ltb, cases_Bool, cases_eq}
 use Rattle.std.proofs.lemmas.List.{take-append-drop, length-take-le, drop-drop, drop-append-le, append-nil, length-drop}
-use Rattle.report_cut.specs.Lines.{first_line}
+use Rattle.base_types.specs.Lines.{first_line}
 use Rattle.report_cut.specs.Pieces.{Next, End, Long, header_of, next_under, AreNext, IsCutUnder, offset_behind}
 use Rattle.report_cut.specs.Cutter.{Cutting, header_in, ComeNext, StaysLong, Follows, CutsAll}
+use Rattle.report_cut.specs.Standing.{IsIn, Knows, Reached}
 use Rattle.report_cut.specs.Laws.{beginning, Call, AreCalls, all_bytes, all_cuts, HandOut}
 use Rattle.report_cut.specs.declared.piece.CutRule.{CutRule}
 use Rattle.report_cut.specs.declared.piece.Cut.{Cut}
@@ -17,34 +18,18 @@ offset_behind-append : (at : ℕ) (xs ys : List Cut) → offset_behind at (xs ++
 offset_behind-append at [] ys = refl
 offset_behind-append at (x ∷ xs) ys = offset_behind-append x.upto xs ys
 
--- the cutter stands in the feed: behind it come the bytes that it holds, and then the rest
-record IsIn (rule : CutRule) (feed : List ℕ) (s : Cutting) (rest : List ℕ) : Type 0 where
-  pub within : s.at ≤ length feed
-  pub feed_is : drop s.at feed ≡ s.held ++ rest
-
--- what the cutter knows of the header
-record Knows (rule : CutRule) (feed : List ℕ) (s : Cutting) : Type 0 where
-  pub rule_is : s.rule ≡ rule
-  pub header_is : header_in s feed ≡ header_of rule feed
-  pub known : (s.at ≡ 0) ⊎ ((other : List ℕ) → header_in s other ≡ header_of rule feed)
-
-record Reached (rule : CutRule) (feed : List ℕ) (s : Cutting) (rest : List ℕ) : Type 0 where
-  pub knows : Knows rule feed s
-  pub is_in : s.long ≡ None → IsIn rule feed s rest
-  pub stays : (line : ℕ) → s.long ≡ Some line → next_under rule (header_of rule feed) feed s.at ≡ Long line
-
 -- the feed, cut where the cutter stands
 whole_feed : (rule : CutRule) (feed : List ℕ) (s : Cutting) (bytes rest : List ℕ) → IsIn rule feed s (bytes ++ rest) → take s.at feed ++ ((s.held ++ bytes) ++ rest) ≡ feed
 whole_feed rule feed s bytes rest i =
     ap (λ xs. take s.at feed ++ xs) (append_assoc s.held bytes rest ∙ sym i.feed_is) ∙ take-append-drop s.at feed
 
-come_in : (rule : CutRule) (feed : List ℕ) (s : Cutting) (bytes rest : List ℕ) (cuts : List Cut) → Knows rule feed s → IsIn rule feed s (bytes ++ rest) → ComeNext s (s.held ++ bytes) cuts → AreNext rule (header_of rule feed) feed s.at cuts
+pub come_in : (rule : CutRule) (feed : List ℕ) (s : Cutting) (bytes rest : List ℕ) (cuts : List Cut) → Knows rule feed s → IsIn rule feed s (bytes ++ rest) → ComeNext s (s.held ++ bytes) cuts → AreNext rule (header_of rule feed) feed s.at cuts
 come_in rule feed s bytes rest cuts k i next =
     let are = next (take s.at feed) rest (length-take-le s.at feed i.within) in
     let here = subst (λ xs. AreNext s.rule (header_in s xs) xs s.at cuts) (whole_feed rule feed s bytes rest i) are in
     subst (λ h. AreNext rule h feed s.at cuts) k.header_is (subst (λ r. AreNext r (header_in s feed) feed s.at cuts) k.rule_is here)
 
-stays_in : (rule : CutRule) (feed : List ℕ) (s : Cutting) (bytes rest : List ℕ) (at line : ℕ) → Knows rule feed s → IsIn rule feed s (bytes ++ rest) → StaysLong s (s.held ++ bytes) at line → next_under rule (header_of rule feed) feed at ≡ Long line
+pub stays_in : (rule : CutRule) (feed : List ℕ) (s : Cutting) (bytes rest : List ℕ) (at line : ℕ) → Knows rule feed s → IsIn rule feed s (bytes ++ rest) → StaysLong s (s.held ++ bytes) at line → next_under rule (header_of rule feed) feed at ≡ Long line
 stays_in rule feed s bytes rest at line k i stays =
     let long = stays (take s.at feed) rest (length-take-le s.at feed i.within) in
     let here = subst (λ xs. next_under s.rule (header_in s xs) xs at ≡ Long line) (whole_feed rule feed s bytes rest i) long in
@@ -99,7 +84,7 @@ next_knows rule feed s u bytes rest cuts k i f =
     let xs : List ℕ = header_in s ((s.held ++ bytes) ++ rest) in
     knows_by rule feed u xs (f.rule ∙ k.rule_is) (f.header rest ∙ ap (λ r. cond (r.replicate && nat_lt 0 u.at) (Some xs) None) k.rule_is) (next_header rule feed s bytes rest k i)
 
-reached_next : (rule : CutRule) (feed : List ℕ) (s u : Cutting) (bytes rest : List ℕ) (cuts : List Cut) → Knows rule feed s → IsIn rule feed s (bytes ++ rest) → Follows s (s.held ++ bytes) cuts u → Reached rule feed u rest
+pub reached_next : (rule : CutRule) (feed : List ℕ) (s u : Cutting) (bytes rest : List ℕ) (cuts : List Cut) → Knows rule feed s → IsIn rule feed s (bytes ++ rest) → Follows s (s.held ++ bytes) cuts u → Reached rule feed u rest
 reached_next rule feed s u bytes rest cuts k i f =
     record {
       knows = next_knows rule feed s u bytes rest cuts k i f;
@@ -131,7 +116,7 @@ led rule feed (call ∷ calls) s last more r are =
       reached = tail.reached;
     }
 
-begins : (rule : CutRule) (feed : List ℕ) (at : ℕ) (rest : List ℕ) → at ≤ length feed → drop at feed ≡ rest → Reached rule feed (beginning rule feed at) rest
+pub begins : (rule : CutRule) (feed : List ℕ) (at : ℕ) (rest : List ℕ) → at ≤ length feed → drop at feed ≡ rest → Reached rule feed (beginning rule feed at) rest
 begins rule feed at rest within e =
     record {
       knows = begin_knows rule feed at;
@@ -149,7 +134,7 @@ begins rule feed at rest within e =
         (cases_Bool rule.replicate)
 
 -- with what `end` hands out
-ended_in : (rule : CutRule) (feed : List ℕ) (s : Cutting) (cuts : List Cut) → Knows rule feed s → IsIn rule feed s [] → CutsAll s cuts → IsCutUnder rule (header_of rule feed) feed s.at cuts End
+pub ended_in : (rule : CutRule) (feed : List ℕ) (s : Cutting) (cuts : List Cut) → Knows rule feed s → IsIn rule feed s [] → CutsAll s cuts → IsCutUnder rule (header_of rule feed) feed s.at cuts End
 ended_in rule feed s cuts k i all =
     let is = all (take s.at feed) (length-take-le s.at feed i.within) in
     let whole : take s.at feed ++ s.held ≡ feed = ap (λ xs. take s.at feed ++ xs) (sym (append-nil s.held) ∙ sym i.feed_is) ∙ take-append-drop s.at feed in

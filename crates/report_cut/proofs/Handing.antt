@@ -2,7 +2,7 @@
 use Rattle.std.proofs.Common.{◌≡◌, ℕ, ◌+◌, ◌-◌, ◌<◌, ◌≤◌, ◌==◌, ◌⊎◌, inl, ⊎_elim, ◌^◌, replicate, MatchBool, nat_le, Bool, true, false, cond, ◌&&◌, nat_lt, Option, Some, None, unwrap_or, MatchOption, IfSome, List, [], ◌++◌, length, take, drop, refl, sym, ap, ◌∙◌, subst, arith, append_assoc, length-append}
 use Rattle.std.proofs.lemmas.Bool.{cond-true, cond-false, and_from, and_left, and_right, eq-eqb, ne_eqb, lt-ltb, le-ltb, lt-leb, le-leb, cases_lt, cases_Bool, cases_eq}
 use Rattle.std.proofs.lemmas.List.{drop_at, take_at, append-nil, take-append-drop, length-take-le, length-drop, nil_from_length, drop-drop, drop_all, length-replicate}
-use Rattle.report_cut.specs.Lines.{lines_of, first_of, first_line}
+use Rattle.base_types.specs.Lines.{lines_of, first_of, first_line}
 use Rattle.report_cut.specs.Pieces.{Next, Piece, End, Long, longest_line, start_of, header_of, piece_of, next_under, is_finished, if_finished, next_so_far, AreNext, AreFinished, offset_behind}
 use Rattle.report_cut.specs.Scan.{IsOneLine, IsOpen, IsLeft, IsCutting}
 use Rattle.report_cut.specs.Cutter.{Cutting, header_in, ComeNext, HaveCome, ComesAt, StaysLong, behind_pieces, known_header, Follows}

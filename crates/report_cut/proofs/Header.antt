@@ -2,7 +2,7 @@
 use Rattle.std.proofs.Common.{◌≡◌, ℕ, ◌+◌, ◌-◌, ◌≤◌, inl, inr, true, false, List, [], ◌∷◌, ◌++◌, length, take, drop, refl, sym, ap, ◌∙◌, subst, arith, append_assoc, length-append}
 use Rattle.std.proofs.lemmas.Bool.{MatchBool-at_true, MatchBool-at_false, true≢false}
 use Rattle.std.proofs.lemmas.List.{take_at, take-append-drop, length-take-le, length-drop}
-use Rattle.report_cut.specs.Lines.{newline}
+use Rattle.base_types.specs.Lines.{newline}
 use Rattle.report_cut.specs.Scan.{IsOneLine, IsRead}
 use Rattle.report_cut.specs.Pending.{IsGrown, IsGrownHeader, IsGrownBehind, IsHeaderEnd, IsHeaderLine, room_of}
 use Rattle.report_cut.specs.declared.pending.Pending.{Pending}

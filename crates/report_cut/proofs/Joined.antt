@@ -3,7 +3,7 @@ use Rattle.std.proofs.Common.{◌≡◌, ℕ, ◌+◌, ◌-◌, ◌<◌, ◌≤�
 use Rattle.std.specs.List.{concat, onto_first}
 use Rattle.std.proofs.lemmas.Bool.{leb-true, leb-false, eqb-true, cond-true, cond-false, cases_Bool, cases_eq, and_from, and_left, and_right, eq-eqb, ne_eqb}
 use Rattle.std.proofs.lemmas.List.{drop_at, take_at, append-nil, drop_all, drop-drop, length-drop}
-use Rattle.report_cut.specs.Lines.{newline, lines_of, first_of, first_line, last_or}
+use Rattle.base_types.specs.Lines.{newline, lines_of, first_of, first_line, last_or}
 use Rattle.report_cut.specs.Pieces.{Next, Piece, End, Long, longest_line, fitting_run, header_of, start_of, piece_of, next_under, AreNext, IsCutUnder, offset_behind}
 use Rattle.report_cut.specs.Laws.{joined_lines, BeginWith, EndWithNewlines, OffsetsRise, header_at, MakeUp}
 use Rattle.report_cut.specs.declared.piece.CutRule.{CutRule}
@@ -77,7 +77,7 @@ fits_front : (room : ℕ) (lines : List (List ℕ)) → FitsFront room lines
 fits_front room [] = record { rest = []; split = refl }
 fits_front room (l ∷ ls) = fits_front_at (nat_le (length l) room) room l ls refl (fits_front (room - length l) ls)
 
-piece_at_run : (t : Bool) (header : List ℕ) (start : ℕ) (run : List ℕ) (cut : Cut) → cond t (Long start) (Piece (record { piece = header ++ run; upto = start + length run })) ≡ Piece cut → (cut.piece ≡ header ++ run) × (cut.upto ≡ start + length run)
+pub piece_at_run : (t : Bool) (header : List ℕ) (start : ℕ) (run : List ℕ) (cut : Cut) → cond t (Long start) (Piece (record { piece = header ++ run; upto = start + length run })) ≡ Piece cut → (cut.piece ≡ header ++ run) × (cut.upto ≡ start + length run)
 piece_at_run true header start run cut is = absurd (cc)
 piece_at_run false header start run cut is = let same : record { piece = header ++ run; upto = start + length run } ≡ cut = cc in (ap (λ c. c.piece) (sym same), ap (λ c. c.upto) (sym same))
 
@@ -90,7 +90,7 @@ piece_parts header room start (l ∷ ls) cut is =
     let facts = piece_at_run (nat_lt longest_line (length l)) header start (concat (l ∷ fitting_run (room - length l) ls)) cut is in
     record { run = l ∷ fitting_run (room - length l) ls; rest = front.rest; split = ap (λ xs. l ∷ xs) front.split; piece = facts.0; upto = facts.1; some = inl (omega arith) }
 
-next_inside : (t u : Bool) (n : Next) (cut : Cut) → cond t End (cond u (Long 0) n) ≡ Piece cut → (t ≡ false) × (n ≡ Piece cut)
+pub next_inside : (t u : Bool) (n : Next) (cut : Cut) → cond t End (cond u (Long 0) n) ≡ Piece cut → (t ≡ false) × (n ≡ Piece cut)
 next_inside true u n cut is = absurd (cc)
 next_inside false true n cut is = absurd (cc)
 next_inside false false n cut is = (refl, is)
@@ -100,14 +100,14 @@ pub record IsNextPiece (rule : CutRule) (header feed : List ℕ) (at : ℕ) (cut
   pub inside : at < length feed
   pub parts : IsPieceOf header (start_of rule header at) (lines_of (drop (start_of rule header at) feed)) cut
 
-next_piece : (rule : CutRule) (header feed : List ℕ) (at : ℕ) (cut : Cut) → next_under rule header feed at ≡ Piece cut → IsNextPiece rule header feed at cut
+pub next_piece : (rule : CutRule) (header feed : List ℕ) (at : ℕ) (cut : Cut) → next_under rule header feed at ≡ Piece cut → IsNextPiece rule header feed at cut
 next_piece rule header feed at cut is =
     let start : ℕ = start_of rule header at in
     let parts = next_inside (nat_le (length feed) at) (nat_lt longest_line (length header)) (piece_of header (rule.chunk_size - length header) start (lines_of (drop start feed))) cut is in
     record { inside = leb-false (length feed) at parts.0; parts = piece_parts header (rule.chunk_size - length header) start (lines_of (drop start feed)) cut parts.1 }
 
 -- the lines of a piece are those of the feed from its start on
-piece_lines : (rule : CutRule) (header feed : List ℕ) (at : ℕ) (cut : Cut) (n : IsNextPiece rule header feed at cut) → drop (start_of rule header at) feed ≡ concat n.parts.run ++ concat n.parts.rest
+pub piece_lines : (rule : CutRule) (header feed : List ℕ) (at : ℕ) (cut : Cut) (n : IsNextPiece rule header feed at cut) → drop (start_of rule header at) feed ≡ concat n.parts.run ++ concat n.parts.rest
 piece_lines rule header feed at cut n = sym (concat-lines_of (drop (start_of rule header at) feed)) ∙ ap concat n.parts.split ∙ concat-append n.parts.run n.parts.rest
 
 no_lines_end : (bytes : List ℕ) → lines_of bytes ≡ [] → length bytes ≡ 0
@@ -121,7 +121,7 @@ run_some bytes [] rest e some = absurd (omega arith)
 run_some [] (l ∷ ls) rest e some = absurd (cc)
 run_some (b ∷ bs) (l ∷ ls) rest e some = omega (arith, some_line_at true b bs l (ls ++ rest) e, length-append l (concat ls))
 
-rises : (rule : CutRule) (header feed : List ℕ) (at : ℕ) (cut : Cut) → at ≤ start_of rule header at → IsNextPiece rule header feed at cut → at < cut.upto
+pub rises : (rule : CutRule) (header feed : List ℕ) (at : ℕ) (cut : Cut) → at ≤ start_of rule header at → IsNextPiece rule header feed at cut → at < cut.upto
 rises rule header feed at cut within n =
     let start : ℕ = start_of rule header at in
     ⊎_elim
@@ -130,11 +130,11 @@ rises rule header feed at cut within n =
     n.parts.some
 
 -- a place that has come after others
-within_some : (rule : CutRule) (header : List ℕ) (at : ℕ) → 0 < at → at ≤ start_of rule header at
+pub within_some : (rule : CutRule) (header : List ℕ) (at : ℕ) → 0 < at → at ≤ start_of rule header at
 within_some rule header at some = omega (arith, start_of-some rule header at some)
 
 -- where the lines of the next piece begin
-behind_piece : (rule : CutRule) (header feed : List ℕ) (at : ℕ) (cut : Cut) → at ≤ start_of rule header at → (n : IsNextPiece rule header feed at cut) → drop (start_of rule header cut.upto) feed ≡ concat n.parts.rest
+pub behind_piece : (rule : CutRule) (header feed : List ℕ) (at : ℕ) (cut : Cut) → at ≤ start_of rule header at → (n : IsNextPiece rule header feed at cut) → drop (start_of rule header cut.upto) feed ≡ concat n.parts.rest
 behind_piece rule header feed at cut within n =
     let start : ℕ = start_of rule header at in
     ap (λ k. drop k feed) (start_of-some rule header cut.upto (omega (arith, rises rule header feed at cut within n)) ∙ n.parts.upto) ∙ sym (drop-drop (length (concat n.parts.run)) start feed) ∙ ap (drop (length (concat n.parts.run))) (piece_lines rule header feed at cut n) ∙ drop_at (concat n.parts.run) (concat n.parts.rest) (length (concat n.parts.run)) refl
@@ -152,7 +152,7 @@ end_past_at true u n never is = refl
 end_past_at false true n never is = absurd (cc)
 end_past_at false false n never is = absurd (never is)
 
-end_past : (rule : CutRule) (header feed : List ℕ) (at : ℕ) → next_under rule header feed at ≡ End → length feed ≤ at
+pub end_past : (rule : CutRule) (header feed : List ℕ) (at : ℕ) → next_under rule header feed at ≡ End → length feed ≤ at
 end_past rule header feed at is =
     let start : ℕ = start_of rule header at in
     leb-true (length feed) at (end_past_at (nat_le (length feed) at) (nat_lt longest_line (length header)) (piece_of header (rule.chunk_size - length header) start (lines_of (drop start feed))) (parts_end header (rule.chunk_size - length header) start (lines_of (drop start feed))) is)
@@ -183,7 +183,7 @@ ended_run : (front : List ℕ) (bytes : List ℕ) (run rest : List (List ℕ)) �
 ended_run front bytes run [] e some goes_on = absurd (omega arith)
 ended_run front bytes run (y ∷ ys) e some goes_on = ended_before front run y ys some (subst EndedLines e (ended_lines bytes))
 
-ended_piece : (rule : CutRule) (header feed : List ℕ) (at : ℕ) (cut : Cut) → at ≤ start_of rule header at → IsNextPiece rule header feed at cut → cut.upto < length feed → last_or 0 cut.piece ≡ newline
+pub ended_piece : (rule : CutRule) (header feed : List ℕ) (at : ℕ) (cut : Cut) → at ≤ start_of rule header at → IsNextPiece rule header feed at cut → cut.upto < length feed → last_or 0 cut.piece ≡ newline
 ended_piece rule header feed at cut within n goes_on =
     let start : ℕ = start_of rule header at in
     let up = rises rule header feed at cut within n in
@@ -203,7 +203,7 @@ ended_from rule header feed at (cut ∷ next ∷ cuts) within are =
     (ended_piece rule header feed at cut within n m.inside, ended_from rule header feed cut.upto (next ∷ cuts) (within_some rule header cut.upto (omega (arith, up))) are.1)
 
 -- no piece ends behind the feed
-upto_within : (rule : CutRule) (header feed : List ℕ) (at : ℕ) (cut : Cut) → start_of rule header at ≤ length feed → IsNextPiece rule header feed at cut → cut.upto ≤ length feed
+pub upto_within : (rule : CutRule) (header feed : List ℕ) (at : ℕ) (cut : Cut) → start_of rule header at ≤ length feed → IsNextPiece rule header feed at cut → cut.upto ≤ length feed
 upto_within rule header feed at cut inside n =
     omega (arith, n.parts.upto, inside, ap length (piece_lines rule header feed at cut n), length-append (concat n.parts.run) (concat n.parts.rest), length-drop (start_of rule header at) feed)
 
@@ -224,7 +224,7 @@ first_line_front feed = first_line_split (lines_of feed) feed (concat-lines_of f
     first_line_split [] feed e = refl
     first_line_split (l ∷ ls) feed e = ap (λ xs. l ++ drop (length l) xs) (sym e) ∙ ap (λ xs. l ++ xs) (drop_at l (concat ls) (length l) refl) ∙ e
 
-start_in : (rule : CutRule) (feed : List ℕ) (at : ℕ) → at ≤ length feed → (at ≤ start_of rule (header_of rule feed) at) × (start_of rule (header_of rule feed) at ≤ length feed) × (header_at rule feed at ++ drop (start_of rule (header_of rule feed) at) feed ≡ drop at feed)
+pub start_in : (rule : CutRule) (feed : List ℕ) (at : ℕ) → at ≤ length feed → (at ≤ start_of rule (header_of rule feed) at) × (start_of rule (header_of rule feed) at ≤ length feed) × (header_at rule feed at ++ drop (start_of rule (header_of rule feed) at) feed ≡ drop at feed)
 start_in rule feed at inside =
     let header : List ℕ = header_of rule feed in
     ⊎_elim

@@ -8,4 +8,8 @@ pub mod Last
 pub mod LinesOf
 pub mod Longest
 pub mod NextPiece
+pub mod PieceLines
+pub mod Plain
+mod Positions
 pub mod Reading
+pub mod SingleLine

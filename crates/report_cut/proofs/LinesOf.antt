@@ -3,7 +3,7 @@ use Rattle.std.proofs.Common.{◌≡◌, ℕ, zero, suc, ◌<◌, ◌≤◌, ◌
 use Rattle.std.specs.List.{onto_first, list_any, concat, position_or_len}
 use Rattle.std.proofs.lemmas.Bool.{eqb-false, or_parts, or_from}
 use Rattle.std.proofs.lemmas.List.Sums.{fails_before_first}
-use Rattle.report_cut.specs.Lines.{newline, lines_of, first_of, first_line, last_or}
+use Rattle.base_types.specs.Lines.{newline, lines_of, first_of, first_line, last_or}
 use Rattle.report_cut.specs.Scan.{IsWhole, IsOneLine}
 
 onto_first-append : (b : ℕ) (ls ys : List (List ℕ)) → 0 < length ls → onto_first b (ls ++ ys) ≡ onto_first b ls ++ ys

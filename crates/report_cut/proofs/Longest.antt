@@ -2,7 +2,7 @@
 use Rattle.std.proofs.Common.{◌≡◌, ℕ, ◌+◌, ◌-◌, ◌<◌, ◌≤◌, ◌==◌, inl, inr, ⊎_elim, Bool, true, false, nat_le, List, [], ◌∷◌, ◌++◌, length, refl, sym, ap, subst, arith, length-append}
 use Rattle.std.specs.List.{concat, onto_first}
 use Rattle.std.proofs.lemmas.Bool.{leb-true, leb-false, cond-true, cond-false, cases_lt}
-use Rattle.report_cut.specs.Lines.{newline, lines_of}
+use Rattle.base_types.specs.Lines.{newline, lines_of}
 use Rattle.report_cut.specs.Pieces.{fitting_run}
 use Rattle.report_cut.specs.Laws.{IsLongestRun}
 use Rattle.report_cut.proofs.LinesOf.{lines_of-cons_yes, lines_of-cons_no}
@@ -25,7 +25,7 @@ each_some [] = tt
 each_some (b ∷ bs) = some_at (b == newline) b bs refl (each_some bs)
 
 -- the lines that have room, and what stands behind them
-record IsFitting (room : ℕ) (lines fitting : List (List ℕ)) : Type 0 where
+pub record IsFitting (room : ℕ) (lines fitting : List (List ℕ)) : Type 0 where
   pub rest : List (List ℕ)
   pub split : lines ≡ fitting ++ rest
   pub small : length (concat fitting) ≤ room
@@ -43,7 +43,7 @@ fitting_at false room l ls e tail =
     subst (IsFitting room (l ∷ ls)) (sym (cond-false (nat_le (length l) room) (l ∷ fitting_run (room - length l) ls) [] e))
     (record { rest = l ∷ ls; split = refl; small = omega arith; longest = λ line more is. let same : l ≡ line = cc in omega (arith, over, ap length same) })
 
-is_fitting : (room : ℕ) (lines : List (List ℕ)) → IsFitting room lines (fitting_run room lines)
+pub is_fitting : (room : ℕ) (lines : List (List ℕ)) → IsFitting room lines (fitting_run room lines)
 is_fitting room [] = record { rest = []; split = refl; small = omega arith; longest = λ line more is. absurd (cc) }
 is_fitting room (l ∷ ls) = fitting_at (nat_le (length l) room) room l ls refl (is_fitting (room - length l) ls)
 

@@ -3,7 +3,7 @@ use Rattle.std.proofs.Common.{◌≡◌, ℕ, ◌+◌, ◌-◌, ◌<◌, ◌≤�
 use Rattle.std.specs.List.{concat}
 use Rattle.std.proofs.lemmas.Bool.{lt-leb, le-ltb, lt-ltb, le-leb, eq-eqb, cond-true, cond-false, and_from, and_left, and_right, cases_lt}
 use Rattle.std.proofs.lemmas.List.{drop_at, take_at, append-nil, drop_all, nil_from_length}
-use Rattle.report_cut.specs.Lines.{newline, lines_of, first_of, first_line, last_or}
+use Rattle.base_types.specs.Lines.{newline, lines_of, first_of, first_line, last_or}
 use Rattle.report_cut.specs.Pieces.{Piece, End, Long, longest_line, fitting_run, start_of, piece_of, next_under, is_finished, if_finished, next_so_far}
 use Rattle.report_cut.specs.Scan.{IsWhole, IsOneLine, IsRun, IsDue, IsOpen}
 use Rattle.report_cut.specs.declared.piece.CutRule.{CutRule}

@@ -5,7 +5,7 @@ use Rattle.std.proofs.lemmas.Bool.{eqb-true, ltb-true, ltb-false}
 use Rattle.std.proofs.lemmas.List.{drop_at, append-nil, length-take-le, take_all, nil_from_length, take_rest}
 use Rattle.std.proofs.lemmas.List.Sums.{split_at_first}
 use Rattle.std.proofs.lemmas.List.Quantifiers.{position-Some}
-use Rattle.report_cut.specs.Lines.{newline, lines_of, first_of, first_line}
+use Rattle.base_types.specs.Lines.{newline, lines_of, first_of, first_line}
 use Rattle.report_cut.specs.Pieces.{longest_line}
 use Rattle.report_cut.specs.Scan.{IsOneLine, IsRun, IsRead, IsDue, IsOpen}
 use Rattle.report_cut.proofs.LinesOf.{lines_of-append, lines_of-ended, whole_ended, whole_append, one_line_append, first_line-one, before_newline, first_line-append}

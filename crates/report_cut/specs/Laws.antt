@@ -1,8 +1,8 @@
 -- What holds of the pieces of every feed, and of every run of a cutter.
 use Rattle.std.specs.Prelude.{◌≡◌, ℕ, ◌+◌, ◌-◌, ◌<◌, ◌≤◌, ◌==◌, ◌⊎◌, ◌&&◌, if◌then◌else◌, nat_lt, false, Some, None, List, [], ◌∷◌, ◌++◌, length, take, drop}
 use Rattle.std.specs.List.{concat, flat_map}
-use Rattle.report_cut.specs.Lines.{newline, lines_of, first_line, last_or}
-use Rattle.report_cut.specs.Pieces.{End, Long, header_of, fitting_run, AreNext, IsCut, offset_behind}
+use Rattle.base_types.specs.Lines.{newline, lines_of, first_line, last_or}
+use Rattle.report_cut.specs.Pieces.{End, Long, header_of, start_of, fitting_run, AreNext, IsCut, offset_behind}
 use Rattle.report_cut.specs.Cutter.{Cutting, ComeNext, StaysLong, Follows, CutsAll}
 use Rattle.report_cut.specs.declared.piece.CutRule.{CutRule}
 use Rattle.report_cut.specs.declared.piece.Cut.{Cut}
@@ -42,6 +42,13 @@ pub record MakeUp (rule : CutRule) (feed : List ℕ) (at : ℕ) (cuts : List Cut
 -- the pieces without their headers, joined, are the feed; each but the last ends with a newline; the offsets rise
 abbrev pub PiecesMakeUpFeed : Type 0
 PiecesMakeUpFeed = (rule : CutRule) (feed : List ℕ) (at : ℕ) (cuts : List Cut) → at ≤ length feed → IsCut rule feed at cuts End → MakeUp rule feed at cuts
+
+-- the lines of the pieces, without their headers, one piece after the other, are the lines of the feed behind a header
+-- that comes first: no line is lost, and none is cut apart
+abbrev pub PiecesHaveLines : Type 0
+PiecesHaveLines =
+    (rule : CutRule) (feed : List ℕ) (at : ℕ) (cuts : List Cut) → at ≤ length feed → IsCut rule feed at cuts End →
+    (let header = header_of rule feed in flat_map (λ cut. lines_of (drop (length header) cut.piece)) cuts ≡ lines_of (drop (start_of rule header at) feed))
 
 -- the run is a front of the lines: it has room or is one line, and with the line behind it there is no room
 pub record IsLongestRun (room : ℕ) (lines run : List (List ℕ)) : Type 0 where

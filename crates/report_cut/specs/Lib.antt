@@ -1,6 +1,7 @@
 pub mod Cutter
 pub mod Laws
-pub mod Lines
+pub mod Line
 pub mod Pending
 pub mod Pieces
 pub mod Scan
+pub mod Standing

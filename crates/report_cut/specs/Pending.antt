@@ -1,6 +1,6 @@
 -- The piece that is coming: what a cutter holds of a feed.
 use Rattle.std.specs.Prelude.{◌≡◌, ℕ, ◌+◌, ◌-◌, ◌^◌, ◌<◌, ◌≤◌, ◌==◌, ◌⊎◌, ◌&&◌, if◌then◌else◌, nat_lt, Bool, true, false, MatchBool, Option, Some, None, List, [], ◌∷◌, ◌++◌, length, take, drop}
-use Rattle.report_cut.specs.Lines.{lines_of}
+use Rattle.base_types.specs.Lines.{lines_of}
 use Rattle.report_cut.specs.Pieces.{longest_line, start_of}
 use Rattle.report_cut.specs.Scan.{IsWhole, IsOneLine, IsRead, IsOpen, IsCutUp}
 use Rattle.report_cut.specs.Cutter.{Cutting, ComeNext, HaveCome, StaysLong, Follows}

@@ -1,7 +1,7 @@
 -- The pieces of a feed: what is cut from it, over the whole feed.
 use Rattle.std.specs.Prelude.{◌≡◌, ℕ, ◌+◌, ◌-◌, ◌==◌, ◌&&◌, if◌then◌else◌, nat_le, nat_lt, Bool, List, [], ◌∷◌, ◌++◌, length, drop}
 use Rattle.std.specs.List.{concat}
-use Rattle.report_cut.specs.Lines.{newline, lines_of, first_line, last_or}
+use Rattle.base_types.specs.Lines.{newline, lines_of, first_line, last_or}
 use Rattle.report_cut.specs.declared.piece.CutRule.{CutRule}
 use Rattle.report_cut.specs.declared.piece.Cut.{Cut}
 

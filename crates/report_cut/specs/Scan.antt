@@ -1,7 +1,7 @@
 -- How far the lines behind a header have been read.
 use Rattle.std.specs.Prelude.{◌≡◌, ℕ, ◌+◌, ◌-◌, ◌<◌, ◌≤◌, ◌==◌, ◌⊎◌, Bool, true, false, List, [], ◌∷◌, ◌++◌, length, drop}
 use Rattle.std.specs.List.{list_any}
-use Rattle.report_cut.specs.Lines.{newline, lines_of, first_line, last_or}
+use Rattle.base_types.specs.Lines.{newline, lines_of, first_line, last_or}
 use Rattle.report_cut.specs.Pieces.{longest_line, start_of, AreNext, AreFinished, offset_behind}
 use Rattle.report_cut.specs.declared.piece.CutRule.{CutRule}
 use Rattle.report_cut.specs.declared.piece.Cut.{Cut}

@@ -71,6 +71,13 @@ impl Cutter {
         })
     }
 
+    /// The feed offset behind the last piece that was handed out, in bytes.
+    pub fn at(&self) -> u64
+        ensures { result ≡ self.now.at }
+    {
+        self.pending.at
+    }
+
     /// Takes the next bytes of the feed, and hands out the pieces that are finished now.
     ///
     /// # Errors

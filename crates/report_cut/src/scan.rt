@@ -1,10 +1,12 @@
 ghost use Rattle.std.specs.Prelude.{◌≡◌, ◌==◌, ◌≤◌, position};
-ghost use Rattle.report_cut.specs.Lines.{newline};
+ghost use Rattle.base_types.specs.Lines.{newline};
 ghost use Rattle.report_cut.specs.Pieces.{longest_line};
 ghost use Rattle.report_cut.specs.Scan.{IsRead, IsStep};
 
+use memchr::memchr;
+
 /// The byte that ends a line.
-const NEWLINE: u8 = b'\n';
+pub(crate) const NEWLINE: u8 = b'\n';
 
 /// The most bytes of a line, its newline included.
 pub(crate) const LONGEST_LINE: usize = 1_048_576;
@@ -23,7 +25,7 @@ pub(crate) enum Step {
 pub(crate) fn newline_in(bytes: &[u8]) -> Option<usize>
     ensures { result ≡ position (λ b. b == newline) bytes.now }
 {
-    bytes.iter().position(|b| *b == NEWLINE)
+    memchr(NEWLINE, bytes)
 }
 
 /// Reads on behind `seen`, where the first `whole` bytes are whole lines and no newline stands between.

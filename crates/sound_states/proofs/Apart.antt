@@ -15,6 +15,7 @@ use Rattle.std.proofs.lemmas.Map.Keys.{apart_from_distinct, IsDistinct-from_sort
 use Rattle.std.proofs.lemmas.Map.Text.{is_eq-slice_cmp}
 use Rattle.sound_states.specs.SoundTests.{are_distinct, do_not_fall, hand_key, rise}
 use Rattle.step_code.specs.Sound.{is_same_hand}
+use Rattle.step_code.proofs.Lists.{any_map}
 use Rattle.stored_types.specs.declared.hand.Hand.{Hand}
 use Rattle.std.proofs.lemmas.Slice.Eq.{bytes_eq-Decides}
 
@@ -157,10 +158,6 @@ module _ {K : Type 0} (R : K → K → Ordering) (o : IsTotalOrder R) where
           let a : K = get_or (y ∷ ys) k y in
           let b : K = get_or (y ∷ ys) (k + 1) y in
           clash (sym (tied (R a b) (R b a) (o.antisymm b a) (fails y) (sorted k y (omega arith) inside)) ∙ apart_from_distinct (eq_by_cmp R) (y ∷ ys) k (k + 1) y differ (omega arith) inside)
-
-any_map : {A B : Type 0} (f : A → B) (p : B → Bool) (xs : List A) → list_any p (map f xs) ≡ list_any (λ x. p (f x)) xs
-any_map f p [] = refl
-any_map f p (x ∷ xs) = ap (λ rest. p (f x) || rest) (any_map f p xs)
 
 distinct_map : {A B : Type 0} (f : A → B) (same : B → B → Bool) (xs : List A) → are_distinct same (map f xs) ≡ are_distinct (λ x y. same (f x) (f y)) xs
 distinct_map f same [] = refl

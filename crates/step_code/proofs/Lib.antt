@@ -1,22 +1,6 @@
-pub mod Counts
-mod Histories
-mod Lawful
+pub mod GivenBack
 mod Lengths
-pub mod Loads
-mod Pairs
+pub mod Lists
 pub mod Parts
-mod Replayable
-mod SoundCaches
-mod SoundDumps
-mod SoundEntries
-mod SoundHands
-mod SoundHistories
-mod SoundNames
-mod SoundParts
-mod SoundReloads
-mod SoundSteps
-mod StateLaws
-mod StepLaws
-pub mod Steps
-mod Stranded
-mod Example
+pub mod StateLaws
+pub mod StepLaws

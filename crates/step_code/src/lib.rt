@@ -8,7 +8,6 @@ mod decode;
 mod encode;
 mod facts;
 mod feed;
-mod laws;
 mod output;
 mod rules;
 mod step;
@@ -20,10 +19,6 @@ pub use decode::{decode_base, decode_step};
 pub use encode::{encode_base, encode_step};
 pub use facts::{bot_named, collects, is_collector, is_instance, is_live_queue, writes};
 pub use feed::{Feed, FeedList};
-pub use laws::{
-    a_reload_gives_back_what_is_stranded, each_message_stands_in_one_place,
-    legal_histories_leave_sound_states, what_may_be_taken_may_be_replayed,
-};
 pub use output::{OutList, Output};
 pub use rules::{
     CacheRule, Facts, FactsList, FeedFacts, Given, LAST_MOMENT, LONGEST_FEED, PlanFault, Role,

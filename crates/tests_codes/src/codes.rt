@@ -12,14 +12,14 @@ use stored_types::{CodeFault, Dump, DumpList, Hand, HandList, Mark, Queue, Waiti
 
 // What bytes are to be the code of.
 #[derive(Clone, Copy, Debug)]
-enum Kind {
+pub enum Kind {
     Step,
     State,
 }
 
 // A piece of a code: the width in bytes of the length or number of items in its front, if it begins with one, and all
 // of its bytes.
-type Piece = (usize, &'static [u8]);
+pub type Piece = (usize, &'static [u8]);
 
 // Steps: the kind, the moment, and the fields of the kind.
 const START: [Piece; 2] = [(0, b"\x01"), (0, b"\0\0\0\0\0\0\0\x02")];
@@ -171,11 +171,11 @@ const STATE: [Piece; 70] = [
     (2, b"\0\x06expert"),
 ];
 
-fn bot(name: &[u8]) -> Result<BotName, Fail> {
+pub fn bot(name: &[u8]) -> Result<BotName, Fail> {
     Ok(BotName::new(name)?)
 }
 
-fn queue(name: &[u8]) -> Result<QueueName, Fail> {
+pub fn queue(name: &[u8]) -> Result<QueueName, Fail> {
     Ok(QueueName::new(name)?)
 }
 
@@ -186,7 +186,7 @@ fn message(alloc: Global, no: u64, body: &[u8]) -> Result<Msg, Fail> {
     })
 }
 
-fn note(alloc: Global) -> Result<FaultNote, Fail> {
+pub fn note(alloc: Global) -> Result<FaultNote, Fail> {
     Ok(FaultNote {
         code: 258,
         text: Text::new(alloc, "naïve".as_bytes())?,
@@ -241,7 +241,7 @@ fn check_read(
     Ok(())
 }
 
-fn check_bad(rt: &impl Abort, alloc: Global, kind: Kind, bytes: &[u8]) -> Result<(), Fail> {
+pub fn check_bad(rt: &impl Abort, alloc: Global, kind: Kind, bytes: &[u8]) -> Result<(), Fail> {
     assert!(rt; again(alloc, kind, bytes)?.is_none(), "{bytes:?}");
     Ok(())
 }
@@ -268,7 +268,12 @@ fn check_code(rt: &impl Abort, alloc: Global, kind: Kind, code: &[u8]) -> Result
 }
 
 // The step has this code, and is read from it.
-fn check_step(rt: &impl Abort, alloc: Global, step: &Step, pieces: &[Piece]) -> Result<(), Fail> {
+pub fn check_step(
+    rt: &impl Abort,
+    alloc: Global,
+    step: &Step,
+    pieces: &[Piece],
+) -> Result<(), Fail> {
     let code = joined(alloc, pieces)?;
     assert_eq!(rt; encode_step(alloc, step)?.bytes(), code.as_slice());
     check_code(rt, alloc, Kind::Step, &code)
@@ -766,7 +771,7 @@ fn steps_are_of_ten_kinds(rt: HostRuntime) -> Result<(), Fail> {
 }
 
 // A place in a code, the piece that stands there, and other bytes for it.
-type Swap = (usize, &'static [u8], &'static [u8]);
+pub type Swap = (usize, &'static [u8], &'static [u8]);
 
 // Pieces behind which the rest of the code of a step is still one.
 const GOOD_IN_DONE: [Swap; 9] = [
@@ -902,7 +907,7 @@ const BAD_IN_STATE: [Swap; 18] = [
 ];
 
 // The code with the other piece, where the piece that it replaces is the one that is meant.
-fn with_swap(
+pub fn with_swap(
     rt: &impl Abort,
     alloc: Global,
     pieces: &[Piece],

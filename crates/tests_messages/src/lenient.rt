@@ -1,5 +1,5 @@
 use base_types::Text;
-use event_json::{clean_message, write_message};
+use event_json::{Cleaner, clean_message, write_message};
 use event_model::{EventFault, Fields, Kind, Message, ReadFault};
 use field_types::Value;
 use std::alloc::{AllocError, Global};
@@ -30,11 +30,26 @@ pub fn word_of(alloc: Global, fault: &ReadFault) -> Result<String, AllocError> {
     }
 }
 
+// What stands behind a text after a line was read: the text of its message, or the fault, which leaves the text.
+fn pushed(alloc: Global, cleaner: &mut Cleaner, line: &[u8]) -> Result<String, Fail> {
+    let mut out = b"> ".to_vec(alloc)?;
+    if let Err(fault) = cleaner.push_clean(alloc, line, &mut out) {
+        out.extend_from_slice(word_of(alloc, &fault)?.as_bytes())?;
+    }
+    Ok(String::from_str(alloc, std::str::from_utf8(&out)?)?)
+}
+
 // A line, and what its reading gives.
 type Row = (&'static str, &'static str);
 
 fn check_readings(rt: &impl Abort, alloc: Global, rows: &[Row]) -> Result<(), Fail> {
+    let mut cleaner = Cleaner::new(alloc);
     for (line, wanted) in rows {
+        assert_eq!(rt;
+            pushed(alloc, &mut cleaner, line.as_bytes())?.as_str(),
+            format!(in alloc; "> {wanted}")?.as_str(),
+            "{line}"
+        );
         assert_eq!(rt;
             reading(alloc, line.as_bytes())?.as_str(),
             *wanted,

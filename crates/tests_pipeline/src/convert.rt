@@ -338,21 +338,3 @@ fn the_count_on_the_feed_rises_by_its_faults(rt: HostRuntime) -> Result<(), Fail
     assert_eq!(rt; out.bytes(), b"{\"__type\":\"Event\"}\n".as_slice());
     Ok(())
 }
-
-#[test]
-fn the_longest_feed_for_now(rt: HostRuntime) -> Result<(), Fail> {
-    let alloc = rt.alloc();
-    let mut feed = String::new(alloc);
-    for _ in 0..1_048_576 {
-        feed.push('\n')?;
-    }
-    let (status, written) = outcome(alloc, &CONVERT, feed.as_bytes(), &NONE)?;
-    assert_eq!(rt; status, Status::Done);
-    assert_eq!(rt; written.bytes(), b"".as_slice());
-    feed.push('\n')?;
-    let (status, written) = outcome(alloc, &CONVERT, feed.as_bytes(), &NONE)?;
-    assert_eq!(rt; status_text(alloc, &status)?.as_str(), "unbuilt 0");
-    assert_eq!(rt; status.number(), 19);
-    assert_eq!(rt; written.bytes(), b"".as_slice());
-    Ok(())
-}

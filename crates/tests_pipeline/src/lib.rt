@@ -8,4 +8,8 @@ mod fields;
 #[cfg(test)]
 mod ground;
 #[cfg(test)]
+mod long;
+#[cfg(test)]
+mod made;
+#[cfg(test)]
 mod system;

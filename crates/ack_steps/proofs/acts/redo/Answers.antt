@@ -1,9 +1,9 @@
-use Rattle.std.proofs.Common.{◌≡◌, sym, ◌∙◌, ap}
+use Rattle.std.proofs.Common.{sym, ◌∙◌, ap}
 use Rattle.dump_store.specs.Dumps.{DumpsView}
 use Rattle.step_code.specs.After.{redone}
 use Rattle.step_code.specs.State.{is_dump}
 use Rattle.core_state.specs.State.{state_of}
-use Rattle.ack_steps.proofs.Lists.{without_none}
+use Rattle.step_code.proofs.Lists.{without_none}
 use Rattle.ack_steps.proofs.acts.redo.Goals as goal
 
 pub returns-in_default-clause-ok : goal.returns-in_default-clause-ok

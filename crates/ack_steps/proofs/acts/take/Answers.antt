@@ -1,4 +1,4 @@
-use Rattle.std.proofs.Common.{◌≡◌, sym, ◌∙◌, ap, subst}
+use Rattle.std.proofs.Common.{ap, subst}
 use Rattle.base_types.specs.Name.{queue_name}
 use Rattle.stored_types.specs.Queue.{queued}
 use Rattle.queue_broker.specs.Broker.{IsTaken}

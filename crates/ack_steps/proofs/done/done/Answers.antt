@@ -1,4 +1,4 @@
-use Rattle.std.proofs.Common.{◌≡◌, ◌+◌, ◌∙◌, ℕ, sym, ap, subst, arith, length}
+use Rattle.std.proofs.Common.{◌≡◌, ◌+◌, ◌∙◌, sym, ap, subst, arith, length}
 use Rattle.step_code.specs.declared.base.Base.{Base}
 use Rattle.step_code.specs.After.{cached, numbered, sent}
 use Rattle.core_state.specs.declared.state.State.{State}
@@ -6,7 +6,7 @@ use Rattle.core_state.specs.Room.{AreAbove}
 use Rattle.core_state.specs.State.{state_of}
 use Rattle.ack_steps.proofs.Kept.{numbered_above}
 use Rattle.core_state.proofs.Numbered.{length-numbered}
-use Rattle.ack_steps.proofs.Results.{acknowledged, put_aside, sent_and_marked, whole}
+use Rattle.ack_steps.proofs.Results.{acknowledged, put_aside, whole}
 use Rattle.ack_steps.proofs.done.done.Goals as goal
 
 pub put_aside-requires-clause-above : goal.put_aside-requires-clause-above

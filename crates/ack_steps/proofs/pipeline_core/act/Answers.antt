@@ -1,8 +1,6 @@
-use Rattle.std.proofs.Common.{◌≡◌, ◌≤◌, OnOk, sym, ◌∙◌, ap, subst, arith, Some}
-use Rattle.step_code.specs.declared.step.StepKind.TheVariants as kind
+use Rattle.std.proofs.Common.{◌≡◌, OnOk, sym, subst, arith}
 use Rattle.step_code.specs.After.{acted, after}
 use Rattle.step_code.specs.Fits.{Fits}
-use Rattle.step_code.specs.Spent.{last_given}
 use Rattle.ack_steps.specs.Core.{HasSmallNumbers}
 use Rattle.core_state.specs.State.{state_of}
 use Rattle.ack_steps.proofs.Kept.{round_small, tries_small}
@@ -23,7 +21,7 @@ begin_round-requires g c f found =
     let s = state_of c.args.state.now in
     let now = c.args.step.now.moment in
     let small = subst (λ w. HasSmallNumbers (after m s (record { moment = now; what = w }))) c.in-Round.is c.requires.small in
-    round_small s c.in-Round.bot f c.requires.bounded (omega (arith, small.steps)) found
+    round_small s c.in-Round.bot f c.requires.orderly (omega (arith, small.steps)) found
 
 pub returns-in-Collect-clause-ok : goal.returns-in-Collect-clause-ok
 returns-in-Collect-clause-ok g c =

@@ -1,17 +1,17 @@
-use Rattle.std.proofs.Common.{◌≡◌, ◌+◌, sym, ◌∙◌, ap, subst}
+use Rattle.std.proofs.Common.{◌+◌, sym, ◌∙◌, ap, subst}
 use Rattle.step_code.specs.After.{acted}
-use Rattle.ack_steps.specs.Core.{IsBounded}
+use Rattle.ack_steps.specs.Core.{IsOrderly}
 use Rattle.core_state.specs.State.{state_of}
-use Rattle.ack_steps.proofs.Bounded.{bounded_after}
+use Rattle.ack_steps.proofs.Orderly.{orderly_after}
 use Rattle.ack_steps.proofs.Counted.{acted_keeps, counted, counted_after}
 use Rattle.ack_steps.proofs.pipeline_core.act_and_count.Goals as goal
 
-pub returns-clause-bounded : goal.returns-clause-bounded
-returns-clause-bounded g c =
+pub returns-clause-orderly : goal.returns-clause-orderly
+returns-clause-orderly g c =
     let m = g.R.Rules.meaning in
     let s = state_of c.args.state.now in
     let now = c.args.step.now.moment in
     let what = c.args.step.now.what in
     let ok = c.in_ok-act.ensures.ok in
     let whole = (λ i. counted ((ok i).steps + 1) now (ok i)) ∙ ap (λ n. counted (n + 1) now (acted m now s what)) (acted_keeps m now s what c.requires.kind).steps ∙ counted_after m now s what c.requires.kind in
-    subst IsBounded (sym whole) (bounded_after m s now what c.requires.bounded)
+    subst IsOrderly (sym whole) (orderly_after m s now what c.requires.time.order c.requires.orderly)

@@ -1,4 +1,4 @@
-use Rattle.std.proofs.Common.{◌≡◌, ◌+◌, ◌≤◌, ◌<◌, List, [], sym, ◌∙◌, ap, subst, arith, unwrap_or}
+use Rattle.std.proofs.Common.{◌+◌, ◌≤◌, ◌<◌, [], sym, ◌∙◌, ap, subst, arith, unwrap_or}
 use Rattle.std.specs.List.{AllByRecursion}
 use Rattle.base_types.specs.Number.{last_u64}
 use Rattle.step_code.specs.declared.base.Base.{Base}
@@ -6,9 +6,9 @@ use Rattle.step_code.specs.declared.feed.Feed.{Feed}
 use Rattle.step_code.specs.declared.step.StepKind.TheVariants as kind
 use Rattle.step_code.specs.After.{reloaded}
 use Rattle.step_code.specs.Spent.{last_given}
-use Rattle.ack_steps.specs.Core.{IsBounded}
+use Rattle.ack_steps.specs.Core.{IsOrderly}
 use Rattle.core_state.specs.State.{state_of}
-use Rattle.ack_steps.proofs.Bounded.{bounded_after}
+use Rattle.ack_steps.proofs.Orderly.{orderly_after}
 use Rattle.ack_steps.proofs.Kept.{may_reload, reload_counted, rounds_small}
 use Rattle.ack_steps.proofs.pipeline_core.put_in_force.Goals as goal
 
@@ -27,7 +27,7 @@ reload-requires-clause-rounds g c =
     let loads = ap m.facts (sym c.in-Ok.ensures.plan.0) ∙ c.in-Ok.ensures.plan.1 in
     let counted = reload_counted m s c.args.bundle.now c.args.now (c.requires.small (may_reload m s c.args.bundle.now c.args.now (g.R.Rules.bots_of c.in-Ok.coming) loads)) in
     let few : s.steps ≤ last_given = omega (arith, counted.steps) in
-    subst (λ (b : Base). AllByRecursion (λ (f : Feed). f.round < last_u64) b.feeds) (sym c.in-Ok-prepare.ensures.same) (rounds_small s c.requires.bounded few)
+    subst (λ (b : Base). AllByRecursion (λ (f : Feed). f.round < last_u64) b.feeds) (sym c.in-Ok-prepare.ensures.same) (rounds_small s c.requires.orderly few)
 
 pub reload-requires-clause-number : goal.reload-requires-clause-number
 reload-requires-clause-number g c =
@@ -37,8 +37,8 @@ reload-requires-clause-number g c =
     let counted = reload_counted m s c.args.bundle.now c.args.now (c.requires.small (may_reload m s c.args.bundle.now c.args.now (g.R.Rules.bots_of c.in-Ok.coming) loads)) in
     omega (arith, counted.bundles, ap (λ (b : Base). b.bundle_no) c.in-Ok-prepare.ensures.same)
 
-pub returns-clause-bounded : goal.returns-clause-bounded
-returns-clause-bounded g c =
+pub returns-clause-orderly : goal.returns-clause-orderly
+returns-clause-orderly g c =
     let m = g.R.Rules.meaning in
     let s = state_of c.args.state.now in
     let loads = ap m.facts (sym c.in-Ok.ensures.plan.0) ∙ c.in-Ok.ensures.plan.1 in
@@ -46,4 +46,4 @@ returns-clause-bounded g c =
     let bots = c.as_slice-bots.ensures ∙ c.facts.ensures ∙ sym (ap (λ o. unwrap_or o []) loads) in
     let same = c.in-Ok-prepare.ensures.same in
     let whole = c.reload.ensures.reloaded ∙ (λ i. reloaded (before i) (bots i) (c.in-Ok-prepare.ensures.bundle i) (record (same i) { steps = (same i).steps + 1; latest = c.args.now })) in
-    subst IsBounded (sym whole) (bounded_after m s c.args.now (kind.Reload c.args.bundle.now) c.requires.bounded)
+    subst IsOrderly (sym whole) (orderly_after m s c.args.now (kind.Reload c.args.bundle.now) (c.requires.order (may_reload m s c.args.bundle.now c.args.now (g.R.Rules.bots_of c.in-Ok.coming) loads)) c.requires.orderly)

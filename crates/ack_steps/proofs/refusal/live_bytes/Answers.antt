@@ -1,4 +1,4 @@
-use Rattle.std.proofs.Common.{◌≡◌, length, sym, ◌∙◌, ap, arith, min, take}
+use Rattle.std.proofs.Common.{◌∙◌, ap, arith, min}
 use Rattle.std.proofs.lemmas.List.{take_all}
 use Rattle.base_types.specs.Number.{last_u64}
 use Rattle.step_code.specs.State.{live_bytes}

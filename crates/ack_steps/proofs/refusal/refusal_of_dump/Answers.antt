@@ -1,4 +1,4 @@
-use Rattle.std.proofs.Common.{◌≡◌, Bool, ◌∷◌, [], sym, ap}
+use Rattle.std.proofs.Common.{Bool, ◌∷◌, [], sym, ap}
 use Rattle.step_code.specs.declared.step.StepRefusal.TheVariants as refusal
 use Rattle.step_code.specs.Fits.{first_failing}
 use Rattle.step_code.specs.State.{is_dump}

@@ -1,4 +1,4 @@
-use Rattle.std.proofs.Common.{◌≡◌, ◌+◌, ◌++◌, length, take, ap, arith}
+use Rattle.std.proofs.Common.{length, take, ap, arith}
 use Rattle.std.proofs.lemmas.List.{length-append, length-take}
 use Rattle.ack_steps.specs.Entries.{new_feeds}
 use Rattle.ack_steps.proofs.Entries.{new_feeds-length}

@@ -1,4 +1,4 @@
-use Rattle.std.proofs.Common.{◌≡◌, ◌+◌, ◌∷◌, [], ◌++◌, drop, sym, ◌∙◌, ap}
+use Rattle.std.proofs.Common.{◌+◌, ◌∷◌, [], drop, sym, ◌∙◌, ap}
 use Rattle.std.proofs.lemmas.List.{drop_more}
 use Rattle.step_code.specs.After.{all_given_back, instances_of}
 use Rattle.core_state.specs.declared.state.State.{State}

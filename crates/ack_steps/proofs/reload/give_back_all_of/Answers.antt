@@ -1,4 +1,4 @@
-use Rattle.std.proofs.Common.{◌≡◌, ◌-◌, ◌<◌, ℕ, List, map, sym, ◌∙◌, ap, arith}
+use Rattle.std.proofs.Common.{◌-◌, ◌<◌, ℕ, List, map, sym, ◌∙◌, ap, arith}
 use Rattle.step_code.specs.After.{all_given_back, falling}
 use Rattle.core_state.specs.declared.state.State.{State}
 use Rattle.core_state.specs.State.{state_of}

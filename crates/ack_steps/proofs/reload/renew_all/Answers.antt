@@ -1,4 +1,4 @@
-use Rattle.std.proofs.Common.{◌≡◌, ◌+◌, ◌<◌, suc, List, length, get_or, set, sym, ◌∙◌, ap, subst, arith}
+use Rattle.std.proofs.Common.{◌≡◌, ◌+◌, ◌<◌, suc, length, get_or, set, sym, ◌∙◌, ap, subst, arith}
 use Rattle.base_types.specs.Number.{last_u64}
 use Rattle.step_code.specs.declared.feed.Feed.{Feed}
 use Rattle.step_code.specs.After.{renewed}

@@ -1,6 +1,7 @@
-use Rattle.std.proofs.Common.{rules}
-use Rattle.std.proofs.lemmas.Fn.{filter_same}
+use Rattle.std.proofs.Common.{sym, ◌∙◌}
+use Rattle.core_state.proofs.InOrder.{none_expired}
 use Rattle.core_state.proofs.caches.drop_expired.Goals as goal
 
 pub returns-clause-fresh : goal.returns-clause-fresh
-returns-clause-fresh c = filter_same _ _ _ (λ x b f' k. search rules) _ _ c.retain.ensures.filtered
+returns-clause-fresh c =
+    sym (none_expired c.args.ttl c.args.now.0 c.expired.marks.items c.expired.invariant.order (sym c.has_expired.ensures ∙ c.expired-test.false)) ∙ c.expired.invariant.fresh

@@ -2,9 +2,18 @@ use Rattle.std.proofs.Common.{sym, ◌∙◌, ap, position}
 use Rattle.step_code.specs.declared.cache.BotCache.{BotCache}
 use Rattle.stored_types.specs.Mark.{fresh}
 use Rattle.step_code.specs.State.{is_cache}
-use Rattle.core_state.specs.Caches.{cache_of, has_bot}
-use Rattle.core_state.proofs.Seen.{changed_at, unchanged}
+use Rattle.base_types.proofs.Found.{first_at}
+use Rattle.core_state.specs.Caches.{DoNotFall, cache_of, has_bot}
+use Rattle.core_state.proofs.Seen.{all_seen, changed_at, unchanged}
 use Rattle.core_state.proofs.caches.drop_old.Goals as goal
+
+pub drop_expired-requires : goal.drop_expired-requires
+drop_expired-requires c =
+    let place = ap (position (has_bot c.args.bot.now)) (sym c.deref.ensures.value) ∙ sym c.place_of_cache.ensures ∙ c.in-Some.is in
+    let caches = c.args.caches.now.items in
+    record {
+      order = all_seen (λ (b : BotCache). DoNotFall b.marks) cache_of caches c.in-Some.i c.index_mut.result.now c.requires.order (first_at (has_bot c.args.bot.now) caches c.in-Some.i place).inside c.index_mut.ensures.value;
+    }
 
 pub returns-in-Some : goal.returns-in-Some
 returns-in-Some c =

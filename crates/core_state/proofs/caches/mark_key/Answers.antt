@@ -5,9 +5,18 @@ use Rattle.step_code.specs.After.{marked}
 use Rattle.base_types.specs.Lists.{changed_or_added}
 use Rattle.step_code.specs.State.{is_cache}
 use Rattle.core_state.specs.declared.caches.Marks.{Marks}
-use Rattle.core_state.specs.Caches.{cache_of, caches_of, has_bot}
-use Rattle.core_state.proofs.Seen.{added_behind, changed_there, err_follows, ok_follows, seen_same}
+use Rattle.base_types.proofs.Found.{first_at}
+use Rattle.core_state.specs.Caches.{DoNotFall, cache_of, caches_of, has_bot}
+use Rattle.core_state.proofs.Seen.{added_behind, all_seen, changed_there, err_follows, ok_follows, seen_same}
 use Rattle.core_state.proofs.caches.mark_key.Goals as goal
+
+pub mark_in-requires : goal.mark_in-requires
+mark_in-requires c =
+    let place = ap (position (has_bot c.args.bot.now)) (sym c.deref.ensures.value) ∙ sym c.place_of_cache.ensures ∙ c.in-Some.is in
+    let caches = c.args.caches.now.items in
+    record {
+      order = all_seen (λ (b : BotCache). DoNotFall b.marks) cache_of caches c.in-Some.i c.index_mut.result.now c.requires.order (first_at (has_bot c.args.bot.now) caches c.in-Some.i place).inside c.index_mut.ensures.value;
+    }
 
 pub returns-in-Some-clause-ok : goal.returns-in-Some-clause-ok
 returns-in-Some-clause-ok c =

@@ -1,4 +1,4 @@
-use Rattle.std.proofs.Common.{◌≡◌, Some, find, set, sym, ◌∙◌, ap, position}
+use Rattle.std.proofs.Common.{Some, set, sym, ◌∙◌, ap, position}
 use Rattle.base_types.proofs.Found.{changed_placed, find_placed}
 use Rattle.step_code.specs.After.{next_round}
 use Rattle.step_code.specs.State.{is_feed}

@@ -1,4 +1,4 @@
-use Rattle.std.proofs.Common.{◌≡◌, ◌+◌, ℕ, List, [], ◌∷◌, ◌++◌, sym, ◌∙◌, ap, arith, length, length-append, append_assoc}
+use Rattle.std.proofs.Common.{ℕ, List, [], ◌∷◌, ◌++◌, sym, ◌∙◌, ap, arith, length, length-append, append_assoc}
 use Rattle.stored_types.specs.Queue.{put, put_all}
 use Rattle.queue_broker.specs.Broker.{BrokerView}
 use Rattle.core_state.proofs.Lists.{length-put, put_all-push}

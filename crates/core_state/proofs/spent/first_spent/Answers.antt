@@ -1,4 +1,4 @@
-use Rattle.std.proofs.Common.{◌≡◌, sym, ◌∙◌, ◌+◌, ◌-◌, ap, arith, refl, find, length, map, min}
+use Rattle.std.proofs.Common.{◌≡◌, sym, ◌∙◌, ◌+◌, ◌-◌, arith, refl, find, length, map, min}
 use Rattle.std.proofs.lemmas.List.{length-map}
 use Rattle.base_types.specs.Number.{last_u64}
 use Rattle.step_code.specs.Spent.{is_past, up_to_spent}

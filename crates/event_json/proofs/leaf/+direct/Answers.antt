@@ -1,70 +1,76 @@
-use Rattle.std.proofs.Common.{◌≡◌, string_bytes, rules, w64, sym, ap, subst, ◌∙◌}
+use Rattle.std.proofs.Common.{◌≡◌, length, string_bytes, rules, w64, arith, sym, ap, subst, ◌∙◌}
 use mir.Val.{to_z, of_z}
 use Rattle.json.specs.Json as json
 use Rattle.json.specs.Value.{value_view, items_view, members_view}
 use Rattle.json.specs.declared.value.Value.{the_lemmas}
 use Rattle.json.proofs.Trees.{view-Array, view-Object}
 use Rattle.event_model.specs.Lenient.{member_name}
-use Rattle.event_json.specs.Direct.{named_values, AreItems, SetsTree, SetsValue}
+use Rattle.event_json.specs.Direct.{named_values, AreItems, PutsTree, PutsValue}
 use Rattle.field_types.specs.declared.value.Value.TheVariants as as_value
-use Rattle.event_json.proofs.Setting.{decimal_set, flag_set, if_taken, list_set, member_more, null_set, whole_set}
+use Rattle.event_json.proofs.Putting.{decimal_put, flag_put, if_taken, list_put, member_more, members_end, null_put, whole_put}
+use Rattle.event_json.proofs.Placing.{named-length}
 use Rattle.event_json.proofs.Slices.{first_of, of_some, only_of}
 use Rattle.event_json.proofs.leaf.+direct.Goals as goal
 
-pub add_members-members-preserved : goal.add_members-members-preserved
-add_members-members-preserved t c =
+pub push_members-members-preserved : goal.push_members-members-preserved
+push_members-members-preserved t c =
     let rest = c.members.rest.now in
     let m = c.member-item.result in
     let named = of_some _ _ (λ name. string_bytes name ≡ member_name c.args.key.now m.0.now) c.in-Some.is c.in_ok-name.ensures in
-    let here = c.in_ok-add_tree.ensures c.if-not-branch.false in
+    let here = c.in_ok-push_tree.ensures c.if-not-branch.false in
     member_more c.args.key.now (named_values c.args.members.now) (named_values rest) _ (m.0.now, value_view m.1.now) _ _ _ (ap named_values (first_of rest m c.in-len1-up.len_at_least c.member-item.is))
-    (subst (λ k. SetsTree k (value_view m.1.now) c.members.fields c.add_tree.new.fields) (c.deref.ensures ∙ named) here) c.members.invariant
+    (subst (λ k. PutsTree k (value_view m.1.now) c.members.line c.push_tree.new.line) (c.deref.ensures ∙ named) here) c.members.invariant
 
-pub add_object-returns-in-Some : goal.add_object-returns-in-Some
-add_object-returns-in-Some t c =
+pub push_object-returns-in-Some : goal.push_object-returns-in-Some
+push_object-returns-in-Some t c =
     let m = c.member-item.result in
-    let new = c.add_value.new.fields in
+    let new = c.push_value.new.line in
     let same : to_z w64 (of_z w64 c.in-Some.n) ≡ c.in-Some.n = search rules in
-    if_taken c.add_value.result _ _
-    (λ sets. decimal_set c.args.key.now m c.args.members.now c.in-Some.n c.args.fields.now new (only_of c.args.members.now m c.in-len1.len_at_least c.in-len1.len_below c.member-item.is) c.in-Some.ensures
-    (subst (λ n. SetsValue c.args.key.now (as_value.Decimal n) c.args.fields.now new) same sets))
-    c.add_value.ensures
+    if_taken c.push_value.result _ _
+    (λ puts. decimal_put c.args.key.now m c.args.members.now c.in-Some.n c.args.line.now new (only_of c.args.members.now m c.in-len1.len_at_least c.in-len1.len_below c.member-item.is) c.in-Some.ensures
+    (subst (λ n. PutsValue c.args.key.now (as_value.Decimal n) c.args.line.now new) same puts))
+    c.push_value.ensures
 
-pub add_tree-returns-in-Null : goal.add_tree-returns-in-Null
-add_tree-returns-in-Null t c = λ taken.
+pub push_tree-returns-in-Null : goal.push_tree-returns-in-Null
+push_tree-returns-in-Null t c = λ taken.
     let seen : value_view c.args.value.now ≡ json.null = ap value_view c.in-Null.is ∙ search (rules, the_lemmas) in
-    subst (λ j. SetsTree c.args.key.now j c.args.fields.now c.args.fields.now) (sym seen) (null_set c.args.key.now c.args.fields.now)
+    subst (λ j. PutsTree c.args.key.now j c.args.line.now c.args.line.now) (sym seen) (null_put c.args.key.now c.args.line.now)
 
-pub add_tree-returns-in-Bool : goal.add_tree-returns-in-Bool
-add_tree-returns-in-Bool t c =
+pub push_tree-returns-in-Bool : goal.push_tree-returns-in-Bool
+push_tree-returns-in-Bool t c =
     let seen : value_view c.args.value.now ≡ json.boolean c.in-Bool.flag = ap value_view c.in-Bool.is ∙ search (rules, the_lemmas) in
-    if_taken c.add_value.result _ _
-    (λ sets. subst (λ j. SetsTree c.args.key.now j c.args.fields.now c.add_value.new.fields) (sym seen) (flag_set c.args.key.now c.in-Bool.flag c.args.fields.now c.add_value.new.fields sets))
-    c.add_value.ensures
+    if_taken c.push_value.result _ _
+    (λ puts. subst (λ j. PutsTree c.args.key.now j c.args.line.now c.push_value.new.line) (sym seen) (flag_put c.args.key.now c.in-Bool.flag c.args.line.now c.push_value.new.line puts))
+    c.push_value.ensures
 
-pub add_tree-returns-in-Some : goal.add_tree-returns-in-Some
-add_tree-returns-in-Some t c =
+pub push_tree-returns-in-Some : goal.push_tree-returns-in-Some
+push_tree-returns-in-Some t c =
     let numeral = c.in-Number.numeral.now in
     let seen : value_view c.args.value.now ≡ json.number numeral = ap value_view c.in-Number.is ∙ search (rules, the_lemmas) in
-    let new = c.add_value-in-Some.new.fields in
+    let new = c.push_value-in-Some.new.line in
     let same : to_z w64 (of_z w64 c.in-Some.n) ≡ c.in-Some.n = search rules in
-    if_taken c.add_value-in-Some.result _ _
-    (λ sets. subst (λ j. SetsTree c.args.key.now j c.args.fields.now new) (sym seen) (whole_set c.args.key.now numeral c.in-Some.n c.args.fields.now new c.in-Some.ensures
-    (subst (λ n. SetsValue c.args.key.now (as_value.Whole n) c.args.fields.now new) same sets)))
-    c.add_value-in-Some.ensures
+    if_taken c.push_value-in-Some.result _ _
+    (λ puts. subst (λ j. PutsTree c.args.key.now j c.args.line.now new) (sym seen) (whole_put c.args.key.now numeral c.in-Some.n c.args.line.now new c.in-Some.ensures
+    (subst (λ n. PutsValue c.args.key.now (as_value.Whole n) c.args.line.now new) same puts)))
+    c.push_value-in-Some.ensures
 
-pub add_tree-returns-in-Some-2 : goal.add_tree-returns-in-Some-2
-add_tree-returns-in-Some-2 t c =
+pub push_tree-returns-in-Some-2 : goal.push_tree-returns-in-Some-2
+push_tree-returns-in-Some-2 t c =
     let seen : value_view c.args.value.now ≡ json.array (items_view c.in-Array.values.items) = ap value_view c.in-Array.is ∙ view-Array c.in-Array.values in
     let items = of_some _ _ (AreItems (items_view c.deref.result.now)) c.in-Some-2.is c.in_ok-items-in-Array.ensures in
     let same = ap (λ vs. json.array (items_view vs)) c.deref.ensures.value in
-    let new = c.add_value-in-Some-2.new.fields in
-    if_taken c.add_value-in-Some-2.result _ _
-    (λ sets. subst (λ j. SetsTree c.args.key.now j c.args.fields.now new) (same ∙ sym seen) (list_set c.args.key.now (items_view c.deref.result.now) c.in-Some-2.items c.args.fields.now new items sets))
-    c.add_value-in-Some-2.ensures
+    let new = c.push_value-in-Some-2.new.line in
+    if_taken c.push_value-in-Some-2.result _ _
+    (λ puts. subst (λ j. PutsTree c.args.key.now j c.args.line.now new) (same ∙ sym seen) (list_put c.args.key.now (items_view c.deref.result.now) c.in-Some-2.items c.args.line.now new items puts))
+    c.push_value-in-Some-2.ensures
 
-pub add_tree-returns-in-Object : goal.add_tree-returns-in-Object
-add_tree-returns-in-Object t c =
+pub push_tree-returns-in-Object : goal.push_tree-returns-in-Object
+push_tree-returns-in-Object t c =
     let seen : value_view c.args.value.now ≡ json.object (members_view c.in-Object.members.items) = ap value_view c.in-Object.is ∙ view-Object c.in-Object.members in
     let same = ap (λ ms. json.object (members_view ms)) c.deref-in-Object.ensures.value in
-    if_taken c.add_object.result _ _ (λ sets. subst (λ j. SetsTree c.args.key.now j c.args.fields.now c.add_object.new.fields) (same ∙ sym seen) sets) c.add_object.ensures
+    if_taken c.push_object.result _ _ (λ puts. subst (λ j. PutsTree c.args.key.now j c.args.line.now c.push_object.new.line) (same ∙ sym seen) puts) c.push_object.ensures
+
+pub push_members-returns : goal.push_members-returns
+push_members-returns t c = λ taken.
+    let none : length c.members.rest.now ≡ 0 = omega arith in
+    members_end c.args.key.now (named_values c.args.members.now) (named_values c.members.rest.now) c.args.line.now c.members.line (sym (named-length c.members.rest.now) ∙ none) c.members.invariant

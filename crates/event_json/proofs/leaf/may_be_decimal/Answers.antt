@@ -1,4 +1,4 @@
-use Rattle.event_json.proofs.Setting.{two_members}
+use Rattle.event_json.proofs.Putting.{two_members}
 use Rattle.event_json.proofs.leaf.may_be_decimal.Goals as goal
 
 pub returns-in_default-2 : goal.returns-in_default-2

@@ -1,6 +1,5 @@
-use Rattle.std.proofs.Common.{◌≡◌, Some, drop, get_or, false, ◌==◌, sym, ap, ◌∙◌, arith, rules}
+use Rattle.std.proofs.Common.{◌≡◌, get_or, false, ◌==◌, sym, ap, ◌∙◌, rules}
 use Rattle.fast_float.specs.Text.{scan}
-use Rattle.serde_json.specs.Data.{unsigned}
 use Rattle.serde_json.specs.Read.{number_of, number_from}
 use Rattle.event_json.proofs.leaf.whole_in.Goals as goal
 

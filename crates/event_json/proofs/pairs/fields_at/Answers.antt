@@ -5,7 +5,7 @@ use Rattle.event_json.proofs.PairTexts.{reading_start, reading_step, only_ends, 
 use Rattle.event_json.proofs.pairs.fields_at.Goals as goal
 
 pub fields-init : goal.fields-init
-fields-init c = subst (λ fields. IsReading c.args.text.now c.args.text.now fields) (sym c.new-fields.ensures) (reading_start c.args.text.now)
+fields-init c = subst (λ fields. IsReading c.args.text.now c.args.text.now fields) (sym c.in_ok-fields.ensures) (reading_start c.args.text.now)
 
 pub returns-then-is_end-clause-complete : goal.returns-then-is_end-clause-complete
 returns-then-is_end-clause-complete c =

@@ -11,13 +11,13 @@ pub returns-then-not-branch-clause-none : goal.returns-then-not-branch-clause-no
 returns-then-not-branch-clause-none c =
     λ _. no_field c.args.text.now c.args.fields.now (c.in-Some.name, c.in-Some.value) c.in-Some.behind.now
     (found_some c.args.text.now c.in_ok-name.field-0 c.in-Some.name c.in-Some.value c.in-Some.behind c.in_ok-name.ensures c.in-Some.is)
-    (refused c.in-Some.name c.bytes.result.now c.in-Some.value c.in_ok-is_field.field-0 c.bytes.ensures c.in_ok-is_field.ensures c.if-not-branch.true)
+    (refused c.in-Some.name c.in-Some.value c.in_ok-is_field.field-0 c.in_ok-is_field.ensures c.if-not-branch.true)
 
 pub returns-then-branch-clause-some : goal.returns-then-branch-clause-some
 returns-then-branch-clause-some c =
     taken c.args.text.now c.in-Some.behind.now c.args.fields.now c.push.new.self (c.in-Some.name, c.in-Some.value)
     (found_some c.args.text.now c.in_ok-name.field-0 c.in-Some.name c.in-Some.value c.in-Some.behind c.in_ok-name.ensures c.in-Some.is)
-    (accepted c.in-Some.name c.bytes.result.now c.in-Some.value c.in_ok-is_field.field-0 c.bytes.ensures c.in_ok-is_field.ensures c.if-not-branch.false)
+    (accepted c.in-Some.name c.in-Some.value c.in_ok-is_field.field-0 c.in_ok-is_field.ensures c.if-not-branch.false)
     (subst (λ pushed. IsPush pushed c.in-Some.name c.in-Some.value c.args.fields.now c.push.new.self) c.if-branch.true c.in_ok-push.ensures.ok)
 
 pub returns-then-branch-clause-shorter : goal.returns-then-branch-clause-shorter

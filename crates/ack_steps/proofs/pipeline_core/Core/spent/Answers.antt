@@ -1,4 +1,4 @@
-use Rattle.std.proofs.Common.{◌≡◌, List, [], Err, Some, sym, ◌∙◌, ap, unwrap_or}
+use Rattle.std.proofs.Common.{[], Err, sym, ◌∙◌, ap, unwrap_or}
 use Rattle.step_code.specs.Spent.{spent}
 use Rattle.core_state.specs.Spent.{bots_coming}
 use Rattle.ack_steps.proofs.Coming.{none_coming}

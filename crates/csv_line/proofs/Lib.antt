@@ -1,0 +1,3 @@
+mod LineReads
+mod PlainLines
+mod Split

@@ -1,0 +1,10 @@
+//! A line of CSV by itself (RFC 4180), as the kit's csv reads it.
+#![tactic(auto)]
+
+mod laws;
+mod plain;
+mod record;
+
+pub use laws::plain_lines_are_split;
+pub use plain::is_plain;
+pub use record::record_of;

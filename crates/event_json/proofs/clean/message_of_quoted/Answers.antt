@@ -1,5 +1,0 @@
-use Rattle.event_json.proofs.Reading.{all_quoted}
-use Rattle.event_json.proofs.clean.message_of_quoted.Goals as goal
-
-pub returns-in-Ok : goal.returns-in-Ok
-returns-in-Ok c = all_quoted c.args.bytes.now c.in-Ok.text.now c.message_in.result c.in-Ok.ensures.cases.0 c.in-Ok.ensures.cases.1 c.message_in.ensures

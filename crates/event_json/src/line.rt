@@ -1,0 +1,168 @@
+//! The canonical text of a message, put together pair by pair.
+ghost use Rattle.std.specs.Prelude.{◌≡◌, ◌++◌, ◌∷◌, [], true, flat_map, IfOk, OnOk};
+ghost use Rattle.std.specs.Ordering.{nat_cmp, is_lt};
+ghost use Rattle.std.specs.Cmp.Lexicographic.{slice_cmp};
+ghost use Rattle.field_types.specs.Writing.{escaped, quoted};
+ghost use Rattle.field_types.specs.declared.value.Value.TheVariants as as_value;
+ghost use Rattle.event_model.specs.Lenient.{type_key};
+ghost use Rattle.event_json.specs.Decode.{opening};
+ghost use Rattle.event_json.specs.Direct.{PutsName, PutsPair};
+ghost use Rattle.event_json.specs.Strict.{IsTyped};
+ghost use Rattle.event_json.specs.Text.{message_text};
+
+use crate::write::{opening, push_message};
+use base_types::OutOfMemory;
+use event_model::{Kind, Message};
+use field_types::{Value, push_quoted, push_value};
+use std::alloc::Global;
+use std::marker::Model;
+
+const TYPE_KEY: &[u8] = b"__type";
+
+/// The text of a message so far, and the last name in it: names rise. Contracts see these two. Its memory is kept from
+/// message to message.
+#[derive(Drop)]
+pub struct Line {
+    text: Vec<u8>,
+    last: Vec<u8>,
+}
+
+impl Model for Line {
+    ghost use Rattle.std.specs.Prelude.{List, ℕ};
+    ghost use Rattle.std.specs.Coded.{coded_ℕ, coded_list, coded×};
+
+    ghost Value = { List ℕ × List ℕ };
+
+    ghost coded = { coded× (coded_list coded_ℕ) (coded_list coded_ℕ) };
+
+    ghost view = { λ l. (l.text.items, l.last.items) };
+}
+
+// Makes a buffer these bytes.
+fn overwrite(buffer: &mut Vec<u8>, bytes: &[u8]) -> Result<(), OutOfMemory>
+    ensures { OnOk result (buffer.new.items ≡ bytes.now) }
+{
+    buffer.clear();
+    buffer.extend_from_slice(bytes)?;
+    Ok(())
+}
+
+// Makes a buffer the text of a message.
+fn overwrite_by(buffer: &mut Vec<u8>, message: &Message) -> Result<(), OutOfMemory>
+    ensures text { OnOk result (buffer.new.items ≡ message_text message.now) }
+    ensures typed { OnOk result (IsTyped message.now) }
+{
+    buffer.clear();
+    push_message(buffer, message)
+}
+
+// Puts a text as a JSON string behind `out`. One that is said to be plain stands there as it is.
+fn push_string(out: &mut Vec<u8>, text: &[u8], plain: bool) -> Result<(), OutOfMemory>
+    requires { plain ≡ true → flat_map escaped text.now ≡ text.now }
+    ensures { OnOk result (out.new.items ≡ out.old.items ++ quoted text.now) }
+{
+    if !plain {
+        return push_quoted(out, text);
+    }
+    push_plain(out, text)
+}
+
+#[tactic(auto, unfolding(field_types::specs::Writing::quoted))]
+fn push_plain(out: &mut Vec<u8>, text: &[u8]) -> Result<(), OutOfMemory>
+    requires { flat_map escaped text.now ≡ text.now }
+    ensures { OnOk result (out.new.items ≡ out.old.items ++ quoted text.now) }
+{
+    out.push(b'"')?;
+    out.extend_from_slice(text)?;
+    out.push(b'"')?;
+    Ok(())
+}
+
+fn is_below(name: &[u8], other: &[u8]) -> bool
+    ensures { result ≡ is_lt (slice_cmp nat_cmp name.now other.now) }
+{
+    name.cmp(other).is_lt()
+}
+
+impl Line {
+    /// The empty text. It takes no memory.
+    pub fn new(alloc: Global) -> Self
+        ensures { result ≡ ([], []) }
+    {
+        Line {
+            text: Vec::new(alloc),
+            last: Vec::new(alloc),
+        }
+    }
+
+    /// The text.
+    pub fn text(&self) -> &[u8]
+        ensures { result.now ≡ self.now.0 }
+    {
+        &self.text
+    }
+
+    /// Begins the text of a message of this kind.
+    pub fn begin(&mut self, kind: Kind) -> Result<(), OutOfMemory>
+        ensures { OnOk result (self.new ≡ (opening kind, type_key)) }
+    {
+        overwrite(&mut self.text, opening(kind))?;
+        overwrite(&mut self.last, TYPE_KEY)
+    }
+
+    // Puts the name of a pair, if it is above the last.
+    fn enter(&mut self, name: &[u8], plain: bool) -> Result<bool, OutOfMemory>
+        requires { plain ≡ true → flat_map escaped name.now ≡ name.now }
+        ensures { IfOk result (λ is_above. is_above ≡ true → PutsName name.now self.old self.new) }
+    {
+        if !is_below(&self.last, name) {
+            return Ok(false);
+        }
+        overwrite(&mut self.last, name)?;
+        self.text.push(b',')?;
+        push_string(&mut self.text, name, plain)?;
+        self.text.push(b':')?;
+        Ok(true)
+    }
+
+    /// Puts a field and its value, a text, if its name is above the last. A name that stands in a JSON string as it is is
+    /// said to be plain.
+    pub fn push_text(&mut self, name: &str, plain: bool, text: &str) -> Result<bool, OutOfMemory>
+        requires { plain ≡ true → flat_map escaped name.now ≡ name.now }
+        ensures { IfOk result (λ is_above. is_above ≡ true → PutsPair (name.now, as_value.Text text.now) self.old self.new) }
+    {
+        if !self.enter(name.as_bytes(), plain)? {
+            return Ok(false);
+        }
+        push_quoted(&mut self.text, text.as_bytes())?;
+        Ok(true)
+    }
+
+    /// Puts a field and its value, as `push_text`.
+    pub fn push(&mut self, name: &str, plain: bool, value: &Value) -> Result<bool, OutOfMemory>
+        requires { plain ≡ true → flat_map escaped name.now ≡ name.now }
+        ensures { IfOk result (λ is_above. is_above ≡ true → PutsPair (name.now, value.now) self.old self.new) }
+    {
+        if !self.enter(name.as_bytes(), plain)? {
+            return Ok(false);
+        }
+        push_value(&mut self.text, value)?;
+        Ok(true)
+    }
+
+    /// Ends the text of the message.
+    pub fn end(&mut self) -> Result<(), OutOfMemory>
+        ensures { OnOk result (self.new ≡ (self.old.0 ++ 125 ∷ [], self.old.1)) }
+    {
+        self.text.push(b'}')?;
+        Ok(())
+    }
+
+    /// Makes it the text of a message.
+    pub fn write(&mut self, message: &Message) -> Result<(), OutOfMemory>
+        ensures text { OnOk result (self.new.0 ≡ message_text message.now) }
+        ensures typed { OnOk result (IsTyped message.now) }
+    {
+        overwrite_by(&mut self.text, message)
+    }
+}

@@ -1,0 +1,37 @@
+-- What a cutter that holds these bytes has to do with a feed.
+use Rattle.std.proofs.Common.{◌≡◌, ℕ, ◌≤◌, false, Option, Some, None, MatchOption, unwrap_or, List, [], ◌∷◌, ◌++◌, replicate, refl, sym, ap, ◌∙◌}
+use Rattle.std.proofs.lemmas.Bool.{cond-false}
+use Rattle.std.proofs.lemmas.List.{length-replicate}
+use Rattle.base_types.specs.Lines.{first_line}
+use Rattle.report_cut.specs.Pieces.{Long, longest_line, header_of, next, AreNext}
+use Rattle.report_cut.specs.Cutter.{Cutting, header_in, ComeNext, StaysLong}
+use Rattle.report_cut.specs.Standing.{Reached}
+use Rattle.report_cut.specs.declared.piece.CutRule.{CutRule}
+use Rattle.report_cut.specs.declared.piece.Cut.{Cut}
+use Rattle.report_cut.proofs.Calls.{stays_in}
+use Rattle.report_cut.proofs.Plain.{plain_piece}
+use Rattle.feed_reader.specs.Coming.{ArePlain}
+
+pub none_of : (o : Option ℕ) → ((n : ℕ) → o ≡ Some n → ⊥) → o ≡ None
+none_of None not_some = refl
+none_of (Some n) not_some = absurd (not_some n refl)
+
+pub plain_header : (s : Cutting) (feed : List ℕ) → s.rule.replicate ≡ false → s.header ≡ None → header_in s feed ≡ []
+plain_header s feed plain none = ap (λ o. unwrap_or o (header_of s.rule feed)) none ∙ cond-false s.rule.replicate (first_line feed) [] plain
+
+pub plain_pieces : (rule : CutRule) (header feed : List ℕ) (at : ℕ) (cuts : List Cut) → rule.replicate ≡ false → header ≡ [] → rule.chunk_size ≤ longest_line → AreNext rule header feed at cuts → ArePlain at cuts
+plain_pieces rule header feed at [] plain none small are = tt
+plain_pieces rule header feed at (cut ∷ cuts) plain none small are =
+    (plain_piece rule header feed at cut plain none small are.0, plain_pieces rule header feed cut.upto cuts plain none small are.1)
+
+-- the pieces that come next in each feed with these bytes, also in one that is made up
+pub plain_next : (s : Cutting) (bytes : List ℕ) (cuts : List Cut) → s.rule.replicate ≡ false → s.header ≡ None → s.rule.chunk_size ≤ longest_line → ComeNext s bytes cuts → ArePlain s.at cuts
+plain_next s bytes cuts plain none small next =
+    let front : List ℕ = replicate s.at 0 in
+    let feed : List ℕ = front ++ (bytes ++ []) in
+    plain_pieces s.rule (header_in s feed) feed s.at cuts plain (plain_header s feed plain none) small (next front [] (length-replicate s.at 0))
+
+-- the line that is too long is what comes next
+pub long_next : (rule : CutRule) (feed : List ℕ) (s : Cutting) (bytes rest : List ℕ) (line : ℕ) (o : Option ℕ) → o ≡ s.long → Reached rule feed s (bytes ++ rest) → MatchOption o (StaysLong s (s.held ++ bytes) s.at line) (λ met. met ≡ line) → next rule feed s.at ≡ Long line
+long_next rule feed s bytes rest line None is r meets = stays_in rule feed s bytes rest s.at line r.knows (r.is_in (sym is)) meets
+long_next rule feed s bytes rest line (Some met) is r meets = r.stays met (sym is) ∙ ap (λ n. Long n) meets

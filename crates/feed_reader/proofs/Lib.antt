@@ -1,0 +1,4 @@
+mod Ended
+mod Given
+mod Sources
+mod Taken

@@ -1,0 +1,126 @@
+-- What a new store stands for.
+use Rattle.std.proofs.Common.{◌≡◌, ◌≤◌, inl, ℕ, suc, true, false, List, [], ◌∷◌, ◌++◌, length, map, filter, flat_map, Option, Some, None, refl, sym, ap, subst, ◌∙◌, arith, length-append}
+use Rattle.std.proofs.lemmas.Option.{none-some}
+use Rattle.std.specs.List.{AllByRecursion}
+use Rattle.edge_traits.specs.Disk.{DiskView, Image, IsImage}
+use Rattle.disk_journal.specs.Journal.{JournalView}
+use Rattle.step_code.specs.declared.base.Base.{Base}
+use Rattle.step_code.specs.declared.rules.Facts.{Facts}
+use Rattle.step_code.specs.declared.step.Step.{Step}
+use Rattle.step_code.specs.declared.output.Output.{Output}
+use Rattle.step_code.specs.Code.{cache, code_of_base, feed, first_format, heads_in, output, IsWritable, IsWritableBase}
+use Rattle.stored_types.specs.Hand.{hand}
+use Rattle.stored_types.specs.Message.{dump}
+use Rattle.stored_types.specs.Queue.{queue}
+use Rattle.std.specs.Int.{to_be_bytes, w32}
+use Rattle.stored_types.specs.Code.{list, name}
+use Rattle.step_code.specs.Spent.{out_length}
+use Rattle.step_code.specs.History.{first, replay}
+use Rattle.step_code.specs.Rules.{Meaning, writes}
+use Rattle.step_code.specs.Sound.{longest_base, IsSound}
+use Rattle.step_code.specs.State.{new_out}
+use Rattle.store_image.specs.Stands.{AreSealedFrom, FrontsStand}
+use Rattle.store_image.specs.Stored.{codes_of}
+use Rattle.store_image.proofs.Standing.{stands_by, IsPast}
+use Rattle.journal_book.specs.Book.{created, BookView, IsKept}
+use Rattle.journal_book.specs.Keeping.{longest_output, longest_waiting, AreAtRest, AreShort, AreStoreFiles, IsPending, IsReplayed}
+use Rattle.journal_book.specs.Staged.{greatest_limit}
+use Rattle.journal_book.proofs.Flushing.{stored_now}
+
+new_outs_sealed : (bots : List Facts) → AreSealedFrom (map new_out bots) (map new_out bots)
+new_outs_sealed [] = refl
+new_outs_sealed (f ∷ bots) = (record { bot = refl; front = []; lines = refl; count = refl; bytes = refl }, new_outs_sealed bots)
+
+new_fronts : (k : ℕ) (bots : List Facts) (image : Image) → FrontsStand k (map new_out bots) (map new_out bots) image
+new_fronts k [] image = tt
+new_fronts k (f ∷ bots) image = (record { size = refl; begins = refl }, new_fronts (suc k) bots image)
+
+new_outs_small : (bots : List Facts) → AllByRecursion (λ o. out_length o ≤ longest_output) (map new_out bots)
+new_outs_small [] = tt
+new_outs_small (f ∷ bots) = (omega arith, new_outs_small bots)
+
+one_byte : (out : Output) → 1 ≤ length (output out)
+one_byte out = omega arith
+
+one_each : (outs : List Output) → length outs ≤ length (flat_map output outs)
+one_each [] = omega arith
+one_each (out ∷ outs) = omega (arith, one_byte out, one_each outs, length-append (output out) (flat_map output outs))
+
+-- a state whose code isn't too long has not too many outputs
+few_outs : (b : Base) → length (code_of_base first_format b) ≤ longest_base → length b.outs ≤ longest_base
+few_outs b short =
+    let front = heads_in true b ++ list queue b.queues ++ list hand b.hands ++ list cache b.caches ++ list dump b.dumps in
+    let outs = list output b.outs in
+    let feeds = list feed b.feeds in
+    omega (
+      arith,
+      short,
+      length-append ((front ++ outs) ++ feeds) (list name b.halted),
+      length-append (front ++ outs) feeds,
+      length-append front outs,
+      length-append (to_be_bytes w32 (length b.outs)) (flat_map output b.outs),
+      one_each b.outs,
+    )
+
+-- the outputs of a state that a store may begin with
+pub new_outs_short : (m : Meaning) (base state : Base) (bots : List Facts) (bundle : List ℕ) → IsSound m base → base ≡ first bots bundle → state ≡ base → AreShort state.outs
+new_outs_short m base state bots bundle sound is same =
+    record {
+      few = omega (arith, few_outs base sound.short, ap (λ (b : Base). length b.outs) same);
+      each = subst (λ (b : Base). AllByRecursion (λ o. out_length o ≤ longest_output) b.outs) (sym (same ∙ is)) (new_outs_small (filter writes bots));
+    }
+
+-- nothing of a first state is sealed
+first_past : (m : Meaning) (bots : List Facts) (bundle : List ℕ) (image : Image) → IsPast m (first bots bundle) [] (first bots bundle) image
+first_past m bots bundle image = record { seals = record { outs = new_outs_sealed (filter writes bots); same = refl }; fronts = new_fronts 0 (filter writes bots) image }
+
+-- whatever a crash leaves of a new store stands for no steps
+pub kept_created : {D R : Type 0} (disk : D → DiskView) (may_leave : D → ℕ → List ℕ → Type 0) (m : Meaning) (bots : List Facts) (bundle : List ℕ) (base : Base) (rules : R) (limit : ℕ) (now : D) (root journal : JournalView) (files : Image)
+    → base ≡ first bots bundle → IsImage (may_leave now) files → (disk now).told ≡ Some files → AreStoreFiles root journal 0 → IsWritableBase first_format base → AreAtRest root journal (may_leave now) 0 base [] files
+    → IsKept disk may_leave m base [] (created rules base limit now)
+kept_created disk may_leave m bots bundle base rules limit now root journal files is honest told stores writable rest = record {
+  files = files;
+  tells = told;
+  counted = omega arith;
+  within = omega arith;
+  each = λ image left.
+      let past : IsPast m base [] base image = subst (λ (b : Base). IsPast m b [] b image) (sym is) (first_past m bots bundle image) in
+      record { count = 0; within = omega arith; stands = stands_by m base [] [] base 0 image image past (λ k. refl) (stored_now (may_leave now) root journal 0 base [] files honest stores writable rest image left) };
+}
+
+pub is_nothing : (file : List ℕ) (have : ℕ) → have ≡ length file → have ≡ 0 → file ≡ []
+is_nothing [] have size none = refl
+is_nothing (b ∷ file) have size none = absurd (omega (arith, size, none))
+
+-- ---- what the book of a new store keeps
+
+pub replayed_created : (m : Meaning) (base state : Base) (steps : List Step) → steps ≡ [] → state ≡ base → IsSound m base → IsWritableBase first_format base → IsReplayed m base steps 0 state
+replayed_created m base state steps none same sound writable = record {
+  sound = sound;
+  writable = writable;
+  behind = same ∙ ap (λ (ss : List Step). replay m base ss) (sym none);
+  latest = omega (arith, ap (λ (b : Base). b.latest.0) same, sound.state.latest);
+  within = omega arith;
+  coded = subst (λ (ss : List Step). AllByRecursion IsWritable ss) (sym none) tt;
+}
+
+pub pending_created : (steps : List Step) (pending : List ℕ) (limit : ℕ) (journal : JournalView) → steps ≡ [] → limit ≤ greatest_limit → journal.length ≤ longest_waiting → IsPending steps 0 pending 0 0 limit journal
+pending_created steps pending limit journal none bound long = record {
+  code = ap codes_of (sym none);
+  within = omega arith;
+  has_room = omega arith;
+  total = omega (arith, ap (λ (ss : List Step). length (codes_of ss)) none);
+  bound = bound;
+  small = inl none;
+  long = omega (arith, long);
+}
+
+pub rest_created : {D : Type 0} (disk : D → DiskView) (may_leave : D → ℕ → List ℕ → Type 0) (old now : D) (root journal : JournalView) (base : Base) (after : Image) (told : Option Image) → (disk old).told ≡ told → (disk now).told ≡ Some after
+    → ((disk old).told ≡ None → (disk now).told ≡ None)
+    → ((files after : Image) → (disk old).told ≡ Some files → (disk now).told ≡ Some after → AreAtRest root journal (may_leave now) 0 base [] after) → AreAtRest root journal (may_leave now) 0 base [] after
+rest_created disk may_leave old now root journal base after None was told untold rests = absurd (none-some after (sym (untold was) ∙ told))
+rest_created disk may_leave old now root journal base after (Some files) was told untold rests = rests files after was told
+
+pub view_created : {D R : Type 0} (rules other : R) (base state : Base) (steps : List Step) (limit : ℕ) (now : D) → other ≡ rules → state ≡ base → steps ≡ []
+    → (let book : BookView D R = record { disk = now; rules = other; generation = 0; base = base; steps = steps; kept = 0; state = state; limit = limit; broken = false } in book ≡ created rules base limit now)
+view_created rules other base state steps limit now same_rules same_state none = λ i. record { disk = now; rules = same_rules i; generation = 0; base = base; steps = none i; kept = 0; state = same_state i; limit = limit; broken = false }

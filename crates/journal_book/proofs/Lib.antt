@@ -1,0 +1,5 @@
+pub mod Beginning
+pub mod Completing
+pub mod Flushing
+pub mod OneMore
+pub mod Sealing

@@ -1,0 +1,94 @@
+use Rattle.std.proofs.Common.{◌≡◌, ◌++◌, Bool, false, take, refl, sym, ◌∙◌, ap, subst}
+use Rattle.std.proofs.lemmas.Bool.{false_from_ne_true}
+use Rattle.edge_traits.specs.Disk.{Leaves}
+use Rattle.store_image.specs.Stands.{StandsFor}
+use Rattle.journal_book.specs.Book.{BookView, durable_steps, waiting_steps, IsKept}
+use Rattle.journal_book.specs.Outputs.{AreCompleted, IsBringUpFault}
+use Rattle.journal_book.proofs.Completing.{fault_is_one}
+use Rattle.journal_book.proofs.Sealing.{kept_later, outs_leave, rest_completed}
+use Rattle.journal_book.proofs.book.Book.complete_outputs.Goals as goal
+
+pub invariant_of-self : goal.invariant_of-self
+invariant_of-self g c =
+    let i = c.self.inside in (
+      c.self.invariant.0,
+      c.self.invariant.1,
+      c.self.invariant.2,
+      c.self.invariant.3,
+      c.self.invariant.4,
+      λ whole after told.
+          rest_completed g.D.Disk.disk g.D.Disk.may_leave g.D.Disk.left_since i.disk c.complete_all.new.disk i.core.state.outs i.root i.journal i.generation i.base.value (take i.durable i.steps) after (g.D.Disk.disk i.disk).told
+          refl told c.self.invariant.0 c.complete_all.ensures.run (c.self.invariant.5 whole),
+    )
+
+pub invariant_of-self-in-Err : goal.invariant_of-self-in-Err
+invariant_of-self-in-Err g c =
+    let i = c.self.inside in
+    let before : i.broken ≡ false = ap (λ b. b.broken) c.self.view_is ∙ c.requires.whole in (
+      c.self.invariant.0,
+      c.self.invariant.1,
+      c.self.invariant.2,
+      c.self.invariant.3,
+      λ whole. c.self.invariant.4 before,
+      λ whole after told.
+          rest_completed g.D.Disk.disk g.D.Disk.may_leave g.D.Disk.left_since i.disk c.complete_all.new.disk i.core.state.outs i.root i.journal i.generation i.base.value (take i.durable i.steps) after (g.D.Disk.disk i.disk).told
+          refl told c.self.invariant.0 c.complete_all.ensures.run (c.self.invariant.5 before),
+    )
+
+pub returns-in-Ok-clause-completed : goal.returns-in-Ok-clause-completed
+returns-in-Ok-clause-completed g c = λ files after told now.
+    subst (λ (b : BookView g.row.D.Denot g.row.R.Denot). AreCompleted (g.D.Disk.may_leave c.complete_all.new.disk) b.state.outs files after) c.self.view_is
+    (c.in-Ok.ensures.completed files after (ap (λ b. (g.D.Disk.disk b.disk).told) c.self.view_is ∙ told) now)
+
+pub returns-in-Ok-clause-kept : goal.returns-in-Ok-clause-kept
+returns-in-Ok-clause-kept g c = λ first past kept.
+    let i = c.self.inside in
+    let here = subst (λ (b : BookView g.row.D.Denot g.row.R.Denot). IsKept g.D.Disk.disk g.D.Disk.may_leave g.R.Rules.meaning first past b) (sym c.self.view_is) kept in
+    let rest = c.self.invariant.5 (ap (λ b. b.broken) c.self.view_is ∙ c.requires.whole) here.files here.tells in
+    let run = outs_leave g.D.Disk.disk g.D.Disk.may_leave g.D.Disk.left_since g.R.Rules.meaning _ i.root i.journal here.files (g.met.D.Disk.honest i.disk here.files here.tells) c.self.invariant.0 c.self.invariant.1.writable rest
+    first past here c.complete_all.new.disk i.core.state i.steps here.tells c.self.invariant.1.behind c.complete_all.ensures.run in
+    let changes = c.complete_all.ensures.run.elsewhere here.files here.tells in
+    kept_later g.D.Disk.disk g.D.Disk.may_leave g.D.Disk.left_since g.R.Rules.meaning first past _ c.complete_all.new.disk i.broken changes.0 here changes.1 (λ image le left. g.met.D.Disk.counts_now c.complete_all.new.disk _ image le left) run
+
+pub returns-in-Ok-clause-any_moment : goal.returns-in-Ok-clause-any_moment
+returns-in-Ok-clause-any_moment g c = λ first past kept.
+    let i = c.self.inside in
+    let here = subst (λ (b : BookView g.row.D.Denot g.row.R.Denot). IsKept g.D.Disk.disk g.D.Disk.may_leave g.R.Rules.meaning first past b) (sym c.self.view_is) kept in
+    let rest = c.self.invariant.5 (ap (λ b. b.broken) c.self.view_is ∙ c.requires.whole) here.files here.tells in
+    let run = outs_leave g.D.Disk.disk g.D.Disk.may_leave g.D.Disk.left_since g.R.Rules.meaning _ i.root i.journal here.files (g.met.D.Disk.honest i.disk here.files here.tells) c.self.invariant.0 c.self.invariant.1.writable rest
+    first past here c.complete_all.new.disk i.core.state i.steps here.tells c.self.invariant.1.behind c.complete_all.ensures.run in
+    subst (λ (b : BookView g.row.D.Denot g.row.R.Denot). Leaves g.D.Disk.disk g.D.Disk.left_since b.disk c.complete_all.new.disk (StandsFor g.R.Rules.meaning first (past ++ durable_steps b) (waiting_steps b))) c.self.view_is run
+
+pub returns-in-Err-clause-disk : goal.returns-in-Err-clause-disk
+returns-in-Err-clause-disk g c = λ is.
+    let yes = c.is_disk-self-inside.ensures.1 (fault_is_one c.in-Err.fault _ is) in
+    ap (λ (b : BookView g.row.D.Denot g.row.R.Denot). record b { disk = c.complete_all.new.disk; broken = c.is_disk-self-inside.result }) c.self.view_is
+    ∙ ap (λ (x : Bool). record c.args.self.now { disk = c.complete_all.new.disk; broken = x }) yes
+
+pub returns-in-Err-clause-still : goal.returns-in-Err-clause-still
+returns-in-Err-clause-still g c = λ apart.
+    let never = false_from_ne_true c.is_disk-self-inside.result (λ yes. apart (c.is_disk-self-inside.ensures.0 yes)) in
+    ap (λ (b : BookView g.row.D.Denot g.row.R.Denot). record b { disk = c.complete_all.new.disk; broken = c.is_disk-self-inside.result }) c.self.view_is
+    ∙ ap (λ (x : Bool). record c.args.self.now { disk = c.complete_all.new.disk; broken = x }) (never ∙ sym c.requires.whole)
+
+pub returns-in-Err-clause-fault : goal.returns-in-Err-clause-fault
+returns-in-Err-clause-fault g c = subst (λ (b : BookView g.row.D.Denot g.row.R.Denot). IsBringUpFault b.state.outs (g.D.Disk.disk b.disk).told c.in-Err.fault) c.self.view_is c.in-Err.ensures.fault
+
+pub returns-in-Err-clause-kept : goal.returns-in-Err-clause-kept
+returns-in-Err-clause-kept g c = λ first past kept.
+    let i = c.self.inside in
+    let here = subst (λ (b : BookView g.row.D.Denot g.row.R.Denot). IsKept g.D.Disk.disk g.D.Disk.may_leave g.R.Rules.meaning first past b) (sym c.self.view_is) kept in
+    let rest = c.self.invariant.5 (ap (λ b. b.broken) c.self.view_is ∙ c.requires.whole) here.files here.tells in
+    let run = outs_leave g.D.Disk.disk g.D.Disk.may_leave g.D.Disk.left_since g.R.Rules.meaning _ i.root i.journal here.files (g.met.D.Disk.honest i.disk here.files here.tells) c.self.invariant.0 c.self.invariant.1.writable rest
+    first past here c.complete_all.new.disk i.core.state i.steps here.tells c.self.invariant.1.behind c.complete_all.ensures.run in
+    let changes = c.complete_all.ensures.run.elsewhere here.files here.tells in
+    kept_later g.D.Disk.disk g.D.Disk.may_leave g.D.Disk.left_since g.R.Rules.meaning first past _ c.complete_all.new.disk c.is_disk-self-inside.result changes.0 here changes.1 (λ image le left. g.met.D.Disk.counts_now c.complete_all.new.disk _ image le left) run
+
+pub returns-in-Err-clause-any_moment : goal.returns-in-Err-clause-any_moment
+returns-in-Err-clause-any_moment g c = λ first past kept.
+    let i = c.self.inside in
+    let here = subst (λ (b : BookView g.row.D.Denot g.row.R.Denot). IsKept g.D.Disk.disk g.D.Disk.may_leave g.R.Rules.meaning first past b) (sym c.self.view_is) kept in
+    let rest = c.self.invariant.5 (ap (λ b. b.broken) c.self.view_is ∙ c.requires.whole) here.files here.tells in
+    let run = outs_leave g.D.Disk.disk g.D.Disk.may_leave g.D.Disk.left_since g.R.Rules.meaning _ i.root i.journal here.files (g.met.D.Disk.honest i.disk here.files here.tells) c.self.invariant.0 c.self.invariant.1.writable rest
+    first past here c.complete_all.new.disk i.core.state i.steps here.tells c.self.invariant.1.behind c.complete_all.ensures.run in
+    subst (λ (b : BookView g.row.D.Denot g.row.R.Denot). Leaves g.D.Disk.disk g.D.Disk.left_since b.disk c.complete_all.new.disk (StandsFor g.R.Rules.meaning first (past ++ durable_steps b) (waiting_steps b))) c.self.view_is run

@@ -1,0 +1,8 @@
+-- what public contracts cite
+pub mod Book
+pub mod Faults
+pub mod Outputs
+pub mod Staged
+-- what only the invariant and private contracts use
+pub mod Keeping
+pub mod Running

@@ -1,0 +1,40 @@
+-- What becomes of the files of outputs.
+use Rattle.std.specs.Prelude.{◌≡◌, ◌≤◌, ◌<◌, ℕ, List, length, Option, Some, slice_get}
+use Rattle.edge_traits.specs.Disk.{Image, Only}
+use Rattle.out_files.specs.Output.{completed}
+use Rattle.step_code.specs.declared.output.Output.{Output}
+use Rattle.store_image.specs.Files.{out_file}
+use Rattle.journal_book.specs.declared.book_fault.BookFault.{BookFault}
+use Rattle.journal_book.specs.declared.book_fault.BookFault.TheVariants as fault
+
+-- an output's file is its sealed front, as it was, and each line behind it, and a crash leaves just that
+pub record IsCompleted (may_leave : ℕ → List ℕ → Type 0) (file : ℕ) (out : Output) (before after : Image) : Type 0 where
+  pub long : out.sealed_bytes ≤ length (before file)
+  pub content : after file ≡ completed (before file) out.sealed_bytes out.lines
+  pub durable : Only (after file) (may_leave file)
+
+-- so is the file of each of these outputs
+abbrev pub AreCompleted : (ℕ → List ℕ → Type 0) → List Output → Image → Image → Type 0
+AreCompleted may_leave outs before after = (k : ℕ) (out : Output) → slice_get outs k ≡ Some out → IsCompleted may_leave (out_file k) out before after
+
+-- the first of these outputs whose file is shorter than what is sealed of it has this file, of this length
+pub record IsFirstShort (outs : List Output) (files : Image) (file at : ℕ) : Type 0 where
+  pub place : ℕ
+  pub out : Output
+  pub here : slice_get outs place ≡ Some out
+  pub file_is : file ≡ out_file place
+  pub length_is : at ≡ length (files file)
+  pub short : at < out.sealed_bytes
+  pub before : (k : ℕ) (earlier : Output) → k < place → slice_get outs k ≡ Some earlier → earlier.sealed_bytes ≤ length (files (out_file k))
+
+-- outputs are not completed: a file is damaged where it is the first that is too short; no other file is looked at
+abbrev pub IsBringUpFault : List Output → Option Image → BookFault → Type 0
+IsBringUpFault outs told fault.Disk = Unit {0}
+IsBringUpFault outs told (fault.Damaged file at) = (files : Image) → told ≡ Some files → IsFirstShort outs files file at
+IsBringUpFault outs told (fault.Store have) = ⊥
+IsBringUpFault outs told fault.Refused = ⊥
+IsBringUpFault outs told fault.OutOfMemory = Unit {0}
+
+-- in each output's file a crash leaves what it might have left before
+abbrev pub LeavesOuts : {D : Type 0} → (D → ℕ → List ℕ → Type 0) → D → Image → Type 0
+LeavesOuts may_leave old image = (k : ℕ) → may_leave old (out_file k) (image (out_file k))

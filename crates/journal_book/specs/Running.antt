@@ -1,0 +1,64 @@
+-- What calls do that complete outputs.
+use Rattle.std.specs.Prelude.{◌≡◌, ◌≢◌, ◌≤◌, ◌<◌, ℕ, zero, suc, List, [], ◌∷◌, length, take, Option, Some, None}
+use Rattle.edge_traits.specs.Disk.{DiskView, Image, Adds, ChangesOnly, Leaves}
+use Rattle.out_files.specs.Output.{KeepsFront}
+use Rattle.step_code.specs.declared.output.Output.{Output}
+use Rattle.store_image.specs.Files.{out_file}
+use Rattle.journal_book.specs.declared.book_fault.BookFault.{BookFault}
+use Rattle.journal_book.specs.declared.book_fault.BookFault.TheVariants as fault
+
+-- how many bytes of output k are sealed, 0 where there is no such output
+abbrev pub sealed_of : List Output → ℕ → ℕ
+sealed_of [] k = 0
+sealed_of (out ∷ outs) zero = out.sealed_bytes
+sealed_of (out ∷ outs) (suc k) = sealed_of outs k
+
+-- a front for each output, as long as what is sealed of it
+abbrev pub AreFronts : List Output → (ℕ → List ℕ) → Type 0
+AreFronts outs fronts = (k : ℕ) → length (fronts k) ≡ sealed_of outs k
+
+-- what may be left of each output's file begins with its front
+abbrev pub Begin : (ℕ → List ℕ → Type 0) → (ℕ → List ℕ) → Type 0
+Begin may_leave fronts = (k : ℕ) (c : List ℕ) → may_leave (out_file k) c → take (length (fronts k)) c ≡ fronts k
+
+-- no output's file
+abbrev pub IsNoOut : ℕ → Type 0
+IsNoOut file = (k : ℕ) → file ≢ out_file k
+
+-- none of the first so many outputs' files
+abbrev pub IsNoneOf : ℕ → ℕ → Type 0
+IsNoneOf n file = (k : ℕ) → k < n → file ≢ out_file k
+
+-- a crash leaves the front of each output's file, and in the files of no output what it might have left before
+pub record KeepsFronts {D : Type 0} (may_leave : D → ℕ → List ℕ → Type 0) (old : D) (fronts : ℕ → List ℕ) (image : Image) : Type 0 where
+  pub begins : (k : ℕ) → take (length (fronts k)) (image (out_file k)) ≡ fronts k
+  pub others : (other : ℕ) → IsNoOut other → may_leave old other (image other)
+
+-- what is told afterwards is the same in the files that rest
+abbrev pub ChangesBut : (ℕ → Type 0) → Image → Option Image → Type 0
+ChangesBut rests files now = (after : Image) × (now ≡ Some after) × ((other : ℕ) → rests other → after other ≡ files other)
+
+-- calls that write one file only, from a sealed length on
+pub record RunsIn {D : Type 0} (disk : D → DiskView) (may_leave : D → ℕ → List ℕ → Type 0) (left_since : D → ℕ → Image → Type 0) (old new : D) (file sealed : ℕ) : Type 0 where
+  pub elsewhere : (files : Image) → (disk old).told ≡ Some files → ChangesOnly files (disk new).told file
+  pub untold : (disk old).told ≡ None → (disk new).told ≡ None
+  pub crash_elsewhere : Adds may_leave old new (λ other. other ≢ file)
+  pub any_moment : (front : List ℕ) → length front ≡ sealed → ((c : List ℕ) → may_leave old file c → take sealed c ≡ front) → Leaves disk left_since old new (KeepsFront may_leave old file front)
+  pub count : (disk old).faults ≤ (disk new).faults
+
+-- calls that write files of these outputs only, each behind what is sealed of it
+pub record RunsOut {D : Type 0} (disk : D → DiskView) (may_leave : D → ℕ → List ℕ → Type 0) (left_since : D → ℕ → Image → Type 0) (old new : D) (outs : List Output) (rests : ℕ → Type 0) : Type 0 where
+  pub elsewhere : (files : Image) → (disk old).told ≡ Some files → ChangesBut rests files (disk new).told
+  pub untold : (disk old).told ≡ None → (disk new).told ≡ None
+  pub crash_elsewhere : Adds may_leave old new rests
+  pub crash : (files : Image) (fronts : ℕ → List ℕ) → (disk old).told ≡ Some files → AreFronts outs fronts → Begin (may_leave old) fronts → Begin (may_leave new) fronts
+  pub any_moment : (files : Image) (fronts : ℕ → List ℕ) → (disk old).told ≡ Some files → AreFronts outs fronts → Begin (may_leave old) fronts → Leaves disk left_since old new (KeepsFronts may_leave old fronts)
+  pub count : (disk old).faults ≤ (disk new).faults
+
+-- one output is not completed: its file is too short, or another cause that says nothing of it
+abbrev pub IsFaultAt : ℕ → ℕ → Option Image → BookFault → Type 0
+IsFaultAt file sealed told fault.Disk = Unit {0}
+IsFaultAt file sealed told (fault.Damaged other at) = (other ≡ file) × ((files : Image) → told ≡ Some files → (at ≡ length (files file)) × (at < sealed))
+IsFaultAt file sealed told (fault.Store have) = ⊥
+IsFaultAt file sealed told fault.Refused = ⊥
+IsFaultAt file sealed told fault.OutOfMemory = Unit {0}

@@ -1,0 +1,377 @@
+ghost use Rattle.std.specs.Prelude.{◌≡◌, ◌≢◌, ◌↔◌, ◌⊎◌, ◌≤◌, ◌<◌, ◌+◌, ◌++◌, [], ◌∷◌, ℕ, List, true, false, length, take, drop, Option, Some, None, Err, IfOk, IfErr, OnOk, OnErr, IsErrOf};
+ghost use Rattle.edge_traits.specs.Count.{Rose};
+ghost use Rattle.edge_traits.specs.Disk.{ChangesOnly, Image, Leaves};
+ghost use Rattle.step_code.specs.declared.base.Base.{Base};
+ghost use Rattle.step_code.specs.declared.step.Step.{Step};
+ghost use Rattle.step_code.specs.After.{after};
+ghost use Rattle.step_code.specs.Content.{May};
+ghost use Rattle.step_code.specs.Fits.{Fits};
+ghost use Rattle.step_code.specs.declared.rules.Facts.{Facts};
+ghost use Rattle.step_code.specs.History.{first, replay};
+ghost use Rattle.step_code.specs.Sound.{IsSound};
+ghost use Rattle.store_image.specs.Files.{generation_file, root_file};
+ghost use Rattle.store_image.specs.Stands.{StandsFor};
+ghost use Rattle.store_image.specs.Stored.{codes_of};
+ghost use Rattle.journal_book.specs.Book.{created, durable_steps, waiting_steps, IsKept};
+ghost use Rattle.journal_book.specs.Faults.{IsCreateFault};
+ghost use Rattle.journal_book.specs.Outputs.{AreCompleted, IsBringUpFault, LeavesOuts};
+ghost use Rattle.journal_book.specs.Staged.{bytes_with, cause_of, greatest_limit, most_waiting, most_waiting_bytes, staged, stamp, step_cause, IsMove, IsStageRefusal};
+
+use crate::create::{Opened, make_store};
+use crate::entering::{drop_last, enter, last_step, push_step};
+use crate::outputs::complete_all;
+use crate::staging::{Move, next_step};
+use crate::{BookFault, StageRefusal, StepList};
+use ack_steps::Core;
+use base_types::{Blob, OutOfMemory};
+use disk_journal::Journal;
+use edge_traits::Disk;
+use std::alloc::Global;
+use std::marker::Model;
+use std::snapshot::Snapshot;
+use step_code::{Base, Rules, Step};
+
+/// Why staged steps could not be made durable.
+#[derive(Clone, Copy, Debug, PartialEq, Eq)]
+pub enum FlushFault {
+    /// The disk failed. The book is broken from now on: open the store again.
+    Disk,
+    /// The disk failed in an earlier call of this book.
+    Broken,
+}
+
+/// A durable history: the steps of a pipeline on a disk that it owns, and the state that they lead to.
+#[derive(Drop)]
+pub struct Book<D: Disk, R: Rules> {
+    alloc: Global,
+    disk: D,
+    core: Core<R>,
+    root: Journal,
+    journal: Journal,
+    generation: u64,
+    // The state that the generation begins with.
+    base: Snapshot<Base>,
+    steps: StepList,
+    durable: usize,
+    // The codes of the steps that aren't durable are its first so many bytes.
+    pending: Blob,
+    used: usize,
+    // The lengths of the codes of all steps together.
+    bytes: u64,
+    limit: u64,
+    broken: bool,
+}
+
+impl<D: Disk, R: Rules> Model for Book<D, R> {
+    ghost use Rattle.std.specs.Prelude.{◌≡◌, false, take, ℕ, Some};
+    ghost use Rattle.edge_traits.specs.Disk.{Image};
+    ghost use Rattle.journal_book.specs.Book.{BookView};
+    ghost use Rattle.journal_book.specs.Keeping.{AreAtRest, AreShort, AreStoreFiles, IsPending, IsReplayed};
+
+    ghost Value = { BookView D R };
+
+    ghost view = { λ b. record { disk = b.disk; rules = b.core.rules; generation = b.generation; base = b.base.value; steps = b.steps; kept = b.durable; state = b.core.state; limit = b.limit; broken = b.broken } };
+
+    ghost invariant = { λ b. AreStoreFiles b.root b.journal b.generation
+        × IsReplayed R.meaning b.base.value b.steps b.durable b.core.state
+        × IsPending b.steps b.durable b.pending b.used b.bytes b.limit b.journal
+        × AreShort b.core.state.outs
+        × (b.broken ≡ false → b.journal.broken ≡ false)
+        × (b.broken ≡ false → (files : Image) → (D.disk b.disk).told ≡ Some files → AreAtRest b.root b.journal (D.may_leave b.disk) b.generation b.base.value (take b.durable b.steps) files) };
+}
+
+impl<D: Disk, R: Rules> Book<D, R> {
+    /// Makes a store of this bundle on a disk whose root is empty. The codes of a generation's steps may have so many bytes
+    /// together.
+    ///
+    /// # Errors
+    ///
+    /// `Store` where the root isn't empty. `Refused` where the bundle doesn't load, or gives no state that a store may begin
+    /// with. `Disk`. `OutOfMemory`. The disk comes back; its files may hold anything where it failed.
+    pub fn create(
+        alloc: Global,
+        disk: D,
+        rules: R,
+        bundle: &Blob,
+        limit: u64,
+    ) -> Result<Book<D, R>, (BookFault, D)>
+        requires { limit ≤ greatest_limit }
+        ensures book { IfOk result (λ book. (bots : List Facts) × (R.meaning.facts bundle.now ≡ Some bots) × (book ≡ created rules (first bots bundle.now) limit book.disk)) }
+        ensures sound { IfOk result (λ book. IsSound R.meaning book.base) }
+
+        // Whatever a crash leaves now stands for no steps of the new store.
+        ensures kept { (files : Image) → (D.disk disk).told ≡ Some files → IfOk result (λ book. IsKept D.disk D.may_leave R.meaning book.base [] book) }
+        ensures empty { (files : Image) → (D.disk disk).told ≡ Some files → OnOk result (files root_file ≡ []) }
+        ensures fault { IfErr result (λ e. IsCreateFault R.meaning bundle.now (D.disk disk).told e.0) }
+        ensures untold { (D.disk disk).told ≡ None → IfOk result (λ book. (D.disk book.disk).told ≡ None) }
+        ensures failed { IfErr result (λ e. e.0 ≡ BookFault.Disk → Rose (D.disk disk).faults (D.disk e.1).faults) }
+        ensures count { IfOk result (λ book. (D.disk disk).faults ≤ (D.disk book.disk).faults) }
+        ensures count_err { IfErr result (λ e. (D.disk disk).faults ≤ (D.disk e.1).faults) }
+    {
+        let mut disk = disk;
+        match make_store(alloc, &mut disk, rules, bundle) {
+            Ok(
+                Opened {
+                    core,
+                    root,
+                    journal,
+                    base,
+                },
+            ) => Ok(Book {
+                alloc,
+                disk,
+                core,
+                root,
+                journal,
+                generation: 0,
+                base,
+                steps: StepList::new(alloc),
+                durable: 0,
+                pending: Blob::from(Vec::new(alloc)),
+                used: 0,
+                bytes: 0,
+                limit,
+                broken: false,
+            }),
+            Err(fault) => Err((fault, disk)),
+        }
+    }
+
+    /// The state, ready to be read.
+    pub fn state(&self) -> &Core<R>
+        ensures core { result.now ≡ record { rules = self.now.rules; state = self.now.state } }
+        ensures replay { self.now.state ≡ replay R.meaning self.now.base self.now.steps }
+    {
+        &self.core
+    }
+
+    /// The steps of the generation in force, the first one first.
+    pub fn steps(&self) -> &StepList
+        ensures { result.now ≡ self.now.steps }
+    {
+        &self.steps
+    }
+
+    /// The number of the last step that is durable.
+    pub fn durable(&self) -> u64
+        ensures { result ≡ self.now.base.steps + self.now.kept }
+    {
+        self.core.steps() - (self.steps.len() - self.durable) as u64
+    }
+
+    /// How many steps wait for a flush, and how many bytes their codes have together.
+    pub fn unflushed(&self) -> (u64, u64)
+        ensures steps { result.0 ≡ length (waiting_steps self.now) }
+        ensures bytes { result.1 ≡ length (codes_of (waiting_steps self.now)) }
+    {
+        ((self.steps.len() - self.durable) as u64, self.used as u64)
+    }
+
+    pub fn disk(&self) -> &D
+        ensures { result.now ≡ self.now.disk }
+    {
+        &self.disk
+    }
+
+    /// Gives the disk back.
+    pub fn into_disk(self) -> D
+        ensures { result ≡ self.disk }
+    {
+        let Book {
+            alloc: _,
+            disk,
+            core: _,
+            root: _,
+            journal: _,
+            generation: _,
+            base: _,
+            steps: _,
+            durable: _,
+            pending: _,
+            used: _,
+            bytes: _,
+            limit: _,
+            broken: _,
+        } = self;
+        disk
+    }
+
+    /// Commits the step that a move comes to when the clock shows this moment, in seconds since 1970. It is whole at once,
+    /// and durable behind the next flush. Answers the number of the step.
+    ///
+    /// # Errors
+    ///
+    /// What refuses it, in the order of `StageRefusal`. The book is as it was then.
+    pub fn stage(&mut self, now: u64, what: Move) -> Result<u64, StageRefusal>
+        requires content { self.old.broken ≡ false → Fits R.meaning self.old.state (staged R.meaning self.old.state now what) → IsMove R.meaning self.old.state (stamp self.old.state now).0 what }
+        requires few { length (waiting_steps self.old) < most_waiting }
+        requires short { length (codes_of (waiting_steps self.old)) < most_waiting_bytes }
+        ensures ok { OnOk result (self.new ≡ record self.old { state = after R.meaning self.old.state (staged R.meaning self.old.state now what); steps = self.old.steps ++ staged R.meaning self.old.state now what ∷ [] }) }
+        ensures number { IfOk result (λ number. number ≡ self.new.state.steps) }
+        ensures may { OnOk result (May R.meaning self.old.state (staged R.meaning self.old.state now what)) }
+        ensures causes { OnOk result (cause_of self.old.broken (step_cause R.meaning self.old.state self.old.steps self.old.limit (staged R.meaning self.old.state now what)) ≡ None) }
+        ensures refused { IfErr result (IsStageRefusal (cause_of self.old.broken (step_cause R.meaning self.old.state self.old.steps self.old.limit (staged R.meaning self.old.state now what)))) }
+        ensures err { OnErr result (self.new ≡ self.old) }
+
+        // Whatever a crash leaves now stands for a front of what was committed before and of this step.
+        ensures kept { (first : Base) (past : List Step) → IsKept D.disk D.may_leave R.meaning first past self.old → IsKept D.disk D.may_leave R.meaning first past self.new }
+    {
+        if self.broken {
+            return Err(StageRefusal::Broken);
+        }
+        match next_step(self.alloc, &self.core, self.bytes, self.limit, now, what) {
+            Ok((step, bytes)) => self.commit(step, bytes),
+            Err(refusal) => Err(refusal),
+        }
+    }
+
+    // Commits a step that nothing refuses, and with which all codes are so many bytes long.
+    fn commit(&mut self, step: Step, bytes: u64) -> Result<u64, StageRefusal>
+        requires whole { self.old.broken ≡ false }
+        requires bytes { bytes ≡ bytes_with self.old.steps step }
+        requires causes { step_cause R.meaning self.old.state self.old.steps self.old.limit step ≡ None }
+        requires may { May R.meaning self.old.state step }
+        ensures ok { OnOk result (self.new ≡ record self.old { state = after R.meaning self.old.state step; steps = self.old.steps ++ step ∷ [] }) }
+        ensures number { IfOk result (λ number. number ≡ self.new.state.steps) }
+        ensures memory { IfErr result (λ refusal. refusal ≡ StageRefusal.OutOfMemory) }
+        ensures err { OnErr result (self.new ≡ self.old) }
+    {
+        push_step(&mut self.steps, step)?;
+        match enter(
+            self.alloc,
+            &mut self.pending,
+            self.used,
+            &mut self.journal,
+            &mut self.core,
+            last_step(&self.steps),
+        ) {
+            Ok(used) => {
+                self.used = used;
+                self.bytes = bytes;
+                Ok(self.core.steps())
+            }
+            Err(OutOfMemory) => {
+                drop_last(&mut self.steps);
+                Err(StageRefusal::OutOfMemory)
+            }
+        }
+    }
+
+    /// Makes all staged steps durable, as one record, and answers the number of the last one. It takes no memory. Where all
+    /// are durable it makes no call of the disk.
+    ///
+    /// # Errors
+    ///
+    /// `Disk`, and the book is broken from then on. `Broken`.
+    pub fn flush(&mut self) -> Result<u64, FlushFault>
+        ensures ok { OnOk result (self.new ≡ record self.old { disk = self.new.disk; kept = length self.old.steps }) }
+        ensures number { IfOk result (λ number. number ≡ self.old.state.steps) }
+        ensures disk { IsErrOf result FlushFault.Disk → self.new ≡ record self.old { disk = self.new.disk; broken = true } }
+        ensures broken { (result ≡ Err FlushFault.Broken) ↔ (self.old.broken ≡ true) }
+        ensures nothing { (self.old.broken ≡ true) ⊎ (waiting_steps self.old ≡ []) → self.new.disk ≡ self.old.disk }
+        ensures untold { (D.disk self.old.disk).told ≡ None → (D.disk self.new.disk).told ≡ None }
+        ensures elsewhere { (files : Image) → (D.disk self.old.disk).told ≡ Some files → ChangesOnly files (D.disk self.new.disk).told (generation_file self.old.generation) }
+
+        // Whatever a crash leaves now stands for all steps, if the answer is `Ok`, and else for a front of them that has each
+        // one that was durable before.
+        ensures kept { (first : Base) (past : List Step) → IsKept D.disk D.may_leave R.meaning first past self.old → IsKept D.disk D.may_leave R.meaning first past self.new }
+
+        // So does what a crash at any moment of the call leaves.
+        ensures any_moment { (first : Base) (past : List Step) → IsKept D.disk D.may_leave R.meaning first past self.old
+            → Leaves D.disk D.left_since self.old.disk self.new.disk (StandsFor R.meaning first (past ++ durable_steps self.old) (waiting_steps self.old)) }
+
+        // No output's file is written.
+        ensures outputs { (files : Image) → (D.disk self.old.disk).told ≡ Some files → Leaves D.disk D.left_since self.old.disk self.new.disk (LeavesOuts D.may_leave self.old.disk) }
+        ensures failed { IsErrOf result FlushFault.Disk → Rose (D.disk self.old.disk).faults (D.disk self.new.disk).faults }
+        ensures count { (D.disk self.old.disk).faults ≤ (D.disk self.new.disk).faults }
+    {
+        if self.broken {
+            return Err(FlushFault::Broken);
+        }
+        if self.durable == self.steps.len() {
+            return Ok(self.core.steps());
+        }
+        match self
+            .journal
+            .append(&mut self.disk, &self.pending.bytes()[..self.used])
+        {
+            Ok(()) => {
+                self.durable = self.steps.len();
+                self.used = 0;
+                Ok(self.core.steps())
+            }
+            Err(_) => {
+                self.broken = true;
+                Err(FlushFault::Disk)
+            }
+        }
+    }
+    /// Completes the files of all outputs: the sealed front of each, then each line behind it, and nothing else. What waits
+    /// is made durable first, so that no line of a step that isn't durable is written.
+    ///
+    /// # Errors
+    ///
+    /// `Disk`, and the book is broken from then on. `Damaged` where an output's file is shorter than what is sealed of it: the
+    /// first such file, with its length; the files of the outputs before it are completed. `OutOfMemory`.
+    pub fn bring_up(&mut self) -> Result<(), BookFault>
+        requires whole { self.old.broken ≡ false }
+        ensures ok { OnOk result (self.new ≡ record self.old { disk = self.new.disk; kept = length self.old.steps }) }
+        ensures disk { IsErrOf result BookFault.Disk → self.new ≡ record self.old { disk = self.new.disk; kept = self.new.kept; broken = true } }
+        ensures durable { IsErrOf result BookFault.Disk → (self.new.kept ≡ self.old.kept) ⊎ (self.new.kept ≡ length self.old.steps) }
+        ensures still { IfErr result (λ fault. (fault ≢ BookFault.Disk) → self.new ≡ record self.old { disk = self.new.disk; kept = length self.old.steps }) }
+        ensures fault { IfErr result (IsBringUpFault self.old.state.outs (D.disk self.old.disk).told) }
+        ensures completed { (files after : Image) → (D.disk self.old.disk).told ≡ Some files → (D.disk self.new.disk).told ≡ Some after
+            → OnOk result (AreCompleted (D.may_leave self.new.disk) self.old.state.outs files after) }
+        ensures untold { (D.disk self.old.disk).told ≡ None → (D.disk self.new.disk).told ≡ None }
+
+        // Whatever a crash leaves now stands for the same steps as before, and for all if the answer isn't `Disk`.
+        ensures kept { (first : Base) (past : List Step) → IsKept D.disk D.may_leave R.meaning first past self.old → IsKept D.disk D.may_leave R.meaning first past self.new }
+
+        // So does what a crash at any moment of the call leaves.
+        ensures any_moment { (first : Base) (past : List Step) → IsKept D.disk D.may_leave R.meaning first past self.old
+            → Leaves D.disk D.left_since self.old.disk self.new.disk (StandsFor R.meaning first (past ++ durable_steps self.old) (waiting_steps self.old)) }
+
+        // No line is written before its step is durable: where a crash leaves in an output's file what it might not have left
+        // before, the files stand for all steps.
+        ensures lines_last { (first : Base) (past : List Step) → IsKept D.disk D.may_leave R.meaning first past self.old
+            → Leaves D.disk D.left_since self.old.disk self.new.disk (λ image. LeavesOuts D.may_leave self.old.disk image ⊎ StandsFor R.meaning first (past ++ self.old.steps) [] image) }
+        ensures failed { IsErrOf result BookFault.Disk → Rose (D.disk self.old.disk).faults (D.disk self.new.disk).faults }
+        ensures count { (D.disk self.old.disk).faults ≤ (D.disk self.new.disk).faults }
+    {
+        match self.flush() {
+            Ok(_) => self.complete_outputs(),
+            Err(FlushFault::Disk | FlushFault::Broken) => Err(BookFault::Disk),
+        }
+    }
+
+    // Completes the files of all outputs of a book whose steps are durable.
+    fn complete_outputs(&mut self) -> Result<(), BookFault>
+        requires whole { self.old.broken ≡ false }
+        ensures ok { OnOk result (self.new ≡ record self.old { disk = self.new.disk }) }
+        ensures disk { IsErrOf result BookFault.Disk → self.new ≡ record self.old { disk = self.new.disk; broken = true } }
+        ensures still { IfErr result (λ fault. (fault ≢ BookFault.Disk) → self.new ≡ record self.old { disk = self.new.disk }) }
+        ensures fault { IfErr result (IsBringUpFault self.old.state.outs (D.disk self.old.disk).told) }
+        ensures completed { (files after : Image) → (D.disk self.old.disk).told ≡ Some files → (D.disk self.new.disk).told ≡ Some after
+            → OnOk result (AreCompleted (D.may_leave self.new.disk) self.old.state.outs files after) }
+        ensures untold { (D.disk self.old.disk).told ≡ None → (D.disk self.new.disk).told ≡ None }
+        ensures kept { (first : Base) (past : List Step) → IsKept D.disk D.may_leave R.meaning first past self.old → IsKept D.disk D.may_leave R.meaning first past self.new }
+        ensures any_moment { (first : Base) (past : List Step) → IsKept D.disk D.may_leave R.meaning first past self.old
+            → Leaves D.disk D.left_since self.old.disk self.new.disk (StandsFor R.meaning first (past ++ durable_steps self.old) (waiting_steps self.old)) }
+        ensures failed { IsErrOf result BookFault.Disk → Rose (D.disk self.old.disk).faults (D.disk self.new.disk).faults }
+        ensures count { (D.disk self.old.disk).faults ≤ (D.disk self.new.disk).faults }
+    {
+        match complete_all(self.alloc, &mut self.disk, &self.core) {
+            Ok(()) => Ok(()),
+            Err(fault) => {
+                self.broken = is_disk(fault);
+                Err(fault)
+            }
+        }
+    }
+}
+
+fn is_disk(fault: BookFault) -> bool
+    ensures { (result ≡ true) ↔ (fault ≡ BookFault.Disk) }
+{
+    matches!(fault, BookFault::Disk)
+}

@@ -1,0 +1,19 @@
+//! The book: a durable history of a pipeline's steps. A crash at any moment leaves a store that stands for a front of the
+//! steps that were committed, and that front has each acknowledged one.
+#![tactic(auto)]
+
+mod book;
+mod book_fault;
+mod create;
+mod entering;
+mod files;
+mod first_state;
+mod outputs;
+mod stage_refusal;
+mod staging;
+
+pub use book::{Book, FlushFault};
+pub use book_fault::BookFault;
+pub use entering::StepList;
+pub use stage_refusal::StageRefusal;
+pub use staging::Move;

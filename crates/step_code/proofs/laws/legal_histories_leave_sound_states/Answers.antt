@@ -1,6 +1,0 @@
-use Rattle.step_code.proofs.SoundHistories.{sound_at_end}
-use Rattle.step_code.proofs.laws.legal_histories_leave_sound_states.Goals as goal
-
-pub returns : goal.returns
-returns g c bots bundle steps plan legal small =
-    sound_at_end g.R.Rules.meaning g.met.R.Rules.bots_are_sound g.met.R.Rules.given_fits bots bundle plan steps legal small

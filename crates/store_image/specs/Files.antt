@@ -1,0 +1,14 @@
+-- The files of a store, by number.
+use Rattle.std.specs.Prelude.{ℕ, ◌+◌, ◌*◌}
+
+-- it names the generations; the last of them is in force
+abbrev pub root_file : ℕ
+root_file = 0
+
+-- the lines of an output
+abbrev pub out_file : ℕ → ℕ
+out_file k = 16 + 2 * k
+
+-- a state, and the steps behind it
+abbrev pub generation_file : ℕ → ℕ
+generation_file g = 17 + 2 * g

@@ -1,0 +1,4 @@
+-- what public contracts cite
+pub mod Files
+pub mod Stands
+pub mod Stored

@@ -1,0 +1,6 @@
+//! Rules with three small bundles, for the tests of the core.
+#![tactic(auto)]
+
+mod rules;
+
+pub use rules::{TinyPlan, TinyRules, TinyWork};
