@@ -188,7 +188,7 @@ codes_split kept steps =
     ∙ length-append (codes_of (take kept steps)) (codes_of (drop kept steps))
 
 -- a record with one step is longer than what frames it
-long_record : (steps : List Step) → 1 ≤ length steps → 9 ≤ length (codes_of steps)
+pub long_record : (steps : List Step) → 1 ≤ length steps → 9 ≤ length (codes_of steps)
 long_record [] some = absurd (omega (arith, some))
 long_record (step ∷ steps) some = omega (arith, length-append (code_of_step step) (codes_of steps), step_is_long step)
 

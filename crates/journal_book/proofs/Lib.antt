@@ -1,5 +1,13 @@
 pub mod Beginning
 pub mod Completing
 pub mod Flushing
+pub mod Histories
+pub mod Lengths
 pub mod OneMore
 pub mod Sealing
+pub mod Bodies
+pub mod Opened
+pub mod Recovering
+pub mod Reopened
+pub mod Replays
+pub mod Small

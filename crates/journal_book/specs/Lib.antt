@@ -2,7 +2,9 @@
 pub mod Book
 pub mod Faults
 pub mod Outputs
+pub mod Opening
 pub mod Staged
 -- what only the invariant and private contracts use
 pub mod Keeping
 pub mod Running
+pub mod Reading

@@ -15,10 +15,14 @@ ghost use Rattle.store_image.specs.Stored.{codes_of};
 ghost use Rattle.journal_book.specs.Book.{created, durable_steps, waiting_steps, IsKept};
 ghost use Rattle.journal_book.specs.Faults.{IsCreateFault};
 ghost use Rattle.journal_book.specs.Outputs.{AreCompleted, IsBringUpFault, LeavesOuts};
+ghost use Rattle.store_image.specs.Opens.{Opens};
+ghost use Rattle.journal_book.specs.Opening.{opened, IsReopened, IsReopenFault, StandsNow};
 ghost use Rattle.journal_book.specs.Staged.{bytes_with, cause_of, greatest_limit, most_waiting, most_waiting_bytes, staged, stamp, step_cause, IsMove, IsStageRefusal};
 
 use crate::create::{Opened, make_store};
 use crate::entering::{drop_last, enter, last_step, push_step};
+use crate::history::History;
+use crate::opening::{Reopened, open_store};
 use crate::outputs::complete_all;
 use crate::staging::{Move, next_step};
 use crate::{BookFault, StageRefusal, StepList};
@@ -30,6 +34,7 @@ use std::alloc::Global;
 use std::marker::Model;
 use std::snapshot::Snapshot;
 use step_code::{Base, Rules, Step};
+use stored_types::codes_len;
 
 /// Why staged steps could not be made durable.
 #[derive(Clone, Copy, Debug, PartialEq, Eq)]
@@ -133,6 +138,73 @@ impl<D: Disk, R: Rules> Book<D, R> {
                 limit,
                 broken: false,
             }),
+            Err(fault) => Err((fault, disk)),
+        }
+    }
+
+    /// Opens a store: the root, the generation that it names last, its state and its steps, each of which is replayed. All of
+    /// them are durable then. The codes of the generation's steps may have so many bytes together.
+    ///
+    /// # Errors
+    ///
+    /// `Store` where the root is empty. `Damaged` where the first damage shows: in the root, in the generation's file, or in
+    /// the length of an output. `Disk`. `OutOfMemory`. The disk comes back; whatever a crash leaves of it stands for what it
+    /// stood for before.
+    pub fn reopen(
+        alloc: Global,
+        disk: D,
+        rules: R,
+        limit: u64,
+    ) -> Result<Book<D, R>, (BookFault, D)>
+        requires { limit ≤ greatest_limit }
+        ensures book { IfOk result (λ book. book ≡ opened R.meaning rules book.generation book.base book.steps limit book.disk) }
+        ensures opens { (files : Image) → (D.disk disk).told ≡ Some files → IfOk result (λ book. Opens R.meaning files book.generation book.base book.steps) }
+        ensures sound { IfOk result (λ book. IsSound R.meaning book.base) }
+
+        // The book goes on from all steps that whatever a crash left stood for.
+        ensures kept { (first : Base) (steps more : List Step) → StandsNow D.disk D.may_leave R.meaning first steps more disk → IfOk result (λ book. IsReopened D.disk D.may_leave R.meaning first steps more book) }
+        ensures still_err { (first : Base) (steps more : List Step) → StandsNow D.disk D.may_leave R.meaning first steps more disk → IfErr result (λ e. StandsNow D.disk D.may_leave R.meaning first steps more e.1) }
+
+        // So does what a crash at any moment of the call leaves.
+        ensures any_moment { (first : Base) (steps more : List Step) → StandsNow D.disk D.may_leave R.meaning first steps more disk
+            → IfOk result (λ book. Leaves D.disk D.left_since disk book.disk (StandsFor R.meaning first steps more)) }
+        ensures any_moment_err { (first : Base) (steps more : List Step) → StandsNow D.disk D.may_leave R.meaning first steps more disk
+            → IfErr result (λ e. Leaves D.disk D.left_since disk e.1 (StandsFor R.meaning first steps more)) }
+        ensures fault { IfErr result (λ e. IsReopenFault R.meaning (D.disk disk).told e.0) }
+        ensures untold { (D.disk disk).told ≡ None → IfOk result (λ book. (D.disk book.disk).told ≡ None) }
+        ensures failed { IfErr result (λ e. e.0 ≡ BookFault.Disk → Rose (D.disk disk).faults (D.disk e.1).faults) }
+        ensures count { IfOk result (λ book. (D.disk disk).faults ≤ (D.disk book.disk).faults) }
+        ensures count_err { IfErr result (λ e. (D.disk disk).faults ≤ (D.disk e.1).faults) }
+    {
+        let mut disk = disk;
+        match open_store(alloc, &mut disk, rules) {
+            Ok(
+                Reopened {
+                    root,
+                    journal,
+                    generation,
+                    history: History { core, base, steps },
+                },
+            ) => {
+                let durable = steps.len();
+                let bytes = codes_len(steps.as_slice());
+                Ok(Book {
+                    alloc,
+                    disk,
+                    core,
+                    root,
+                    journal,
+                    generation,
+                    base,
+                    steps,
+                    durable,
+                    pending: Blob::from(Vec::new(alloc)),
+                    used: 0,
+                    bytes,
+                    limit,
+                    broken: false,
+                })
+            }
             Err(fault) => Err((fault, disk)),
         }
     }

@@ -8,7 +8,11 @@ mod create;
 mod entering;
 mod files;
 mod first_state;
+mod history;
+mod opening;
 mod outputs;
+mod reading;
+mod replaying;
 mod stage_refusal;
 mod staging;
 

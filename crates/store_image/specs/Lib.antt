@@ -1,4 +1,6 @@
 -- what public contracts cite
+pub mod Damage
 pub mod Files
+pub mod Opens
 pub mod Stands
 pub mod Stored

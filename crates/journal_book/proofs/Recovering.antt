@@ -1,0 +1,84 @@
+-- What a crash leaves while the files of a store are recovered.
+use Rattle.std.proofs.Common.{◌≡◌, ◌≢◌, ◌⊎◌, inl, inr, ⊎_elim, ◌≤◌, ◌==◌, ℕ, Bool, true, false, List, Some, refl, sym, subst, ◌∙◌, arith, if◌then◌else◌}
+use Rattle.std.specs.Prelude.{⊤}
+use Rattle.std.proofs.lemmas.Bool.{eqb-true, eqb-false}
+use Rattle.edge_traits.specs.Disk.{Adds, ChangesOnly, DiskView, Elapses, Image, IsImage, Leaves, LeavesOthers}
+use Rattle.edge_traits.proofs.Moments.{run_on, widened}
+use Rattle.disk_journal.specs.GateFile.{Heading, HaveSameBodies}
+use Rattle.disk_journal.specs.Reads.{OnlyReads}
+use Rattle.step_code.specs.declared.base.Base.{Base}
+use Rattle.step_code.specs.declared.step.Step.{Step}
+use Rattle.step_code.specs.Rules.{Meaning}
+use Rattle.store_image.specs.Stands.{StandsFor}
+use Rattle.store_image.specs.Files.{IsStoreFile}
+use Rattle.store_image.proofs.Alike.{alike_put, stands_alike}
+use Rattle.store_image.proofs.Standing.{put_file}
+use Rattle.journal_book.specs.Opening.{KeepsHistories, StandsNow}
+
+-- a file as it is left, or as it was
+either : (may_leave : ℕ → List ℕ → Type 0) (file other : ℕ) (content rest : List ℕ) (is : Bool) → (other == file) ≡ is → may_leave file content → (other ≢ file → may_leave other rest) → may_leave other (if is then content else rest)
+either may_leave file other content rest true is here there = subst (λ (n : ℕ). may_leave n content) (sym (eqb-true other file is)) here
+either may_leave file other content rest false is here there = there (eqb-false other file is)
+
+whole : (may_leave : ℕ → List ℕ → Type 0) (file : ℕ) (image : Image) (other : ℕ) (is : Bool) → (other == file) ≡ is → may_leave file (image file) → (other ≢ file → may_leave other (image other)) → may_leave other (image other)
+whole may_leave file image other true is here there = subst (λ (n : ℕ). may_leave n (image n)) (sym (eqb-true other file is)) here
+whole may_leave file image other false is here there = there (eqb-false other file is)
+
+-- recovering one file, of which a crash leaves what might have been left before or the same records
+module _ {D : Type 0} (disk : D → DiskView) (may_leave : D → ℕ → List ℕ → Type 0) (left_since : D → ℕ → Image → Type 0) (old new : D) (file : ℕ) (heading : Heading) (is : IsStoreFile file heading) where
+  abbrev Found : Image → Image → Type 0
+  Found files image = (may_leave old file (image file) ⊎ HaveSameBodies heading (files file) (image file)) × LeavesOthers may_leave old file image
+
+  stands_still : (m : Meaning) (first : Base) (steps more : List Step) (was : StandsNow disk may_leave m first steps more old) → IsImage (may_leave old) was.files → (image : Image) → Found was.files image → StandsFor m first steps more image
+  stands_still m first steps more was honest image (inl left, others) = was.each image (λ other. whole (may_leave old) file image other (other == file) refl left (others other))
+  stands_still m first steps more was honest image (inr same, others) =
+      let back = put_file file (was.files file) image in
+      let left : IsImage (may_leave old) back = λ other. either (may_leave old) file other (was.files file) (image other) (other == file) refl (honest file) (others other) in
+      stands_alike m first steps more back image (alike_put (was.files file) image file heading is same) (was.each back left)
+
+  pub histories_kept : ((files : Image) → (disk old).told ≡ Some files → IsImage (may_leave old) files)
+      → ((t : ℕ) (image : Image) → t ≤ (disk new).moment → IsImage (may_leave new) image → left_since new t image)
+      → ((files : Image) → (disk old).told ≡ Some files → ChangesOnly files (disk new).told file)
+      → ((files : Image) → (disk old).told ≡ Some files → Leaves disk left_since old new (Found files))
+      → KeepsHistories disk may_leave left_since old new
+  histories_kept honest counts elsewhere any_moment = record { now = now; run = run }
+    where
+      run : (m : Meaning) (first : Base) (steps more : List Step) → StandsNow disk may_leave m first steps more old → Leaves disk left_since old new (StandsFor m first steps more)
+      run m first steps more was = widened (stands_still m first steps more was (honest was.files was.tells)) (any_moment was.files was.tells)
+
+      now : (m : Meaning) (first : Base) (steps more : List Step) → StandsNow disk may_leave m first steps more old → StandsNow disk may_leave m first steps more new
+      now m first steps more was =
+          let changes = elsewhere was.files was.tells in
+          let left = widened (stands_still m first steps more was (honest was.files was.tells)) (any_moment was.files was.tells) in
+          record { files = changes.0; tells = changes.1; each = λ image may. left.each image (counts (disk old).moment image left.later may) }
+
+-- reads keep histories
+pub reads_keep : {D : Type 0} {disk : D → DiskView} {may_leave : D → ℕ → List ℕ → Type 0} {left_since : D → ℕ → Image → Type 0} {old new : D} → ((image : Image) → left_since old (disk old).moment image → IsImage (may_leave old) image)
+    → OnlyReads disk may_leave left_since old new → KeepsHistories disk may_leave left_since old new
+reads_keep {old = old} only_now reads = record {
+  now = λ m first steps more was. record { files = was.files; tells = reads.told ∙ was.tells; each = λ image left. was.each image (λ file. reads.crash file tt (image file) (left file)) };
+  run = λ m first steps more was. record {
+    later = reads.later;
+    each = λ image left. was.each image (⊎_elim (only_now image) (λ now. now) (reads.nothing_else _ image (omega arith) left));
+    earlier = λ t image le left. ⊎_elim (λ before. inl before) (λ now. inr (was.each image now)) (reads.nothing_else t image le left);
+  };
+}
+
+-- one call after another
+pub keeps_on : {D : Type 0} {disk : D → DiskView} {may_leave : D → ℕ → List ℕ → Type 0} {left_since : D → ℕ → Image → Type 0} {old mid new : D}
+    → KeepsHistories disk may_leave left_since old mid → KeepsHistories disk may_leave left_since mid new → KeepsHistories disk may_leave left_since old new
+keeps_on one other = record {
+  now = λ m base steps more was. other.now m base steps more (one.now m base steps more was);
+  run = λ m base steps more was. run_on (one.run m base steps more was) (other.run m base steps more (one.now m base steps more was));
+}
+
+-- a call of the disk that only reads
+pub call_reads : {D : Type 0} {disk : D → DiskView} {may_leave : D → ℕ → List ℕ → Type 0} {left_since : D → ℕ → Image → Type 0} {old new : D} → (disk new).told ≡ (disk old).told → Adds may_leave old new (λ _. ⊤)
+    → Elapses disk may_leave left_since old new → (disk old).faults ≤ (disk new).faults → OnlyReads disk may_leave left_since old new
+call_reads told crash time count = record {
+  told = told;
+  crash = crash;
+  later = time.later;
+  nothing_else = λ t image le left. ⊎_elim (λ was. inl was) (λ now. inr (λ file. crash file tt (image file) (now file))) (time.nothing_else t image le left);
+  count = count;
+}

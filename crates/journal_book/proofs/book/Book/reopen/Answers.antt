@@ -1,0 +1,44 @@
+use Rattle.std.proofs.Common.{List, length, min, sum_by, refl, sym, ◌∙◌, ap, subst}
+use Rattle.base_types.specs.Number.{last_u64}
+use Rattle.step_code.specs.declared.base.Base.{Base}
+use Rattle.step_code.specs.declared.step.Step.{Step}
+use Rattle.step_code.specs.Code.{code_of_step}
+use Rattle.journal_book.specs.Book.{BookView}
+use Rattle.journal_book.specs.Keeping.{AreShort}
+use Rattle.journal_book.specs.Opening.{IsReopened}
+use Rattle.journal_book.proofs.Opened.{history_small}
+use Rattle.journal_book.proofs.Reopened.{kept_reopened, pending_reopened, replayed_reopened, rest_reopened, view_reopened}
+use Rattle.journal_book.proofs.book.Book.reopen.Goals as goal
+
+-- `_` stands for what was opened, which has no name here.
+pub invariant_of-result : goal.invariant_of-result
+invariant_of-result g c =
+    let m = g.R.Rules.meaning in
+    let state_is = ap (λ core. core.state) c.in-Ok.ensures.core in
+    let total = c.codes_len-bytes.ensures ∙ ap (λ (ss : List Step). min (sum_by (λ step. length (code_of_step step)) ss) last_u64) c.as_slice.ensures in (
+      c.in-Ok.ensures.files,
+      replayed_reopened m _ _ _ c.len-durable.result c.in-Ok.ensures.history state_is c.len-durable.ensures,
+      pending_reopened _ c.len-durable.result c.from.result c.codes_len-bytes.result c.args.limit _ c.len-durable.ensures total c.requires c.in-Ok.ensures.length,
+      subst (λ (b : Base). AreShort b.outs) (sym state_is) (history_small m _ _ c.in-Ok.ensures.history).short,
+      λ whole. c.in-Ok.ensures.whole,
+      λ whole after told.
+          rest_reopened g.D.Disk.disk g.D.Disk.may_leave c.args.disk c.open_store.new.disk _ _ _ _ _ c.len-durable.result after (g.D.Disk.disk c.args.disk).told refl told
+          c.open_store.ensures.untold c.in-Ok.ensures.at_rest c.len-durable.ensures,
+    )
+
+pub returns-in-Ok-clause-kept : goal.returns-in-Ok-clause-kept
+returns-in-Ok-clause-kept g c = λ first steps more was.
+    let m = g.R.Rules.meaning in
+    let now = c.open_store.ensures.histories.now m first steps more was in
+    let kept = kept_reopened g.D.Disk.disk g.D.Disk.may_leave m first steps more c.args.rules c.args.limit c.open_store.new.disk _ _ _ _ _ now
+    (g.met.D.Disk.honest c.open_store.new.disk now.files now.tells) c.in-Ok.ensures.files c.in-Ok.ensures.history.writable (c.in-Ok.ensures.at_rest was.files now.files was.tells now.tells) in
+    subst (λ (b : BookView g.row.D.Denot g.row.R.Denot). IsReopened g.D.Disk.disk g.D.Disk.may_leave m first steps more b)
+    (sym (view_reopened m c.args.rules _ _ _ _ _ c.len-durable.result c.args.limit c.open_store.new.disk (ap (λ core. core.rules) c.in-Ok.ensures.core)
+    (ap (λ core. core.state) c.in-Ok.ensures.core) c.len-durable.ensures))
+    kept
+
+pub returns-in-Ok-clause-any_moment : goal.returns-in-Ok-clause-any_moment
+returns-in-Ok-clause-any_moment g c = λ first steps more was. c.open_store.ensures.histories.run g.R.Rules.meaning first steps more was
+
+pub returns-in-Err-clause-any_moment_err : goal.returns-in-Err-clause-any_moment_err
+returns-in-Err-clause-any_moment_err g c = λ first steps more was. c.open_store.ensures.histories.run g.R.Rules.meaning first steps more was

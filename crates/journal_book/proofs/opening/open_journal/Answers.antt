@@ -1,0 +1,28 @@
+use Rattle.std.proofs.Common.{arith}
+use Rattle.disk_journal.specs.GateFile.{heading_of}
+use Rattle.journal_book.proofs.Histories.{gate_length}
+use Rattle.journal_book.proofs.Recovering.{histories_kept}
+use Rattle.journal_book.proofs.opening.open_journal.Goals as goal
+
+pub returns-in-Ok-clause-short : goal.returns-in-Ok-clause-short
+returns-in-Ok-clause-short g c = omega (arith, c.len.type_inv, c.len.ensures, c.in-Ok.ensures.length, gate_length (heading_of c.args.generation) c.in-Ok.bodies 0)
+
+pub returns-in-Ok-clause-recovers : goal.returns-in-Ok-clause-recovers
+returns-in-Ok-clause-recovers g c = record {
+  elsewhere = c.reopen.ensures.elsewhere;
+  untold = c.reopen.ensures.untold;
+  crash_elsewhere = c.reopen.ensures.crash_elsewhere;
+  histories = histories_kept g.D.Disk.disk g.D.Disk.may_leave g.D.Disk.left_since c.args.disk.now c.reopen.new.disk c.args.file (heading_of c.args.generation) c.requires (g.met.D.Disk.honest c.args.disk.now) (g.met.D.Disk.counts_now c.reopen.new.disk)
+      c.reopen.ensures.elsewhere c.reopen.ensures.any_moment;
+  count = c.reopen.ensures.count;
+}
+
+pub returns-in-Err-clause-recovers : goal.returns-in-Err-clause-recovers
+returns-in-Err-clause-recovers g c = record {
+  elsewhere = c.reopen.ensures.elsewhere;
+  untold = c.reopen.ensures.untold;
+  crash_elsewhere = c.reopen.ensures.crash_elsewhere;
+  histories = histories_kept g.D.Disk.disk g.D.Disk.may_leave g.D.Disk.left_since c.args.disk.now c.reopen.new.disk c.args.file (heading_of c.args.generation) c.requires (g.met.D.Disk.honest c.args.disk.now) (g.met.D.Disk.counts_now c.reopen.new.disk)
+      c.reopen.ensures.elsewhere c.reopen.ensures.any_moment;
+  count = c.reopen.ensures.count;
+}

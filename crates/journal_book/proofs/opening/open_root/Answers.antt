@@ -1,0 +1,18 @@
+use Rattle.std.proofs.Common.{List, ℕ, sym, subst, ◌∙◌}
+use Rattle.disk_journal.specs.GateFile.{heading_of}
+use Rattle.disk_journal.specs.Journal.{IsAtRest}
+use Rattle.store_image.specs.Damage.{NameNone}
+use Rattle.journal_book.proofs.Histories.{bad_bodies}
+use Rattle.journal_book.proofs.opening.open_root.Goals as goal
+
+pub returns-in-Ok-generation_named-clause-at_rest : goal.returns-in-Ok-generation_named-clause-at_rest
+returns-in-Ok-generation_named-clause-at_rest g c = λ files after told now.
+    let named = c.in-Ok-generation_named.ensures.ok in (
+      named.before,
+      named.given,
+      subst (λ (bodies : List (List ℕ)). IsAtRest c.in-Ok.found.0 (g.D.Disk.may_leave c.open_journal.new.disk) bodies after) (sym c.as_slice.ensures ∙ named.is) (c.in-Ok.ensures.at_rest files after told now),
+    )
+
+pub returns-in-Err-generation_named-clause-fault : goal.returns-in-Err-generation_named-clause-fault
+returns-in-Err-generation_named-clause-fault g c = λ files told.
+    bad_bodies (heading_of 0) NameNone c.in-Ok.found.1 c.as_slice.result.now (files 0) c.in-Err-generation_named.fault c.as_slice.ensures (c.in-Ok.ensures.bodies files told) c.in-Err-generation_named.ensures.fault

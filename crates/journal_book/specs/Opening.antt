@@ -1,0 +1,80 @@
+-- What opening a store finds, and what it leaves of the disk.
+use Rattle.std.specs.Prelude.{◌≡◌, ◌≢◌, ◌≤◌, ◌<◌, ℕ, false, List, [], ◌++◌, length, take, Option, Some, None}
+use Rattle.edge_traits.specs.Disk.{Adds, ChangesOnly, DiskView, Image, IsImage, Leaves}
+use Rattle.disk_journal.specs.declared.journal.JournalFault.{JournalFault}
+use Rattle.disk_journal.specs.declared.journal.JournalFault.TheVariants as journal
+use Rattle.step_code.specs.declared.base.Base.{Base}
+use Rattle.step_code.specs.declared.output.Output.{Output}
+use Rattle.step_code.specs.declared.step.Step.{Step}
+use Rattle.step_code.specs.History.{replay}
+use Rattle.step_code.specs.Rules.{Meaning}
+use Rattle.store_image.specs.Damage.{IsDamagedStore, IsShort}
+use Rattle.store_image.specs.Files.{root_file}
+use Rattle.store_image.specs.Stands.{StandsFor}
+use Rattle.journal_book.specs.Book.{BookView, IsKept}
+use Rattle.journal_book.specs.declared.book_fault.BookFault.{BookFault}
+use Rattle.journal_book.specs.declared.book_fault.BookFault.TheVariants as fault
+
+-- ---- what public contracts cite
+
+-- a store can't be opened: there is none, or it is damaged; the other faults say nothing of both
+abbrev pub IsReopenFault : Meaning → Option Image → BookFault → Type 0
+IsReopenFault m told fault.Disk = Unit {0}
+IsReopenFault m told (fault.Damaged file at) = (files : Image) → told ≡ Some files → (0 < length (files root_file)) × IsDamagedStore m files file at
+IsReopenFault m told (fault.Store have) = (have ≡ 0) × ((files : Image) → told ≡ Some files → files root_file ≡ [])
+IsReopenFault m told fault.Refused = ⊥
+IsReopenFault m told fault.OutOfMemory = Unit {0}
+
+-- the disk tells what it holds, and whatever a crash leaves now stands for these steps and a front of those behind them
+pub record StandsNow {D : Type 0} (disk : D → DiskView) (may_leave : D → ℕ → List ℕ → Type 0) (m : Meaning) (first : Base) (steps more : List Step) (now : D) : Type 0 where
+  pub files : Image
+  pub tells : (disk now).told ≡ Some files
+  pub each : (image : Image) → IsImage (may_leave now) image → StandsFor m first steps more image
+
+-- the book of a store that was opened with this state, and with these steps behind it, all of them durable
+abbrev pub opened : {D R : Type 0} → Meaning → R → ℕ → Base → List Step → ℕ → D → BookView D R
+opened m rules generation base steps limit disk =
+    record { disk = disk; rules = rules; generation = generation; base = base; steps = steps; kept = length steps; state = replay m base steps; limit = limit; broken = false }
+
+-- the book goes on with these steps and a front of those behind them, all of which are durable
+pub record IsReopened {D R : Type 0} (disk : D → DiskView) (may_leave : D → ℕ → List ℕ → Type 0) (m : Meaning) (first : Base) (steps more : List Step) (book : BookView D R) : Type 0 where
+  pub past : List Step
+  pub count : ℕ
+  pub within : count ≤ length more
+  pub splits : past ++ book.steps ≡ steps ++ take count more
+  pub kept : IsKept disk may_leave m first past book
+
+-- ---- what private contracts cite
+
+-- damage of a file is told where it is; the other faults say nothing of the file
+abbrev pub IsFileFault : (ℕ → Type 0) → JournalFault → Type 0
+IsFileFault bad (journal.Damaged at) = bad at
+IsFileFault bad journal.Disk = Unit {0}
+IsFileFault bad journal.OutOfMemory = Unit {0}
+
+-- an output that is too short is told
+abbrev pub IsShortFault : List Output → Option Image → BookFault → Type 0
+IsShortFault outs told fault.Disk = Unit {0}
+IsShortFault outs told (fault.Damaged file at) = (files : Image) → told ≡ Some files → IsShort 0 outs files file at
+IsShortFault outs told (fault.Store have) = ⊥
+IsShortFault outs told fault.Refused = ⊥
+IsShortFault outs told fault.OutOfMemory = ⊥
+
+-- what a journal's fault says of a store
+abbrev pub in_file : ℕ → JournalFault → BookFault
+in_file file journal.Disk = fault.Disk
+in_file file (journal.Damaged at) = fault.Damaged file at
+in_file file journal.OutOfMemory = fault.OutOfMemory
+
+-- whatever stood for a history does so at each moment of a call, and behind it
+pub record KeepsHistories {D : Type 0} (disk : D → DiskView) (may_leave : D → ℕ → List ℕ → Type 0) (left_since : D → ℕ → Image → Type 0) (old new : D) : Type 0 where
+  pub now : (m : Meaning) (first : Base) (steps more : List Step) → StandsNow disk may_leave m first steps more old → StandsNow disk may_leave m first steps more new
+  pub run : (m : Meaning) (first : Base) (steps more : List Step) → StandsNow disk may_leave m first steps more old → Leaves disk left_since old new (StandsFor m first steps more)
+
+-- what recovering one file of a store leaves
+pub record Recovers {D : Type 0} (disk : D → DiskView) (may_leave : D → ℕ → List ℕ → Type 0) (left_since : D → ℕ → Image → Type 0) (file : ℕ) (old new : D) : Type 0 where
+  pub elsewhere : (files : Image) → (disk old).told ≡ Some files → ChangesOnly files (disk new).told file
+  pub untold : (disk old).told ≡ None → (disk new).told ≡ None
+  pub crash_elsewhere : Adds may_leave old new (λ other. other ≢ file)
+  pub histories : KeepsHistories disk may_leave left_since old new
+  pub count : (disk old).faults ≤ (disk new).faults

@@ -1,0 +1,205 @@
+//! Opening a store: its root, the generation that the root names last, and what that has.
+ghost use Rattle.std.specs.Prelude.{◌≡◌, ◌≤◌, ◌+◌, ◌*◌, ◌<◌, ◌^◌, ◌++◌, [], ◌∷◌, ℕ, List, false, length, map, Option, Some, None, IfOk, IfErr, OnOk, IsErrOf};
+ghost use Rattle.std.specs.List.{AllByRecursion};
+ghost use Rattle.edge_traits.specs.Count.{Rose};
+ghost use Rattle.edge_traits.specs.Disk.{Image};
+ghost use Rattle.disk_journal.specs.GateFile.{gate_file, heading_of, HasBodies, IsDamagedAt};
+ghost use Rattle.disk_journal.specs.Journal.{IsAtRest, IsFaultOf};
+ghost use Rattle.disk_journal.specs.Reads.{OnlyReads};
+ghost use Rattle.stored_types.specs.Code.{number};
+ghost use Rattle.step_code.specs.History.{replay};
+ghost use Rattle.step_code.specs.Spent.{last_given};
+ghost use Rattle.store_image.specs.Damage.{behind_bodies, AreNoHistory, IsDamagedFile, NameNone};
+ghost use Rattle.store_image.specs.Files.{generation_file, root_file, IsStoreFile};
+ghost use Rattle.store_image.specs.Opens.{AreLong, Opens};
+ghost use Rattle.store_image.specs.Stored.{codes_of, NamesLast};
+ghost use Rattle.journal_book.specs.Keeping.{longest_waiting, AreAtRest, AreStoreFiles};
+ghost use Rattle.journal_book.specs.Opening.{in_file, IsFileFault, IsReopenFault, IsShortFault, KeepsHistories, Recovers};
+ghost use Rattle.journal_book.specs.Reading.{AreGenerations, AreHistory, IsHistory};
+
+use crate::BookFault;
+use crate::files::{ROOT, generation_file, out_file};
+use crate::history::{History, history_of};
+use crate::reading::generation_named;
+use ack_steps::Core;
+use base_types::BlobList;
+use disk_journal::{Journal, JournalFault};
+use edge_traits::Disk;
+use std::alloc::Global;
+use step_code::Rules;
+
+/// What a store was opened with: the files of its root and of its generation, and what that holds.
+#[derive(Drop)]
+pub struct Reopened<R: Rules> {
+    pub root: Journal,
+    pub journal: Journal,
+    pub generation: u64,
+    pub history: History<R>,
+}
+
+// Opens a journal of a store.
+fn open_journal<D: Disk>(
+    alloc: Global,
+    disk: &mut D,
+    file: u64,
+    generation: u64,
+) -> Result<(Journal, BlobList), JournalFault>
+    requires { IsStoreFile file (heading_of generation) }
+    ensures journal { IfOk result (λ found. (found.0.file ≡ file) × (found.0.heading ≡ heading_of generation) × (found.0.room ≡ 0) × (found.0.broken ≡ false)) }
+    ensures length { IfOk result (λ found. found.0.length ≡ length (gate_file (heading_of generation) found.1 0)) }
+    ensures short { IfOk result (λ found. behind_bodies found.1 < 2 ^ 64) }
+    ensures bodies { (files : Image) → (D.disk disk.old).told ≡ Some files → IfOk result (λ found. HasBodies (heading_of generation) found.1 (files file)) }
+    ensures at_rest { (files after : Image) → (D.disk disk.old).told ≡ Some files → (D.disk disk.new).told ≡ Some after
+        → IfOk result (λ found. IsAtRest found.0 (D.may_leave disk.new) found.1 after) }
+    ensures fault { (files : Image) → (D.disk disk.old).told ≡ Some files → IfErr result (IsFaultOf (heading_of generation) (files file)) }
+    ensures recovers { Recovers D.disk D.may_leave D.left_since file disk.old disk.new }
+    ensures failed { IsErrOf result JournalFault.Disk → Rose (D.disk disk.old).faults (D.disk disk.new).faults }
+{
+    match Journal::reopen(alloc, disk, file, generation) {
+        Ok((journal, bodies)) => {
+            // The bodies are no longer than a number says.
+            let _ = journal.len();
+            Ok((journal, bodies))
+        }
+        Err(fault) => Err(fault),
+    }
+}
+
+/// The root, and the generation that it names last.
+fn open_root<D: Disk>(alloc: Global, disk: &mut D) -> Result<(Journal, u64), JournalFault>
+    ensures journal { IfOk result (λ found. (found.0.file ≡ root_file) × (found.0.heading ≡ heading_of 0)) }
+    ensures given { IfOk result (λ found. found.1 ≤ last_given) }
+    ensures named { (files : Image) → (D.disk disk.old).told ≡ Some files → IfOk result (λ found. NamesLast (files root_file) found.1) }
+    ensures at_rest { (files after : Image) → (D.disk disk.old).told ≡ Some files → (D.disk disk.new).told ≡ Some after
+        → IfOk result (λ found. (before : List ℕ) × AllByRecursion (λ n. n ≤ last_given) (before ++ found.1 ∷ []) × IsAtRest found.0 (D.may_leave disk.new) (map number (before ++ found.1 ∷ [])) after) }
+    ensures fault { (files : Image) → (D.disk disk.old).told ≡ Some files → IfErr result (IsFileFault (IsDamagedFile (heading_of 0) NameNone (files root_file))) }
+    ensures recovers { Recovers D.disk D.may_leave D.left_since root_file disk.old disk.new }
+    ensures failed { IsErrOf result JournalFault.Disk → Rose (D.disk disk.old).faults (D.disk disk.new).faults }
+{
+    let (journal, bodies) = match open_journal(alloc, disk, ROOT, 0) {
+        Ok(found) => found,
+        Err(fault) => return Err(fault),
+    };
+    match generation_named(bodies.as_slice()) {
+        Ok(generation) => Ok((journal, generation)),
+        Err(fault) => Err(fault),
+    }
+}
+
+/// A generation's file, and its history.
+fn open_generation<D: Disk, R: Rules>(
+    alloc: Global,
+    disk: &mut D,
+    rules: R,
+    generation: u64,
+) -> Result<(Journal, History<R>), JournalFault>
+    requires { generation ≤ last_given }
+    ensures journal { IfOk result (λ found. (found.0.file ≡ generation_file generation) × (found.0.heading ≡ heading_of generation) × (found.0.broken ≡ false)) }
+    ensures core { IfOk result (λ found. found.1.core ≡ record { rules = rules; state = replay R.meaning found.1.base.value found.1.steps }) }
+    ensures history { IfOk result (λ found. (bodies : List (List ℕ)) × AreHistory R.meaning bodies found.1.base.value found.1.steps
+        × (found.0.length ≡ length (gate_file (heading_of generation) bodies 0))
+        × ((files : Image) → (D.disk disk.old).told ≡ Some files → HasBodies (heading_of generation) bodies (files (generation_file generation)))
+        × ((files after : Image) → (D.disk disk.old).told ≡ Some files → (D.disk disk.new).told ≡ Some after → IsAtRest found.0 (D.may_leave disk.new) bodies after)) }
+    ensures fault { (files : Image) → (D.disk disk.old).told ≡ Some files
+        → IfErr result (IsFileFault (IsDamagedFile (heading_of generation) (AreNoHistory R.meaning) (files (generation_file generation)))) }
+    ensures recovers { Recovers D.disk D.may_leave D.left_since (generation_file generation) disk.old disk.new }
+    ensures failed { IsErrOf result JournalFault.Disk → Rose (D.disk disk.old).faults (D.disk disk.new).faults }
+{
+    let (journal, bodies) = match open_journal(
+        alloc,
+        disk,
+        generation_file(generation),
+        generation,
+    ) {
+        Ok(found) => found,
+        Err(fault) => return Err(fault),
+    };
+    match history_of(alloc, rules, bodies.as_slice()) {
+        Ok(history) => Ok((journal, history)),
+        Err(fault) => Err(fault),
+    }
+}
+
+/// Looks whether each output's file has what is sealed.
+///
+/// # Errors
+///
+/// `Damaged` where the first that is too short ends. `Disk`.
+fn check_outs<D: Disk, R: Rules>(disk: &mut D, core: &Core<R>) -> Result<(), BookFault>
+    requires { length core.now.state.outs ≤ last_given + 1 }
+    ensures long { (files : Image) → (D.disk disk.old).told ≡ Some files → OnOk result (AreLong 0 core.now.state.outs files) }
+    ensures short { IfErr result (IsShortFault core.now.state.outs (D.disk disk.old).told) }
+    ensures reads { OnlyReads D.disk D.may_leave D.left_since disk.old disk.new }
+    ensures failed { IsErrOf result BookFault.Disk → Rose (D.disk disk.old).faults (D.disk disk.new).faults }
+{
+    let mut k = 0;
+    'outs: while k < core.outs_len() {
+        let file = out_file(k);
+        let have = disk.len(file)?;
+        if have < core.out_at(k).sealed_bytes {
+            return Err(BookFault::Damaged { file, at: have });
+        }
+        k += 1;
+    }
+    Ok(())
+}
+
+fn in_file(file: u64, fault: JournalFault) -> BookFault
+    ensures { result ≡ in_file file fault }
+{
+    match fault {
+        JournalFault::Disk => BookFault::Disk,
+        JournalFault::Damaged { at } => BookFault::Damaged { file, at },
+        JournalFault::OutOfMemory => BookFault::OutOfMemory,
+    }
+}
+
+/// Opens a store: the root, the generation that it names last, the state and the steps of that, and a look at the lengths
+/// of the outputs.
+///
+/// # Errors
+///
+/// `Store` where the root is empty, else `Damaged` where the first damage shows. `Disk`. `OutOfMemory`. Whatever a crash
+/// leaves stands for the history that it stood for before, in each case.
+pub fn open_store<D: Disk, R: Rules>(
+    alloc: Global,
+    disk: &mut D,
+    rules: R,
+) -> Result<Reopened<R>, BookFault>
+    ensures files { IfOk result (λ found. AreStoreFiles found.root found.journal found.generation) }
+    ensures whole { IfOk result (λ found. found.journal.broken ≡ false) }
+    ensures core { IfOk result (λ found. found.history.core ≡ record { rules = rules; state = replay R.meaning found.history.base.value found.history.steps }) }
+    ensures history { IfOk result (λ found. IsHistory R.meaning found.history.base.value found.history.steps) }
+    ensures length { IfOk result (λ found. found.journal.length ≤ longest_waiting + 2 * length (codes_of found.history.steps)) }
+    ensures opens { (files : Image) → (D.disk disk.old).told ≡ Some files → IfOk result (λ found. Opens R.meaning files found.generation found.history.base.value found.history.steps) }
+    ensures at_rest { (files after : Image) → (D.disk disk.old).told ≡ Some files → (D.disk disk.new).told ≡ Some after
+        → IfOk result (λ found. AreAtRest found.root found.journal (D.may_leave disk.new) found.generation found.history.base.value found.history.steps after) }
+    ensures fault { IfErr result (IsReopenFault R.meaning (D.disk disk.old).told) }
+    ensures histories { KeepsHistories D.disk D.may_leave D.left_since disk.old disk.new }
+    ensures untold { (D.disk disk.old).told ≡ None → (D.disk disk.new).told ≡ None }
+    ensures failed { IsErrOf result BookFault.Disk → Rose (D.disk disk.old).faults (D.disk disk.new).faults }
+    ensures count { (D.disk disk.old).faults ≤ (D.disk disk.new).faults }
+{
+    let have = disk.len(ROOT)?;
+    if have == 0 {
+        return Err(BookFault::Store { have });
+    }
+    // By `match`, since what an error's clauses say gets lost behind a `?`.
+    let (root, generation) = match open_root(alloc, disk) {
+        Ok(found) => found,
+        Err(fault) => return Err(in_file(ROOT, fault)),
+    };
+    let (journal, history) = match open_generation(alloc, disk, rules, generation) {
+        Ok(found) => found,
+        Err(fault) => return Err(in_file(generation_file(generation), fault)),
+    };
+    match check_outs(disk, &history.core) {
+        Ok(()) => Ok(Reopened {
+            root,
+            journal,
+            generation,
+            history,
+        }),
+        Err(fault) => Err(fault),
+    }
+}

@@ -1,0 +1,7 @@
+//! Tests of the book over the disk in memory.
+#![tactic(auto)]
+
+#[cfg(test)]
+mod books;
+#[cfg(test)]
+mod fixtures;
