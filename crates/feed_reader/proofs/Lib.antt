@@ -1,4 +1,6 @@
-mod Ended
-mod Given
-mod Sources
-mod Taken
+pub mod Ended
+pub mod Fronts
+pub mod Given
+pub mod Headers
+pub mod Sources
+pub mod Taken

@@ -1,8 +1,10 @@
 ghost use Rattle.std.specs.Prelude.{◌≡◌};
 ghost use Rattle.feed_reader.specs.declared.ahead.ReaderFault.TheVariants as fault;
 
+use base_types::OutOfMemory;
 use edge_traits::Failed;
 use report_cut::Cut;
+use std::alloc::AllocError;
 
 /// What comes next in a feed.
 #[derive(Debug, PartialEq, Eq, Drop)]
@@ -28,5 +30,21 @@ impl From<Failed> for ReaderFault {
 
     fn from(_: Failed) -> Self {
         ReaderFault::Failed
+    }
+}
+
+impl From<OutOfMemory> for ReaderFault {
+    ghost from_gives = { λ _ reader_fault. reader_fault ≡ fault.OutOfMemory };
+
+    fn from(_: OutOfMemory) -> Self {
+        ReaderFault::OutOfMemory
+    }
+}
+
+impl From<AllocError> for ReaderFault {
+    ghost from_gives = { λ _ reader_fault. reader_fault ≡ fault.OutOfMemory };
+
+    fn from(_: AllocError) -> Self {
+        ReaderFault::OutOfMemory
     }
 }
