@@ -1,0 +1,3 @@
+mod Actors
+mod Idle
+mod Waiting

@@ -1,0 +1,36 @@
+-- What holds of turns.
+use Rattle.std.specs.Prelude.{◌≡◌, ◌↔◌, ℕ, true, List, [], Some, None}
+use Rattle.std.specs.List.{AllByRecursion}
+use Rattle.base_types.specs.Name.{queue_name}
+use Rattle.stored_types.specs.declared.hand.Hand.{Hand}
+use Rattle.step_code.specs.declared.base.Base.{Base}
+use Rattle.step_code.specs.declared.step.StepKind.TheVariants as kind
+use Rattle.step_code.specs.Fits.{first_failing, in_hand_parts, parts}
+use Rattle.step_code.specs.History.{IsIdle}
+use Rattle.step_code.specs.Rules.{AreSound, Meaning}
+use Rattle.step_code.specs.Sound.{IsSoundState}
+use Rattle.step_code.specs.State.{bots_in_force, hand_of, waiting}
+use Rattle.turn_order.specs.Turn.{first_actor, is_idle, workers}
+use Rattle.turn_order.specs.declared.actor.Actor.TheVariants.{Full, Take}
+
+-- the test tells whether nothing is left to do
+abbrev pub IdleIsTold : Type 0
+IdleIsTold = (m : Meaning) (s : Base) → (is_idle m s ≡ true) ↔ IsIdle m s
+
+-- an instance with a full hand fits each step that ends its work on the message
+abbrev pub FullHandsFit : Type 0
+FullHandsFit =
+    (m : Meaning) (s : Base) (bot : List ℕ) (instance : ℕ) → AreSound (bots_in_force m s) → first_actor m s ≡ Some (Full bot instance) →
+    (hand : Hand) × (hand_of bot instance s ≡ Some hand) × (first_failing (in_hand_parts m s bot instance hand.message.no s.bundle_no) ≡ None)
+
+-- a bot that takes a message does so with its first instance, and that fits
+abbrev pub TakesFit : Type 0
+TakesFit =
+    (m : Meaning) (s : Base) (bot : List ℕ) (message : ℕ) → AreSound (bots_in_force m s) → first_actor m s ≡ Some (Take bot) →
+    first_failing (parts m s (kind.Take bot 1 message)) ≡ None
+
+-- where no bot may step and none is halted, no hand is full and nothing waits for a bot
+abbrev pub NothingWaits : Type 0
+NothingWaits =
+    (m : Meaning) (s : Base) → IsSoundState m s → AreSound (bots_in_force m s) → first_actor m s ≡ None → s.halted ≡ [] →
+    (s.hands ≡ []) × AllByRecursion (λ f. waiting (queue_name f.bot) s ≡ []) (workers m s)

@@ -1,0 +1,10 @@
+//! The order of one thread: whose turn it is in a state, and whether anything is left to do.
+#![tactic(auto)]
+
+mod actor;
+mod laws;
+mod order;
+
+pub use actor::Actor;
+pub use laws::{full_hands_fit, idle_is_told, nothing_waits, takes_fit};
+pub use order::{first_actor, is_idle};
