@@ -340,6 +340,7 @@ impl<D: Disk, R: Rules> Book<D, R> {
         ensures number { IfOk result (λ number. number ≡ self.old.state.steps) }
         ensures disk { IsErrOf result FlushFault.Disk → self.new ≡ record self.old { disk = self.new.disk; broken = true } }
         ensures broken { (result ≡ Err FlushFault.Broken) ↔ (self.old.broken ≡ true) }
+        ensures still { IsErrOf result FlushFault.Broken → self.new ≡ self.old }
         ensures nothing { (self.old.broken ≡ true) ⊎ (waiting_steps self.old ≡ []) → self.new.disk ≡ self.old.disk }
         ensures untold { (D.disk self.old.disk).told ≡ None → (D.disk self.new.disk).told ≡ None }
         ensures elsewhere { (files : Image) → (D.disk self.old.disk).told ≡ Some files → ChangesOnly files (D.disk self.new.disk).told (generation_file self.old.generation) }

@@ -1,0 +1,117 @@
+-- How runs of a book's calls are put together.
+use Rattle.std.proofs.Common.{◌≡◌, ◌≤◌, ◌+◌, ◌-◌, ℕ, Bool, List, [], ◌∷◌, ◌++◌, length, take, refl, sym, ap, subst, ◌∙◌, arith, append_assoc, length-append}
+use Rattle.std.proofs.Math.Seq.{take-append-add}
+use Rattle.std.proofs.lemmas.List.{append-nil, length-take, take-append-drop, take-append-le}
+use Rattle.edge_traits.specs.Disk.{DiskView, Image, IsImage, Leaves}
+use Rattle.edge_traits.proofs.Moments.{run_on, started, widened}
+use Rattle.step_code.specs.declared.base.Base.{Base}
+use Rattle.step_code.specs.declared.step.Step.{Step}
+use Rattle.step_code.specs.After.{after}
+use Rattle.step_code.specs.Content.{May}
+use Rattle.step_code.specs.History.{replay, Legal}
+use Rattle.step_code.specs.Rules.{Meaning}
+use Rattle.store_image.specs.Stands.{Stands, StandsFor}
+use Rattle.store_image.proofs.Standing.{replay-append}
+use Rattle.journal_book.specs.Book.{BookView, durable_steps, waiting_steps, IsKept}
+use Rattle.book_runs.specs.GoesOn.{longer, GoesOn}
+
+-- two legal histories, the second from where the first ends
+legal-append : (m : Meaning) (s : Base) (front more : List Step) → Legal m s front → Legal m (replay m s front) more → Legal m s (front ++ more)
+legal-append m s [] more legal then = then
+legal-append m s (step ∷ front) more legal then = (legal.0, legal-append m (after m s step) front more legal.1 then)
+
+-- what stands for a front of these stands for a front of more
+stands_longer : (m : Meaning) (first : Base) (durable waiting more : List Step) (image : Image) → StandsFor m first durable waiting image → StandsFor m first durable (waiting ++ more) image
+stands_longer m first durable waiting more image stands = record {
+  count = stands.count;
+  within = omega (arith, stands.within, length-append waiting more);
+  stands = subst (λ (h : List Step). Stands m first image (durable ++ h)) (sym (take-append-le stands.count waiting more stands.within)) stands.stands;
+}
+
+-- what stands for more durable steps of one history stands for fewer
+stands_wider : (m : Meaning) (first : Base) (durable waiting fewer rest : List Step) (image : Image) → durable ++ waiting ≡ fewer ++ rest → length fewer ≤ length durable
+    → StandsFor m first durable waiting image → StandsFor m first fewer rest image
+stands_wider m first durable waiting fewer rest image same less stands =
+    let more = length durable - length fewer + stands.count in
+    let front : durable ++ take stands.count waiting ≡ fewer ++ take more rest =
+    sym (take-append-add durable waiting stands.count) ∙ ap (take (length durable + stands.count)) same ∙ ap (λ (n : ℕ). take n (fewer ++ rest)) (omega (arith, less)) ∙ take-append-add fewer rest more in
+    record {
+      count = more;
+      within = omega (arith, stands.within, less, ap length same, length-append durable waiting, length-append fewer rest);
+      stands = subst (λ (h : List Step). Stands m first image h) front stands.stands;
+    }
+
+-- the disk stays as it is
+waits : {D R : Type 0} {disk : D → DiskView} (may_leave : D → ℕ → List ℕ → Type 0) {left_since : D → ℕ → Image → Type 0} (old new : BookView D R) (passes : Image → Type 0) → new.disk ≡ old.disk
+    → ((image : Image) → left_since old.disk (disk old.disk).moment image → IsImage (may_leave old.disk) image) → ((image : Image) → IsImage (may_leave old.disk) image → passes image)
+    → Leaves disk left_since old.disk new.disk passes
+waits {disk = disk} may_leave {left_since = left_since} old new passes same only here = subst (λ d. Leaves disk left_since old.disk d passes) (sym same) (started (λ image left. here image (only image left)))
+
+-- what changes in a book without a step: its disk, how many steps are durable, and whether the disk has failed
+pub changes : {D R : Type 0} (old new : BookView D R) (kept : ℕ) (broken : Bool) → new ≡ record old { disk = new.disk; kept = kept; broken = broken } → new ≡ record old { disk = new.disk; kept = new.kept; broken = new.broken }
+changes old new kept broken is = subst (λ (b : BookView _ _). b ≡ record old { disk = b.disk; kept = b.kept; broken = b.broken }) (sym is) refl
+
+module _ {D R : Type 0} {disk : D → DiskView} {may_leave : D → ℕ → List ℕ → Type 0} {left_since : D → ℕ → Image → Type 0} {m : Meaning} where
+  -- calls that make no step
+  pub makes_none : (old new : BookView D R) → new ≡ record old { disk = new.disk; kept = new.kept; broken = new.broken }
+      → ((first : Base) (past : List Step) → IsKept disk may_leave m first past old → old.kept ≤ new.kept)
+      → ((first : Base) (past : List Step) → IsKept disk may_leave m first past old → IsKept disk may_leave m first past new)
+      → ((first : Base) (past : List Step) → IsKept disk may_leave m first past old → Leaves disk left_since old.disk new.disk (StandsFor m first (past ++ durable_steps old) (waiting_steps old)))
+      → GoesOn disk may_leave left_since m old new []
+  makes_none old new same durable kept leaves = record {
+    book = same ∙ ap (λ (ss : List Step). record old { disk = new.disk; steps = ss; kept = new.kept; broken = new.broken }) (sym (append-nil old.steps));
+    legal = tt;
+    durable = durable;
+    kept = kept;
+    any_moment = λ first past was. subst (λ (ss : List Step). Leaves disk left_since old.disk new.disk (StandsFor m first (past ++ durable_steps old) ss)) (sym (append-nil (waiting_steps old))) (leaves first past was);
+  }
+
+  -- no call at all
+  pub goes_nowhere : (book : BookView D R) → ((image : Image) → left_since book.disk (disk book.disk).moment image → IsImage (may_leave book.disk) image) → GoesOn disk may_leave left_since m book book []
+  goes_nowhere book only = makes_none book book refl (λ first past kept. omega arith) (λ first past kept. kept) (λ first past kept. waits may_leave book book _ refl only kept.each)
+
+  -- one step is committed
+  pub makes_one : (old new : BookView D R) (step : Step) → new ≡ record old { state = after m old.state step; steps = old.steps ++ step ∷ [] } → May m old.state step
+      → ((image : Image) → left_since old.disk (disk old.disk).moment image → IsImage (may_leave old.disk) image)
+      → ((first : Base) (past : List Step) → IsKept disk may_leave m first past old → IsKept disk may_leave m first past new) → GoesOn disk may_leave left_since m old new (step ∷ [])
+  makes_one old new step same may only kept = record {
+    book = subst (λ (b : BookView D R). b ≡ longer m old (step ∷ []) b) (sym same) refl;
+    legal = (may, tt);
+    durable = λ first past was. omega (arith, ap (λ (b : BookView D R). b.kept) same);
+    kept = kept;
+    any_moment = λ first past was. waits may_leave old new _ (ap (λ (b : BookView D R). b.disk) same) only (λ image left. stands_longer m first (past ++ durable_steps old) (waiting_steps old) (step ∷ []) image (was.each image left));
+  }
+
+  -- a run, and another from where it ends
+  pub goes_further : (old mid new : BookView D R) (made more : List Step) → GoesOn disk may_leave left_since m old mid made → GoesOn disk may_leave left_since m mid new more
+      → GoesOn disk may_leave left_since m old new (made ++ more)
+  goes_further old mid new made more front rest = record {
+    book = rest.book ∙ ap (λ (b : BookView D R). longer m b more new) front.book ∙ joined;
+    legal = legal-append m old.state made more front.legal (subst (λ (s : Base). Legal m s more) (ap (λ (b : BookView D R). b.state) front.book) rest.legal);
+    durable = λ first past was. omega (arith, front.durable first past was, rest.durable first past (front.kept first past was));
+    kept = λ first past was. rest.kept first past (front.kept first past was);
+    any_moment = λ first past was. run_on (widened (to_the_end first past) (front.any_moment first past was)) (widened (from_the_start first past (front.kept first past was) was) (rest.any_moment first past (front.kept first past was)));
+  }
+    where
+      joined : longer m (longer m old made mid) more new ≡ longer m old (made ++ more) new
+      joined =
+          ap (λ (ss : List Step). record old { disk = new.disk; steps = ss; kept = new.kept; state = replay m (replay m old.state made) more; broken = new.broken }) (append_assoc old.steps made more)
+          ∙ ap (λ (s : Base). record old { disk = new.disk; steps = old.steps ++ (made ++ more); kept = new.kept; state = s; broken = new.broken }) (sym (replay-append m old.state made more))
+
+      to_the_end : (first : Base) (past : List Step) (image : Image) → StandsFor m first (past ++ durable_steps old) (waiting_steps old ++ made) image → StandsFor m first (past ++ durable_steps old) (waiting_steps old ++ (made ++ more)) image
+      to_the_end first past image stands =
+          subst (λ (ss : List Step). StandsFor m first (past ++ durable_steps old) ss image) (append_assoc (waiting_steps old) made more) (stands_longer m first (past ++ durable_steps old) (waiting_steps old ++ made) more image stands)
+
+      whole : (past : List Step) (book : BookView D R) (behind : List Step) → (past ++ durable_steps book) ++ (waiting_steps book ++ behind) ≡ past ++ (book.steps ++ behind)
+      whole past book behind =
+          append_assoc past (durable_steps book) (waiting_steps book ++ behind) ∙ ap (λ (ss : List Step). past ++ ss) (sym (append_assoc (durable_steps book) (waiting_steps book) behind) ∙ ap (λ (ss : List Step). ss ++ behind) (take-append-drop book.kept book.steps))
+
+      same_steps : (past : List Step) → (past ++ durable_steps mid) ++ (waiting_steps mid ++ more) ≡ (past ++ durable_steps old) ++ (waiting_steps old ++ (made ++ more))
+      same_steps past =
+          whole past mid more ∙ ap (λ (ss : List Step). past ++ (ss ++ more)) (ap (λ (b : BookView D R). b.steps) front.book) ∙ ap (λ (ss : List Step). past ++ ss) (append_assoc old.steps made more) ∙ sym (whole past old (made ++ more))
+
+      from_the_start : (first : Base) (past : List Step) → IsKept disk may_leave m first past mid → IsKept disk may_leave m first past old → (image : Image)
+          → StandsFor m first (past ++ durable_steps mid) (waiting_steps mid ++ more) image → StandsFor m first (past ++ durable_steps old) (waiting_steps old ++ (made ++ more)) image
+      from_the_start first past now was image stands =
+          stands_wider m first (past ++ durable_steps mid) (waiting_steps mid ++ more) (past ++ durable_steps old) (waiting_steps old ++ (made ++ more)) image (same_steps past)
+          (omega (arith, front.durable first past was, now.within, was.within, length-append past (durable_steps mid), length-append past (durable_steps old), length-take mid.kept mid.steps, length-take old.kept old.steps)) stands
