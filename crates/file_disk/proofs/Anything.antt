@@ -1,0 +1,8 @@
+-- A disk of which a crash may leave anything.
+use Rattle.std.proofs.Common.{inl, ℕ, arith}
+use Rattle.edge_traits.specs.Disk.{Elapses}
+use Rattle.file_disk.specs.Untold.{untold}
+
+-- at each moment it may leave anything
+pub time_stands : {D : Type 0} (faults : D → ℕ) (old new : D) → Elapses (λ d. untold (faults d)) (λ _ _ _. Unit {0}) (λ _ _ _. Unit {0}) old new
+time_stands faults old new = record { later = omega arith; nothing_else = λ t image le left. inl left; keeps = λ t image le left. left }

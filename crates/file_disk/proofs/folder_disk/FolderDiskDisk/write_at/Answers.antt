@@ -1,0 +1,15 @@
+use Rattle.edge_traits.proofs.Outcomes.{torn_itself}
+use Rattle.file_disk.proofs.Anything.{time_stands}
+use Rattle.file_disk.proofs.folder_disk.FolderDiskDisk.write_at.Goals as goal
+
+pub returns-in-Ok-clause-time : goal.returns-in-Ok-clause-time
+returns-in-Ok-clause-time g c = time_stands (λ d. d.faults) c.args.self.now c.try_write.new.self
+
+pub returns-in-Err-clause-time : goal.returns-in-Err-clause-time
+returns-in-Err-clause-time g c = time_stands (λ d. d.faults) c.args.self.now c.fail.new.self
+
+pub returns-in-Ok-clause-crash : goal.returns-in-Ok-clause-crash
+returns-in-Ok-clause-crash g c = λ content left. (content, tt, torn_itself c.args.at _ content)
+
+pub returns-in-Err-clause-crash : goal.returns-in-Err-clause-crash
+returns-in-Err-clause-crash g c = λ content left. (content, tt, torn_itself c.args.at _ content)

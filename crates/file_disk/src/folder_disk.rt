@@ -1,0 +1,228 @@
+ghost use Rattle.std.specs.Prelude.{◌≡◌, ◌≢◌, ◌≤◌, ◌<◌, length, List, ℕ, IfOk, IfSome, OnOk};
+ghost use Rattle.edge_traits.specs.Count.{Rose};
+ghost use Rattle.file_disk.specs.Untold.{untold};
+
+use crate::folder::{make_folder, path_in, sync_folder};
+use crate::handle::Handle;
+use crate::names::file_name;
+use base_types::Text;
+use edge_traits::{Disk, Failed};
+use std::alloc::Global;
+use std::fs::OpenOptions;
+use std::io;
+use std::os::unix::fs::FileExt;
+use std::rt::Files;
+
+/// The files of a store in a folder of the system. It tells nothing of what they hold: that they keep what the trait says of
+/// a disk is the system's matter.
+///
+/// Nothing is made before the first write: of a file that isn't there the length is 0. A file that is written first is
+/// made, and its folder where that isn't there. A sync makes a new file's entry in its folder durable too.
+#[derive(Drop)]
+pub struct FolderDisk<'a, R: Files> {
+    alloc: Global,
+    files: &'a R,
+    folder: Text,
+    // The files that were opened.
+    handles: Vec<Handle<R::File>>,
+    faults: u64,
+}
+
+impl<'a, R: Files> FolderDisk<'a, R>
+where
+    R::File: FileExt,
+{
+    /// The files of this folder, which need not be there. It takes no memory.
+    pub fn new(alloc: Global, files: &'a R, folder: Text) -> Self
+        ensures told { ⟦<FolderDisk<'a, R> as Disk>⟧.disk result ≡ untold 0 }
+        // A crash may leave anything: what is said of what it leaves is said of disks that tell more.
+        ensures anything { (file : ℕ) (content : List ℕ) → ⟦<FolderDisk<'a, R> as Disk>⟧.may_leave result file content }
+    {
+        FolderDisk {
+            alloc,
+            files,
+            folder,
+            handles: Vec::new(alloc),
+            faults: 0,
+        }
+    }
+
+    // An empty path is the current folder.
+    fn folder(&self) -> &str {
+        if self.folder.as_str().is_empty() {
+            "."
+        } else {
+            self.folder.as_str()
+        }
+    }
+
+    fn fail(&mut self) -> Failed
+        ensures failed { Rose self.old.faults self.new.faults }
+        ensures count { self.old.faults ≤ self.new.faults }
+    {
+        self.faults = self.faults.saturating_add(1);
+        Failed
+    }
+
+    // The place of a file's handle. A file that isn't open is opened; one that isn't there has none.
+    fn find(&mut self, file: u64) -> io::Result<Option<usize>>
+        ensures place { IfOk result (λ place. IfSome place (λ i. i < length self.new.handles.items)) }
+        ensures faults { self.new.faults ≡ self.old.faults }
+    {
+        if let Some(i) = self.handles.iter().position(|h| h.number == file) {
+            return Ok(Some(i));
+        }
+        let Some(name) = file_name(self.alloc, file)? else {
+            return Err(io::ErrorKind::InvalidInput.into());
+        };
+        let path = path_in(self.alloc, self.folder(), &name)?;
+        match OpenOptions::new()
+            .read(true)
+            .write(true)
+            .open(self.files, path.as_str())
+        {
+            Ok(open) => {
+                let handle = Handle::found(file, open)?;
+                self.keep(handle)
+            }
+            Err(e) if e.kind() == io::ErrorKind::NotFound => Ok(None),
+            Err(e) => Err(e),
+        }
+    }
+
+    fn keep(&mut self, handle: Handle<R::File>) -> io::Result<Option<usize>>
+        ensures place { IfOk result (λ place. IfSome place (λ i. i < length self.new.handles.items)) }
+        ensures faults { self.new.faults ≡ self.old.faults }
+    {
+        let place = self.handles.len();
+        self.handles.push(handle)?;
+        Ok(Some(place))
+    }
+
+    // The place of a file's handle. A file that isn't there is made, and its folder.
+    fn find_or_make(&mut self, file: u64) -> io::Result<Option<usize>>
+        ensures place { IfOk result (λ place. IfSome place (λ i. i < length self.new.handles.items)) }
+        ensures faults { self.new.faults ≡ self.old.faults }
+    {
+        if let Some(i) = self.find(file)? {
+            return Ok(Some(i));
+        }
+        let Some(name) = file_name(self.alloc, file)? else {
+            return Err(io::ErrorKind::InvalidInput.into());
+        };
+        let path = path_in(self.alloc, self.folder(), &name)?;
+        make_folder(self.files, self.folder())?;
+        let open = OpenOptions::new()
+            .read(true)
+            .write(true)
+            .create_new(true)
+            .open(self.files, path.as_str())?;
+        self.keep(Handle::made(file, open))
+    }
+
+    fn try_len(&mut self, file: u64) -> io::Result<u64>
+        ensures faults { self.new.faults ≡ self.old.faults }
+    {
+        match self.find(file)? {
+            Some(i) => self.handles[i].len(),
+            None => Ok(0),
+        }
+    }
+
+    fn try_read(&mut self, file: u64, at: u64, buf: &mut [u8]) -> io::Result<usize>
+        ensures within { IfOk result (λ n. n ≤ length buf.new) }
+        ensures faults { self.new.faults ≡ self.old.faults }
+    {
+        match self.find(file)? {
+            Some(i) => self.handles[i].read(at, buf),
+            None => Ok(0),
+        }
+    }
+
+    fn try_write(&mut self, file: u64, at: u64, bytes: &[u8]) -> io::Result<()>
+        ensures faults { self.new.faults ≡ self.old.faults }
+    {
+        match self.find_or_make(file)? {
+            Some(i) => self.handles[i].write(at, bytes),
+            None => Err(io::ErrorKind::NotFound.into()),
+        }
+    }
+
+    fn try_cut(&mut self, file: u64, len: u64) -> io::Result<()>
+        ensures faults { self.new.faults ≡ self.old.faults }
+    {
+        match self.find(file)? {
+            Some(i) => self.handles[i].cut(len),
+            None => Ok(()),
+        }
+    }
+
+    fn try_sync(&mut self, file: u64) -> io::Result<()>
+        ensures faults { self.new.faults ≡ self.old.faults }
+    {
+        let Some(i) = self.find(file)? else {
+            return Ok(());
+        };
+        self.handles[i].sync()?;
+        if !self.handles[i].is_named {
+            sync_folder(self.files, self.folder())?;
+            self.handles[i].is_named = true;
+        }
+        Ok(())
+    }
+}
+
+impl<R: Files> Disk for FolderDisk<'_, R>
+where
+    R::File: FileExt,
+{
+    ghost disk = { λ d. untold d.faults };
+
+    // A crash may leave anything, as far as anybody is told.
+    ghost may_leave = { λ _ _ _. Unit {0} };
+
+    ghost left_since = { λ _ _ _. Unit {0} };
+
+    fn len(&mut self, file: u64) -> Result<u64, Failed> {
+        match self.try_len(file) {
+            Ok(len) => Ok(len),
+            Err(_) => Err(self.fail()),
+        }
+    }
+
+    fn read_at(&mut self, file: u64, at: u64, buf: &mut [u8]) -> Result<usize, Failed> {
+        match self.try_read(file, at, buf) {
+            Ok(n) => Ok(n),
+            Err(_) => Err(self.fail()),
+        }
+    }
+
+    fn write_at(&mut self, file: u64, at: u64, bytes: &[u8]) -> Result<(), Failed> {
+        match self.try_write(file, at, bytes) {
+            Ok(()) => Ok(()),
+            Err(_) => Err(self.fail()),
+        }
+    }
+
+    fn cut(&mut self, file: u64, len: u64) -> Result<(), Failed> {
+        match self.try_cut(file, len) {
+            Ok(()) => Ok(()),
+            Err(_) => Err(self.fail()),
+        }
+    }
+
+    fn sync(&mut self, file: u64) -> Result<(), Failed> {
+        match self.try_sync(file) {
+            Ok(()) => Ok(()),
+            Err(_) => Err(self.fail()),
+        }
+    }
+
+    ghost honest = { λ d files told file. tt };
+
+    ghost counts_now = { λ d t image le now. tt };
+
+    ghost only_now = { λ d image left file. tt };
+
+    ghost earlier = { λ d s t image le left. tt };
+}

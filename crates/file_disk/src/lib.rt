@@ -1,0 +1,9 @@
+//! A disk over the files of a folder: the edge of the store.
+#![tactic(auto)]
+
+mod folder;
+mod folder_disk;
+mod handle;
+mod names;
+
+pub use folder_disk::FolderDisk;
