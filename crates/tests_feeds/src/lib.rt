@@ -4,6 +4,9 @@
 ghost use Rattle.std.specs.Prelude.{◌≡◌, ◌+◌, ◌^◌, ◌≤◌, [], length, false, IfOk};
 
 #[cfg(test)]
+mod beginning;
+
+#[cfg(test)]
 mod tests {
     use base_types::Blob;
     use report_cut::{CutFault, CutList, CutRule, Cutter};
