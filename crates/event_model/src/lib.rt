@@ -16,6 +16,7 @@ mod tree;
 mod tree_value;
 
 pub use clean::{clean_tree, kind_of_word};
+pub use compact::{NoText, push_compact};
 pub use fault::{EventFault, ReadFault};
 pub use fields::{Fields, is_field};
 pub use leaves::{flattens, is_dropped_text};

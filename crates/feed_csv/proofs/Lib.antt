@@ -1,0 +1,5 @@
+mod Canonical
+mod Cellwise
+mod Faulty
+mod Fields
+mod Lines

@@ -1,0 +1,4 @@
+pub mod Cells
+pub mod Columns
+pub mod Laws
+pub mod Rows

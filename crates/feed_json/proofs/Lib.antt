@@ -1,0 +1,3 @@
+mod AllLines
+mod Causes
+mod Items

@@ -1,0 +1,4 @@
+mod Gaps
+mod Joins
+pub mod Raws
+pub mod Rowwise

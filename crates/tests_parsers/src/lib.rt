@@ -1,0 +1,11 @@
+//! Tests of the parsers of reports, through public calls alone.
+#![tactic(auto)]
+
+#[cfg(test)]
+mod csv;
+#[cfg(test)]
+mod json;
+#[cfg(test)]
+mod notes;
+#[cfg(test)]
+mod shared;
