@@ -1,0 +1,12 @@
+mod Comments
+mod Contents
+mod Covers
+mod Finds
+mod Keywords
+mod Numbers
+mod Pieces
+mod Quotes
+mod Runs
+mod Scans
+mod Signs
+mod WordLens
