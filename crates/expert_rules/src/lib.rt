@@ -1,0 +1,13 @@
+//! What the experts for prefixes, taxonomies and duplicates make of an event's fields.
+#![tactic(auto)]
+
+mod chosen;
+mod classifying;
+mod enriching;
+pub mod laws;
+mod setting;
+mod word;
+
+pub use chosen::{DedupRule, dedup_fields};
+pub use classifying::taxonomy;
+pub use enriching::{FieldsList, enrich};

@@ -1,0 +1,4 @@
+-- what public contracts cite
+pub mod Longest
+-- what only proofs use
+pub mod Best
