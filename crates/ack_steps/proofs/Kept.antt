@@ -24,12 +24,12 @@ use Rattle.step_code.specs.After.{after, instances_of, numbered}
 use Rattle.step_code.specs.Fits.{Fits, first_failing, retries_of}
 use Rattle.step_code.specs.Places.{standing}
 use Rattle.step_code.specs.Rules.{Meaning, AreSound, IsSoundBot, bot_named}
-use Rattle.step_code.specs.Sound.{IsSound, IsSoundCache, last_number}
+use Rattle.step_code.specs.Sound.{IsSound, IsSoundCache, IsSoundHand, last_number}
 use Rattle.step_code.specs.Spent.{last_given}
 use Rattle.step_code.specs.State.{bots_in_force, bots_of, hand_of, is_feed, tries_of}
 use Rattle.step_code.proofs.Parts.{retry_fits}
 use Rattle.step_code.proofs.GivenBack.{kept-all_given_back}
-use Rattle.ack_steps.specs.Core.{reload_of, HasSmallNumbers, IsOrderly}
+use Rattle.ack_steps.specs.Core.{reload_of, HasNearFeeds, HasSmallNumbers, HasSoundHands, IsOrderly}
 use Rattle.core_state.specs.Caches.{AreInOrder}
 use Rattle.core_state.specs.Room.{AreAbove}
 
@@ -40,6 +40,10 @@ all_behind P (x ∷ xs) ys all = all_behind P xs ys all.1
 rounds_within : (feeds : List Feed) → AllByRecursion (λ n. n ≤ last_number) (flat_map (λ (f : Feed). f.round ∷ f.position ∷ []) feeds) → AllByRecursion (λ f. f.round ≤ last_number) feeds
 rounds_within [] all = tt
 rounds_within (f ∷ feeds) all = (all.0, rounds_within feeds all.1.1)
+
+positions_within : (feeds : List Feed) → AllByRecursion (λ n. n ≤ last_number) (flat_map (λ (f : Feed). f.round ∷ f.position ∷ []) feeds) → AllByRecursion (λ f. f.position ≤ last_number) feeds
+positions_within [] all = tt
+positions_within (f ∷ feeds) all = (all.1.0, positions_within feeds all.1.1)
 
 -- the numbers of a state but for those of its feeds
 abbrev other_numbers : Base → List ℕ
@@ -72,6 +76,19 @@ sound_orderly m b sound = record {
       (rounds_within b.feeds (all_behind (λ n. n ≤ last_number) (other_numbers b) (flat_map (λ (f : Feed). f.round ∷ f.position ∷ []) b.feeds) sound.state.numbers));
   marks = all_wider (IsSoundCache b.latest.0) (λ c. AreInOrder b.latest.0 c.marks) b.caches (sound_marks b.latest.0) sound.state.each_cache;
 }
+
+-- so are its hands those of live instances
+pub sound_hands : (m : Meaning) (b : Base) → IsSound m b → HasSoundHands m b
+sound_hands m b sound =
+    let in_force : sound.state.bots ≡ bots_in_force m b = sym (ap (λ o. unwrap_or o []) sound.state.loads) in
+    record {
+      queues = sound.state.queues;
+      hands = sound.state.hands;
+      each_hand = subst (λ bots. AllByRecursion (IsSoundHand bots (map (λ q. q.name) b.queues)) b.hands) in_force sound.state.each_hand;
+    }
+
+pub near_feeds : (m : Meaning) (b : Base) → IsSound m b → HasNearFeeds b
+near_feeds m b sound = positions_within b.feeds (all_behind (λ n. n ≤ last_number) (other_numbers b) (flat_map (λ (f : Feed). f.round ∷ f.position ∷ []) b.feeds) sound.state.numbers)
 
 -- no round is the last number of 64 bits
 pub rounds_small : (b : Base) → IsOrderly b → b.steps ≤ last_given → AllByRecursion (λ f. f.round < last_u64) b.feeds

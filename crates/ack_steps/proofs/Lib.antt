@@ -4,6 +4,7 @@ mod Orderly
 mod Coming
 mod Counted
 mod Entries
+mod Hands
 mod Kept
 mod Lists
 mod Results

@@ -1,5 +1,5 @@
 -- The core of the pipeline, as contracts see it.
-use Rattle.std.specs.Prelude.{◌≡◌, ◌≤◌, ◌+◌, ℕ, List, Option, Some}
+use Rattle.std.specs.Prelude.{◌≡◌, ◌≤◌, ◌+◌, ℕ, List, Option, Some, map}
 use Rattle.step_code.specs.declared.base.Base.{Base}
 use Rattle.base_types.specs.declared.message.Moment.{Moment}
 use Rattle.step_code.specs.declared.step.Step.{Step}
@@ -7,9 +7,12 @@ use Rattle.step_code.specs.declared.step.StepKind.{StepKind}
 use Rattle.step_code.specs.declared.step.StepKind.TheVariants as kind
 use Rattle.step_code.specs.declared.step.StepRefusal.{StepRefusal}
 use Rattle.step_code.specs.declared.step.StepRefusal.TheVariants as refusal
-use Rattle.std.specs.List.{AllByRecursion}
-use Rattle.step_code.specs.Sound.{last_number}
+use Rattle.std.specs.List.{AllByRecursion, IsDistinct}
+use Rattle.std.specs.Str.{bytes_eq}
+use Rattle.step_code.specs.Rules.{Meaning}
+use Rattle.step_code.specs.Sound.{IsSoundHand, is_same_hand, last_number}
 use Rattle.step_code.specs.Spent.{last_given}
+use Rattle.step_code.specs.State.{bots_in_force}
 use Rattle.core_state.specs.Caches.{AreInOrder}
 use Rattle.core_state.specs.Room.{HaveDumpsBelow}
 
@@ -31,6 +34,17 @@ pub record IsOrderly (s : Base) : Type 0 where
   pub dumps : HaveDumpsBelow s
   pub rounds : AllByRecursion (λ f. f.round ≤ last_number + s.steps) s.feeds
   pub marks : AllByRecursion (λ c. AreInOrder s.latest.0 c.marks) s.caches
+
+-- no two queues have one name, no two full hands are one instance's, and each hand is sound: that of a live instance of the
+-- bundle in force, whose bot has a queue, with a message that was tried again at most a hundred times
+pub record HasSoundHands (m : Meaning) (s : Base) : Type 0 where
+  pub queues : IsDistinct bytes_eq (map (λ q. q.name) s.queues)
+  pub hands : IsDistinct is_same_hand s.hands
+  pub each_hand : AllByRecursion (IsSoundHand (bots_in_force m s) (map (λ q. q.name) s.queues)) s.hands
+
+-- no feed was read past the last number
+abbrev pub HasNearFeeds : Base → Type 0
+HasNearFeeds s = AllByRecursion (λ f. f.position ≤ last_number) s.feeds
 
 -- the step puts no bundle in force
 abbrev pub IsNoReload : StepKind → Type 0

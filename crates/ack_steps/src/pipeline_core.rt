@@ -5,7 +5,7 @@ ghost use Rattle.step_code.specs.Content.{IsInTime, MayReplay};
 ghost use Rattle.step_code.specs.Fits.{Fits, first_failing, parts};
 ghost use Rattle.step_code.specs.Rules.{IsPlanOf, is_collector, last_moment};
 ghost use Rattle.step_code.specs.Sound.{IsSound};
-ghost use Rattle.ack_steps.specs.Core.{reload_of, HasSmallNumbers, IsOrderly, IsNoReload, IsRefusal};
+ghost use Rattle.ack_steps.specs.Core.{reload_of, HasSmallNumbers, HasSoundHands, IsOrderly, IsNoReload, IsRefusal};
 ghost use Rattle.core_state.specs.Outputs.{HaveLengths};
 ghost use Rattle.step_code.specs.Spent.{last_given, spent, StaysSmall};
 ghost use Rattle.core_state.specs.State.{state_of};
@@ -56,7 +56,7 @@ pub struct Core<R: Rules> {
 impl<R: Rules> Model for Core<R> {
     ghost use Rattle.step_code.specs.Rules.{IsPlanOf};
     ghost use Rattle.std.specs.Prelude.{◌≡◌};
-    ghost use Rattle.ack_steps.specs.Core.{CoreView, IsOrderly};
+    ghost use Rattle.ack_steps.specs.Core.{CoreView, HasNearFeeds, HasSoundHands, IsOrderly};
     ghost use Rattle.core_state.specs.Outputs.{HaveLengths};
     ghost use Rattle.core_state.specs.State.{state_of};
 
@@ -64,7 +64,8 @@ impl<R: Rules> Model for Core<R> {
 
     ghost view = { λ c. record { rules = c.rules; state = state_of c.state } };
 
-    ghost invariant = { λ c. (R.bundle_of c.plan ≡ c.state.bundle) × IsPlanOf R.meaning c.state.bundle (R.bots_of c.plan) × HaveLengths c.state.outs.items × IsOrderly (state_of c.state) };
+    ghost invariant = { λ c. (R.bundle_of c.plan ≡ c.state.bundle) × IsPlanOf R.meaning c.state.bundle (R.bots_of c.plan) × HaveLengths c.state.outs.items × IsOrderly (state_of c.state)
+        × HasSoundHands R.meaning (state_of c.state) × HasNearFeeds (state_of c.state) };
 }
 
 // The plan of the state's bundle, where a store may hold the state.
@@ -307,10 +308,11 @@ impl<R: Rules> Core<R> {
         &self.rules
     }
 
-    /// The plan of the bundle in force.
+    /// The plan of the bundle in force. Each full hand is one of its instances', at most one an instance.
     pub fn plan(&self) -> &R::Plan
         ensures bundle { R.bundle_of result.now ≡ self.now.state.bundle }
         ensures plan { IsPlanOf R.meaning self.now.state.bundle (R.bots_of result.now) }
+        ensures hands { HasSoundHands R.meaning self.now.state }
     {
         &self.plan
     }

@@ -4,6 +4,7 @@ ghost use Rattle.base_types.specs.Name.{queue_name};
 ghost use Rattle.base_types.specs.Number.{last_u64};
 ghost use Rattle.stored_types.specs.Queue.{queued};
 ghost use Rattle.queue_broker.specs.Broker.{front_of, total};
+ghost use Rattle.ack_steps.specs.Core.{HasNearFeeds};
 ghost use Rattle.core_state.specs.Outputs.{outs_of};
 ghost use Rattle.step_code.specs.Content.{is_duplicate};
 ghost use Rattle.step_code.specs.State.{backlog, bots_in_force, hand_of, is_feed, is_halted};
@@ -156,6 +157,14 @@ impl<R: Rules> Core<R> {
         ensures { MatchOption result (find (is_feed bot.now) self.now.state.feeds ≡ None) (λ f. find (is_feed bot.now) self.now.state.feeds ≡ Some f.now) }
     {
         feeds::feed_of(&self.state.feeds, bot)
+    }
+
+    /// How far each collector has come, in the order in which they first stood in a bundle.
+    pub fn feeds(&self) -> &[Feed]
+        ensures feeds { result.now ≡ self.now.state.feeds }
+        ensures near { HasNearFeeds self.now.state }
+    {
+        &self.state.feeds
     }
 
     pub fn is_halted(&self, bot: &BotName) -> bool

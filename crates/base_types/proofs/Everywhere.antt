@@ -1,5 +1,5 @@
 -- What holds of each item of a list.
-use Rattle.std.proofs.Common.{◌≡◌, inl, inr, Bool, true, false, cond, List, [], ◌∷◌, ◌++◌, find, Option, Some, None, refl, ap, subst}
+use Rattle.std.proofs.Common.{◌≡◌, inl, inr, Bool, true, false, cond, List, [], ◌∷◌, ◌++◌, filter, find, Option, Some, None, refl, ap, subst}
 use Rattle.std.specs.List.{AllByRecursion}
 use Rattle.base_types.specs.Lists.{IsIn, changed, changed_or_added, without}
 
@@ -10,6 +10,11 @@ all-append P (x ∷ xs) ys all_xs all_ys = (all_xs.0, all-append P xs ys all_xs.
 pub all_in : {A : Type 0} (P : A → Type 0) (xs : List A) → ((x : A) → IsIn x xs → P x) → AllByRecursion P xs
 all_in P [] each = tt
 all_in P (x ∷ xs) each = (each x (inl refl), all_in P xs (λ y there. each y (inr there)))
+
+-- what all pass keeps all
+pub filter_all : {A : Type 0} (p : A → Bool) (xs : List A) → AllByRecursion (λ x. p x ≡ true) xs → filter p xs ≡ xs
+filter_all p [] all = refl
+filter_all p (x ∷ xs) all = rw all.0 (ap (λ l. x ∷ l) (filter_all p xs all.1))
 
 pub all_wider : {A : Type 0} (P Q : A → Type 0) (xs : List A) → ((x : A) → P x → Q x) → AllByRecursion P xs → AllByRecursion Q xs
 all_wider P Q [] wider all = tt

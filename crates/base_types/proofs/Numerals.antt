@@ -43,7 +43,7 @@ pub digits_value-more : (s : List ℕ) (i value byte digit : ℕ) → i < length
 digits_value-more s i value byte digit within is at written = rw (digits_value_more 10 s i within, ← at, ← is, written)
 
 -- the number in a text, by what its reader answers
-digits_model : IsNumeralModel (λ ds. all_ascii_digits ds ≡ true) (digits_value 10)
+pub digits_model : IsNumeralModel (λ ds. all_ascii_digits ds ≡ true) (digits_value 10)
 digits_model = numerals_by_value (λ ds. all_ascii_digits ds ≡ true) tells_all_ascii_digits
 
 pub digits_in-some : (most : ℕ) (text : List ℕ) (n : ℕ) → IsDigits most text n → digits_in most text ≡ Some n

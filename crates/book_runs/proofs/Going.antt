@@ -16,7 +16,7 @@ use Rattle.journal_book.specs.Book.{BookView, durable_steps, waiting_steps, IsKe
 use Rattle.book_runs.specs.GoesOn.{longer, GoesOn}
 
 -- two legal histories, the second from where the first ends
-legal-append : (m : Meaning) (s : Base) (front more : List Step) → Legal m s front → Legal m (replay m s front) more → Legal m s (front ++ more)
+pub legal-append : (m : Meaning) (s : Base) (front more : List Step) → Legal m s front → Legal m (replay m s front) more → Legal m s (front ++ more)
 legal-append m s [] more legal then = then
 legal-append m s (step ∷ front) more legal then = (legal.0, legal-append m (after m s step) front more legal.1 then)
 

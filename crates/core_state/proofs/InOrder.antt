@@ -6,7 +6,7 @@ use Rattle.std.proofs.lemmas.List.Elements.{All-drop, All-filter, All-push, recu
 use Rattle.std.proofs.lemmas.List.Kept.{IsNonDecreasingBy-filter}
 use Rattle.std.proofs.lemmas.List.Sorted.{IsNonDecreasingBy-drop, IsNonDecreasingBy-push, IsNonDecreasingBy-short}
 use Rattle.base_types.specs.declared.message.Moment.{Moment}
-use Rattle.base_types.proofs.Everywhere.{all_changed, all_changed_or_added}
+use Rattle.base_types.proofs.Everywhere.{all_changed, all_changed_or_added, filter_all}
 use Rattle.stored_types.specs.declared.mark.Mark.{Mark}
 use Rattle.stored_types.specs.Mark.{fresh, trimmed}
 use Rattle.step_code.specs.declared.cache.BotCache.{BotCache}
@@ -14,10 +14,6 @@ use Rattle.step_code.specs.declared.rules.CacheRule.{CacheRule}
 use Rattle.step_code.specs.After.{cached, marked}
 use Rattle.step_code.specs.State.{is_cache}
 use Rattle.core_state.specs.Caches.{AreInOrder, DoNotFall, has_expired}
-
-all_pass : {A : Type 0} (p : A → Bool) (xs : List A) → AllByRecursion (λ x. p x ≡ true) xs → filter p xs ≡ xs
-all_pass p [] all = refl
-all_pass p (x ∷ xs) all = rw all.0 (ap (λ l. x ∷ l) (all_pass p xs all.1))
 
 younger : (ttl now first later : ℕ) → first ≤ later → not (nat_lt (now - first) ttl) ≡ false → nat_lt (now - later) ttl ≡ true
 younger ttl now first later order none = grind (arith, nat_tests)
@@ -27,7 +23,7 @@ pub none_expired : (ttl now : ℕ) (marks : List Mark) → DoNotFall marks → h
 none_expired ttl now [] order none = refl
 none_expired ttl now (mark ∷ marks) order none =
     let live : Mark → Bool = λ m. nat_lt (now - m.moment.0) ttl in
-    all_pass live (mark ∷ marks) (recursion_from_All (λ m. live m ≡ true) (mark ∷ marks) (λ k d inside. younger ttl now mark.moment.0 _ (order 0 k d (omega arith) inside) none))
+    filter_all live (mark ∷ marks) (recursion_from_All (λ m. live m ≡ true) (mark ∷ marks) (λ k d inside. younger ttl now mark.moment.0 _ (order 0 k d (omega arith) inside) none))
 
 module _ (now : Moment) (key : List ℕ) where
   abbrev new : Mark

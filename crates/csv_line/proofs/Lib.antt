@@ -1,3 +1,5 @@
+mod Fields
 mod LineReads
+pub mod NoTexts
 mod PlainLines
 mod Split

@@ -17,9 +17,6 @@ Trees = List (Tree Global)
 abbrev pub ItemsOn : Trees → Trees → List Item → Type 0
 ItemsOn all rest found = (later : List Item) → AreItems (items_view rest) later → AreItems (items_view all) (found ++ later)
 
-pub items_start : (all : Trees) (found : List Item) → found ≡ [] → ItemsOn all all found
-items_start all found none = λ later is. subst (λ f. AreItems (items_view all) (f ++ later)) (sym none) is
-
 item_onto : (v : Tree Global) (i : Item) (more : Trees) (later : List Item) → IsItem (value_view v) i → AreItems (items_view more) later → AreItems (items_view (v ∷ more)) (i ∷ later)
 item_onto v i more later here is = record {
   all = item (data_of (value_view v)) is.all;

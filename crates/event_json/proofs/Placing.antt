@@ -97,9 +97,6 @@ pub named_last : (rest : List Held) (last : Held) → 1 ≤ length rest → last
     → named_values rest ≡ named_values (take (length rest - 1) rest) ++ (last.0.now, value_view last.1.now) ∷ []
 named_last rest last some is = ap named_values (last_of rest last some is) ∙ named-append (take (length rest - 1) rest) (last ∷ [])
 
-pub passes_none : (name : Key) (all : List Named) → is_sorted order all ≡ true → Passed name all all
-passes_none name all sorted = record { back = []; splits = sym (append-nil all); sorted = sorted; below = refl }
-
 pub passes_last : (name : Key) (all rest front : List Named) (last : Named) → rest ≡ front ++ last ∷ [] → order last.0 name ≡ Greater → Passed name all rest → Passed name all front
 passes_last name all rest front last is greater so_far = record {
   back = last ∷ so_far.back;
@@ -117,10 +114,6 @@ belongs_behind name all rest front last n is less so_far size = record {
   above = ap (is_above_all name) is ∙ above_last name front last (ap (is_sorted order) (sym is) ∙ so_far.sorted) less;
   below = so_far.below;
 }
-
-pub belongs_first : (name : Key) (all rest : List Named) → length rest ≡ 0 → Passed name all rest → BelongsAt name all 0
-belongs_first name all [] none so_far = record { front = []; back = so_far.back; splits = so_far.splits; place = refl; above = refl; below = so_far.below }
-belongs_first name all (e ∷ rest) none so_far = absurd (omega arith)
 
 -- ---- the place in the vector
 

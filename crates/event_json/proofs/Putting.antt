@@ -160,9 +160,6 @@ two_members (m ∷ n ∷ ms) many = refl
 pub null_put : (key : List ℕ) (line : Written) → PutsTree key json.null line line
 null_put key line = record { in_range = refl; puts = leaf_dropped key null line refl }
 
-pub text_put : (key s : List ℕ) (old new : Written) → PutsLeaves ((key, string s) ∷ []) old new → PutsTree key (json.string s) old new
-text_put key s old new puts = record { in_range = refl; puts = puts }
-
 pub flag_put : (key : List ℕ) (b : Bool) (old new : Written) → PutsValue key (as_value.Flag b) old new → PutsTree key (json.boolean b) old new
 unfolding value_of
 flag_put key b old new puts = record { in_range = refl; puts = leaf_put key (boolean b) (as_value.Flag b) old new refl refl puts }
@@ -200,19 +197,6 @@ pub decimal_put : (key : List ℕ) (m : Bor (List ℕ) × Tree Global) (members 
     → PutsValue key (as_value.Decimal n) old new → PutsTree key (json.object (members_view members)) old new
 decimal_put key m members n old new single is puts =
     subst (λ js. PutsTree key (json.object js) old new) (sym (ap members_view single ∙ ap₂ (λ k j. json.member k j json.no_members) is.named is.text)) (decimal_here key is.lexeme n old new is.read puts)
-
-pub object_put : (key : List ℕ) (js : json.Members) (ordered : List Named) (old new : Written) → true ≡ flattens key → lexeme_in (data_members ordered) ≡ None
-    → (AreData ordered → of_members js no_members ≡ Some (data_members ordered)) → PutsMembers key ordered old new → PutsTree key (json.object js) old new
-object_put key js ordered old new flat none reads puts =
-    let ms = data_members ordered in
-    let read : of_json (json.object js) ≡ Some (object ms) = ap (option_map object) (reads puts.in_range) in
-    let found : data_of (json.object js) ≡ object ms = ap or_null read in
-    let inside : leaves key (object ms) ≡ leaves_in key ms =
-    ap₂ (λ (f : Bool) (l : Option (List ℕ)). if f && not (is_some l) then leaves_in key ms else (key, object ms) ∷ []) (sym flat) none in
-    record {
-      in_range = read ∙ ap Some (sym found);
-      puts = subst (λ (t : Data). PutsLeaves (leaves key t) old new) (sym found) (subst (λ all. PutsLeaves all old new) (sym inside) puts.puts);
-    }
 
 -- ---- members, one after the other
 

@@ -5,7 +5,7 @@ use Rattle.std.specs.Char.{to_ascii_lowercase, to_ascii_uppercase}
 use Rattle.std.specs.Fmt.{signed_decimal}
 use Rattle.std.specs.List.{list_all, AllByRecursion}
 use Rattle.std.proofs.lemmas.Bool.{and_parts, ltb-true}
-use Rattle.std.proofs.lemmas.Option.{none-some}
+use Rattle.std.proofs.lemmas.Option.{none-some, same_Some}
 use Rattle.scalar_text.specs.Number.{decimal_in, port_in, whole_in}
 use Rattle.scalar_text.specs.Raw.{raw_of}
 use Rattle.scalar_text.specs.Time.{time_in, time_text}
@@ -20,7 +20,7 @@ use Rattle.field_types.specs.declared.value.Item.{Item}
 use Rattle.field_types.specs.declared.value.Item.TheVariants as item
 use Rattle.field_types.specs.declared.value.Value.{Value}
 use Rattle.field_types.specs.declared.value.Value.TheVariants as value
-use Rattle.field_types.proofs.Twice.{accuracy_from, from_text, mapped, some_same}
+use Rattle.field_types.proofs.Twice.{accuracy_from, from_text, mapped}
 use Rattle.field_types.proofs.TwiceMore.{asn_is, decimal_short, port_is, whole_short}
 use Rattle.field_types.proofs.Wholes.{accuracy_size, short_is}
 use Rattle.event_json.specs.Decode.{IsReadable, IsReadableItem}
@@ -42,12 +42,12 @@ made f o v found short =
     subst IsShortValue (sym same) (short a is)
 
 if_short : (b : Bool) (text : List ℕ) (v : Value) → (if b then Some (value.Text text) else None) ≡ Some v → IsShortValue v
-if_short true text v found = subst IsShortValue (some_same (value.Text text) v found) tt
+if_short true text v found = subst IsShortValue (same_Some (value.Text text) v found) tt
 if_short false text v found = absurd (none-some v found)
 
 unless_short : (b : Bool) (text : List ℕ) (v : Value) → (if b then None else Some (value.Text text)) ≡ Some v → IsShortValue v
 unless_short true text v found = absurd (none-some v found)
-unless_short false text v found = subst IsShortValue (some_same (value.Text text) v found) tt
+unless_short false text v found = subst IsShortValue (same_Some (value.Text text) v found) tt
 
 asn_short : (n : ℕ) → (nat_lt 0 n && nat_lt n (2 ^ 32)) ≡ true → n < 10 ^ 18
 asn_short n is = let few = ltb-true n (2 ^ 32) (and_parts (nat_lt 0 n) (nat_lt n (2 ^ 32)) is).1 in omega (arith, few)

@@ -89,7 +89,3 @@ all_objects j js line r is = text_on r line _ _ (λ m of. subst (λ k. IsMessage
 pub puts_text : {A E : Type 0} (r : Result A E) (bytes line text old new : List ℕ) → HasText (λ m. lenient bytes ≡ Ok m) line → text ≡ line → OnOk r (new ≡ old ++ text) → OnOk r (PutsText (lenient bytes) old new)
 puts_text (Ok a) bytes line text old new has same is = record { message = has.message; read = has.is; text = is ∙ ap (λ (t : List ℕ). old ++ t) (same ∙ has.text_is) }
 puts_text (Err e) bytes line text old new has same is = tt
-
--- the strict reading of its text gives it back
-pub text_of_message : (bytes line : List ℕ) (has : HasText (λ m. lenient bytes ≡ Ok m) line) → IsTextOf line has.message
-text_of_message bytes line has = record { typed = has.typed; text = sym has.text_is }

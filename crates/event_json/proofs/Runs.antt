@@ -12,7 +12,7 @@ use Rattle.std.proofs.lemmas.Fmt.{decimal_is_IsNumeral}
 use Rattle.std.proofs.lemmas.List.{take-append-drop}
 use Rattle.std.proofs.lemmas.List.Folds.{list_all-append, list_any-append}
 use Rattle.std.proofs.lemmas.List.Sums.{prefix_len-le-length}
-use Rattle.std.proofs.lemmas.Option.{none-some, option_and_then_some}
+use Rattle.std.proofs.lemmas.Option.{none-some, option_and_then_some, same_Some}
 use Rattle.std.proofs.lemmas.Slice.Eq.{bytes_eq-Decides}
 use Rattle.std.proofs.lemmas.Str.Parse.{digit_from_value}
 use Rattle.scalar_text.specs.Number.{decimal_in, decimal_text, part_text, whole_in}
@@ -21,7 +21,7 @@ use Rattle.scalar_text.proofs.PrintedDecimals.{no_point_byte, part_numeral}
 use Rattle.field_types.specs.Writing.{flag_word, is_utf8_item, item_text}
 use Rattle.field_types.specs.declared.value.Item.{Item}
 use Rattle.field_types.specs.declared.value.Item.TheVariants as item
-use Rattle.field_types.proofs.Twice.{some_same, mapped}
+use Rattle.field_types.proofs.Twice.{mapped}
 use Rattle.field_types.proofs.TwiceMore.{whole_short, decimal_short}
 use Rattle.event_json.specs.Decode.{begins_with_stop, canonical_decimal, has_point, if_written, is_stop, number_in, scalar_at, scalar_in, canonical_whole}
 
@@ -44,7 +44,7 @@ written text_of run number n found =
     option_and_then_some _ number n found (λ m is same. by_test m (bytes_eq (text_of m) run) refl same)
   where
     by_test : (m : ℤ) (b : Bool) → bytes_eq (text_of m) run ≡ b → (if b then Some m else None) ≡ Some n → run ≡ text_of n
-    by_test m true e same = sym ((bytes_eq-Decides (text_of m) run).0 e) ∙ ap text_of (some_same m n same)
+    by_test m true e same = sym ((bytes_eq-Decides (text_of m) run).0 e) ∙ ap text_of (same_Some m n same)
     by_test m false e same = absurd (none-some n same)
 
 number_by : (run : List ℕ) (point : Bool) (it : Item) → (if point then option_map item.Decimal (canonical_decimal run) else option_map item.Whole (canonical_whole run)) ≡ Some it → IsWritten run it
@@ -57,8 +57,8 @@ number_by run false it found =
 
 scalar_by : (run : List ℕ) (first second : Bool) (it : Item) → bytes_eq run (flag_word true) ≡ first → bytes_eq run (flag_word false) ≡ second
     → (if first then Some (item.Flag true) else (if second then Some (item.Flag false) else number_in run)) ≡ Some it → IsWritten run it
-scalar_by run true second it e f found = subst (IsWritten run) (some_same (item.Flag true) it found) ((bytes_eq-Decides run (flag_word true)).0 e, refl)
-scalar_by run false true it e f found = subst (IsWritten run) (some_same (item.Flag false) it found) ((bytes_eq-Decides run (flag_word false)).0 f, refl)
+scalar_by run true second it e f found = subst (IsWritten run) (same_Some (item.Flag true) it found) ((bytes_eq-Decides run (flag_word true)).0 e, refl)
+scalar_by run false true it e f found = subst (IsWritten run) (same_Some (item.Flag false) it found) ((bytes_eq-Decides run (flag_word false)).0 f, refl)
 scalar_by run false false it e f found = number_by run (has_point run) it found
 
 scalar_in-only : (run : List ℕ) (it : Item) → scalar_in run ≡ Some it → IsWritten run it

@@ -5,9 +5,6 @@ pub first_of : {X : Type 0} (xs : List X) (x : X) → 1 ≤ length xs → x ≡ 
 first_of [] x some is = absurd (omega arith)
 first_of (y ∷ ys) x some is = ap₂ (λ a (b : List _). a ∷ b) (sym is) (sym (take_all (length (y ∷ ys) - 1) ys (omega arith)))
 
-pub smaller : {X : Type 0} (xs : List X) (x : X) → 1 ≤ length xs → x ≡ get_or xs 0 x → length xs ≡ suc (length (take (length xs - 1) (drop 1 xs)))
-smaller xs x some is = ap length (first_of xs x some is)
-
 last_at : {X : Type 0} (xs : List X) (n : ℕ) (x : X) → length xs ≡ suc n → x ≡ get_or xs n x → xs ≡ take n xs ++ x ∷ []
 last_at [] n x size is = absurd (omega (arith, size))
 last_at (y ∷ []) zero x size is = ap (λ a. a ∷ []) (sym is)

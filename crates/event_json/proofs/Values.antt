@@ -7,14 +7,14 @@ use Rattle.std.specs.Str.{is_utf8}
 use Rattle.scalar_text.specs.Number.{decimal_text}
 use Rattle.std.proofs.lemmas.Bool.{false≢true, and_parts, and_from, not-true, eqb-true}
 use Rattle.std.proofs.lemmas.List.{take_all}
-use Rattle.std.proofs.lemmas.Option.{none-some, option_and_then_some}
+use Rattle.std.proofs.lemmas.Option.{none-some, option_and_then_some, same_Some}
 use Rattle.field_types.specs.Writing.{escaped, flag_word, is_utf8_item, is_utf8_value, item_text, quoted, value_text}
 use Rattle.field_types.specs.declared.value.Item.{Item}
 use Rattle.field_types.specs.declared.value.Item.TheVariants as item
 use Rattle.field_types.specs.declared.value.Value.{Value}
 use Rattle.field_types.specs.declared.value.Value.TheVariants as value
 use Rattle.field_types.proofs.Joined.{joined}
-use Rattle.field_types.proofs.Twice.{some_same, mapped}
+use Rattle.field_types.proofs.Twice.{mapped}
 use Rattle.event_json.specs.Decode.{begins_with_stop, item_at, item_onto, items_onto, item_value, items_at, items_behind, list_at, list_value, scalar_at, text_at, text_item, value_at, value_of_item, IsReadable, IsReadableItem}
 use Rattle.event_json.proofs.Runs.{begins_with, is_bare, scalar_at-only, scalar_at-reads, flag_text, whole_text, decimal_text_read, IsScalarText}
 use Rattle.event_json.proofs.Strings.{text_at-reads, text_at-only}
@@ -129,7 +129,7 @@ behind_by more first rest b bs true end items behind finds e f one found =
     subst (λ p. AreItemsAt rest p.0 p.1) (sym same) (more_items first rest bs at.0 at.1 here (finds bs at.0 at.1 is))
 behind_by more first rest b bs false true items behind finds e f one found =
     let here = subst (λ c. IsItemAt rest first (c ∷ bs)) (eqb-true b 93 f) one in
-    subst (λ p. AreItemsAt rest p.0 p.1) (some_same (first ∷ [], bs) (items, behind) found) (last_item first rest bs here)
+    subst (λ p. AreItemsAt rest p.0 p.1) (same_Some (first ∷ [], bs) (items, behind) found) (last_item first rest bs here)
 behind_by more first rest b bs false false items behind finds e f one found = absurd (none-some (items, behind) found)
 
 items_behind-only : (more : List ℕ → Option (List Item × List ℕ)) (first : Item) (rest after : List ℕ) (items : List Item) (behind : List ℕ) → FindsItems more → IsItemAt rest first after → items_behind more first after ≡ Some (items, behind) → AreItemsAt rest items behind
@@ -155,7 +155,7 @@ IsListAt inside items behind = (inside ≡ join_with_byte 44 (map item_text item
 
 list_by : (b : ℕ) (bs : List ℕ) (end : Bool) (items : List Item) (behind : List ℕ) → (b == 93) ≡ end → (if end then Some ([], bs) else items_at (suc (length (b ∷ bs))) (b ∷ bs)) ≡ Some (items, behind) → IsListAt (b ∷ bs) items behind
 list_by b bs true items behind e found =
-    subst (λ p. IsListAt (b ∷ bs) p.0 p.1) (some_same ([], bs) (items, behind) found) (ap (λ c. c ∷ bs) (eqb-true b 93 e), refl)
+    subst (λ p. IsListAt (b ∷ bs) p.0 p.1) (same_Some ([], bs) (items, behind) found) (ap (λ c. c ∷ bs) (eqb-true b 93 e), refl)
 list_by b bs false items behind e found =
     let are = items_at-only (suc (length (b ∷ bs))) (b ∷ bs) items behind found in
     (joined_texts (b ∷ bs) items behind are.0, are.1)

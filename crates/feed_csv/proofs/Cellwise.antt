@@ -1,10 +1,10 @@
 -- A cell as a value.
 use Rattle.std.proofs.Common.{◌≡◌, ◌≢◌, ℕ, suc, ◌+◌, ◌<◌, ◌&&◌, List, length, drop, get_or, Bool, true, false, Option, Some, None, IsUtf8, option_and_then, if◌then◌else◌, refl, sym, ap, ◌∙◌, add-one, drop-cons}
 use Rattle.std.specs.Option.{option_or}
-use Rattle.std.specs.Str.{is_utf8}
-use Rattle.std.proofs.lemmas.Str.{IsUtf8-from_is_utf8, is_utf8-from_IsUtf8}
+use Rattle.std.proofs.lemmas.Str.{is_utf8-from_IsUtf8}
 use Rattle.base_types.specs.Digits.{IsDigits}
 use Rattle.base_types.proofs.Numerals.{digits_in-some, digits_in-none}
+use Rattle.csv_line.proofs.NoTexts.{not_utf8}
 use Rattle.field_types.specs.Cleaning.{clean}
 use Rattle.field_types.specs.Strip.{strip}
 use Rattle.field_types.specs.declared.kind.FieldType.{FieldType}
@@ -47,13 +47,6 @@ no_stamp kind.Extra text other = refl
 
 -- ---- cells that are UTF-8, and others
 
-other_bytes : (cell : List ℕ) (b : Bool) → is_utf8 cell ≡ b → (IsUtf8 cell → ⊥) → b ≡ false
-other_bytes cell true is none = absurd (none (IsUtf8-from_is_utf8 cell is))
-other_bytes cell false is none = refl
-
-pub not_utf8 : (cell : List ℕ) → (IsUtf8 cell → ⊥) → is_utf8 cell ≡ false
-not_utf8 cell none = other_bytes cell (is_utf8 cell) refl none
-
 pub text_value : (stamp : Bool) (cell : List ℕ) (type : FieldType) (v : Option Value) → IsUtf8 cell → option_or (clean type (Text cell)) (if stamp then stamp_in type (strip cell) else None) ≡ v → value_under stamp cell type ≡ v
 unfolding value_under
 text_value stamp cell type v utf8 is = ap (λ b. if b then option_or (clean type (Text cell)) (if stamp then stamp_in type (strip cell) else None) else None) (is_utf8-from_IsUtf8 cell utf8) ∙ is
@@ -78,16 +71,6 @@ name_at stamp cell names i name within is =
     ap (attempt stamp cell) (drop-cons names i name within)
     ∙ ap (λ (n : List ℕ). if is_ignored n then Ends else set_or n (value_for stamp cell n) (attempt stamp cell (drop (suc i) names))) (sym is)
     ∙ ap (λ n. if is_ignored name then Ends else set_or name (value_for stamp cell name) (attempt stamp cell (drop n names))) (sym (add-one i))
-
-pub ends_here : (stamp : Bool) (cell : List ℕ) (names : List (List ℕ)) (i : ℕ) (name : List ℕ) → i < length names → name ≡ get_or names i name → is_ignored name ≡ true → attempt stamp cell (drop i names) ≡ Ends
-ends_here stamp cell names i name within is ignored =
-    name_at stamp cell names i name within is ∙ ap (λ b. if b then Ends else set_or name (value_for stamp cell name) (attempt stamp cell (drop (i + 1) names))) ignored
-
-pub goes_by : (stamp : Bool) (cell : List ℕ) (names : List (List ℕ)) (i : ℕ) (name : List ℕ) (v : Option Value) → i < length names → name ≡ get_or names i name → is_ignored name ≡ false → v ≡ value_for stamp cell name
-    → attempt stamp cell (drop i names) ≡ set_or name v (attempt stamp cell (drop (i + 1) names))
-goes_by stamp cell names i name v within is ignored value =
-    name_at stamp cell names i name within is ∙ ap (λ b. if b then Ends else set_or name (value_for stamp cell name) (attempt stamp cell (drop (i + 1) names))) ignored
-    ∙ ap (λ (o : Option Value). set_or name o (attempt stamp cell (drop (i + 1) names))) (sym value)
 
 -- ---- the three ways in which a text is a value
 

@@ -1,5 +1,3 @@
 mod Canonical
 mod Cellwise
-mod Faulty
-mod Fields
 mod Lines

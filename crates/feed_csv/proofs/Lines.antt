@@ -15,7 +15,8 @@ use Rattle.feed_rows.specs.declared.parsed.Bad.{Bad}
 use Rattle.feed_rows.specs.declared.parsed.Row.{Row}
 use Rattle.feed_rows.specs.declared.parsed.Row.TheVariants.{Skipped, Event, Spoiled}
 use Rattle.feed_rows.proofs.Raws.{content_back}
-use Rattle.feed_csv.specs.Cells.{bare, cells_in, has_odd_quotes, of_record}
+use Rattle.csv_line.specs.Cells.{bare, has_odd_quotes}
+use Rattle.feed_csv.specs.Cells.{cells_in, of_record}
 use Rattle.feed_csv.specs.Laws.{AreAll, no_more, empty, event, spoiled}
 use Rattle.feed_csv.specs.Rows.{csv_row, csv_rows, event_of, row_or_bad}
 use Rattle.feed_csv.specs.declared.rule.CsvRule.{CsvRule}

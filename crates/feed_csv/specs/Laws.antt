@@ -6,7 +6,7 @@ use Rattle.feed_rows.specs.Reports.{content_in, others}
 use Rattle.feed_rows.specs.declared.parsed.Bad.{Bad}
 use Rattle.feed_rows.specs.declared.parsed.Parsed.{Parsed}
 use Rattle.feed_rows.specs.declared.parsed.Row.TheVariants.{Skipped, Event, Spoiled}
-use Rattle.feed_csv.specs.Cells.{bare}
+use Rattle.csv_line.specs.Cells.{bare}
 use Rattle.feed_csv.specs.Rows.{body_of, csv_parsed, csv_row, header_of}
 use Rattle.feed_csv.specs.declared.rule.CsvRule.{CsvRule}
 

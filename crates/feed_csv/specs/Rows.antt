@@ -9,7 +9,8 @@ use Rattle.feed_rows.specs.Rows.{parsed, event_row, spoiled_row}
 use Rattle.feed_rows.specs.declared.parsed.Parsed.{Parsed}
 use Rattle.feed_rows.specs.declared.parsed.Row.{Row}
 use Rattle.feed_rows.specs.declared.parsed.Row.TheVariants.{Skipped}
-use Rattle.feed_csv.specs.Cells.{bare, cells_in}
+use Rattle.csv_line.specs.Cells.{bare}
+use Rattle.feed_csv.specs.Cells.{cells_in}
 use Rattle.feed_csv.specs.Columns.{put_cells}
 use Rattle.feed_csv.specs.declared.rule.CsvRule.{CsvRule}
 

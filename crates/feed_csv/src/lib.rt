@@ -1,7 +1,6 @@
 //! The parser of reports in CSV (RFC 4180), a line at a time.
 #![tactic(auto)]
 
-mod cells;
 mod column;
 mod laws;
 mod parse;

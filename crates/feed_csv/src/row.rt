@@ -1,6 +1,5 @@
 //! A line as a row.
 ghost use Rattle.std.specs.Prelude.{◌≡◌, ◌++◌, true, Ok, IfOk, MatchResult};
-ghost use Rattle.std.specs.Str.{is_utf8};
 ghost use Rattle.csv_line.specs.Line.{one_record};
 ghost use Rattle.csv_line.specs.Plain.{is_plain};
 ghost use Rattle.feed_rows.specs.Notes.{row_note};
@@ -9,14 +8,14 @@ ghost use Rattle.feed_csv.specs.Cells.{cells_in, of_record};
 ghost use Rattle.feed_csv.specs.Rows.{csv_row, event_of, of_cells};
 
 use crate::CsvRule;
-use crate::cells::{bare, fields_in, has_odd_quotes, parts_of};
 use crate::column::put_cells;
 use base_types::{FaultNote, OutOfMemory};
-use csv_line::{is_plain, plain_lines_are_split, record_of};
+use csv_line::{
+    bare, fields_in, has_odd_quotes, is_plain, is_text, parts_of, plain_lines_are_split, record_of,
+};
 use event_model::Fields;
 use feed_rows::{ParseFault, Row, RowFault, event_row, row_note, spoiled_row, with_raw};
 use std::alloc::Global;
-use std::str;
 
 // Why a line is no row, with its note.
 fn refused(alloc: Global, fault: RowFault) -> ParseFault
@@ -59,15 +58,6 @@ fn put_record(
     };
     let cells = fields_in(alloc, &row)?;
     put_cells(alloc, rule.columns.as_slice(), &cells, event)
-}
-
-fn is_text(line: &[u8]) -> bool
-    ensures { result ≡ is_utf8 line.now }
-{
-    match str::from_utf8(line) {
-        Ok(_) => true,
-        Err(_) => false,
-    }
 }
 
 // Sets what a line sets, unless it is no row.

@@ -1,14 +1,16 @@
 -- What a cutter that holds these bytes has to do with a feed.
-use Rattle.std.proofs.Common.{◌≡◌, ℕ, ◌≤◌, false, Option, Some, None, MatchOption, unwrap_or, List, [], ◌∷◌, ◌++◌, replicate, refl, sym, ap, ◌∙◌}
+use Rattle.std.proofs.Common.{◌≡◌, ℕ, zero, suc, ◌≤◌, false, Option, Some, None, MatchOption, unwrap_or, List, [], ◌∷◌, ◌++◌, replicate, refl, sym, ap, ◌∙◌, arith}
 use Rattle.std.proofs.lemmas.Bool.{cond-false}
 use Rattle.std.proofs.lemmas.List.{length-replicate}
 use Rattle.base_types.specs.Lines.{first_line}
-use Rattle.report_cut.specs.Pieces.{Long, longest_line, header_of, next, AreNext}
+use Rattle.report_cut.specs.Laws.{OffsetsRise}
+use Rattle.report_cut.specs.Pieces.{Long, longest_line, header_of, next, start_of, AreNext}
 use Rattle.report_cut.specs.Cutter.{Cutting, header_in, ComeNext, StaysLong}
 use Rattle.report_cut.specs.Standing.{Reached}
 use Rattle.report_cut.specs.declared.piece.CutRule.{CutRule}
 use Rattle.report_cut.specs.declared.piece.Cut.{Cut}
 use Rattle.report_cut.proofs.Calls.{stays_in}
+use Rattle.report_cut.proofs.Joined.{next_piece, rises, within_some}
 use Rattle.report_cut.proofs.Plain.{plain_piece}
 use Rattle.feed_reader.specs.Coming.{ArePlain}
 
@@ -24,12 +26,28 @@ plain_pieces rule header feed at [] plain none small are = tt
 plain_pieces rule header feed at (cut ∷ cuts) plain none small are =
     (plain_piece rule header feed at cut plain none small are.0, plain_pieces rule header feed cut.upto cuts plain none small are.1)
 
+-- the lines of a piece begin at its offset, or behind it
+behind_start : (rule : CutRule) (header : List ℕ) (at : ℕ) → at ≤ start_of rule header at
+behind_start rule header zero = omega arith
+behind_start rule header (suc at) = within_some rule header (suc at) (omega arith)
+
 -- the pieces that come next in each feed with these bytes, also in one that is made up
 pub plain_next : (s : Cutting) (bytes : List ℕ) (cuts : List Cut) → s.rule.replicate ≡ false → s.header ≡ None → s.rule.chunk_size ≤ longest_line → ComeNext s bytes cuts → ArePlain s.at cuts
 plain_next s bytes cuts plain none small next =
     let front : List ℕ = replicate s.at 0 in
     let feed : List ℕ = front ++ (bytes ++ []) in
     plain_pieces s.rule (header_in s feed) feed s.at cuts plain (plain_header s feed plain none) small (next front [] (length-replicate s.at 0))
+
+-- offsets of pieces that come next rise
+pub rising : (rule : CutRule) (header feed : List ℕ) (at : ℕ) (cuts : List Cut) → AreNext rule header feed at cuts → OffsetsRise at cuts
+rising rule header feed at [] are = tt
+rising rule header feed at (cut ∷ cuts) are = (rises rule header feed at cut (behind_start rule header at) (next_piece rule header feed at cut are.0), rising rule header feed cut.upto cuts are.1)
+
+pub rising_next : (s : Cutting) (bytes : List ℕ) (cuts : List Cut) → ComeNext s bytes cuts → OffsetsRise s.at cuts
+rising_next s bytes cuts next =
+    let front : List ℕ = replicate s.at 0 in
+    let feed : List ℕ = front ++ (bytes ++ []) in
+    rising s.rule (header_in s feed) feed s.at cuts (next front [] (length-replicate s.at 0))
 
 -- the line that is too long is what comes next
 pub long_next : (rule : CutRule) (feed : List ℕ) (s : Cutting) (bytes rest : List ℕ) (line : ℕ) (o : Option ℕ) → o ≡ s.long → Reached rule feed s (bytes ++ rest) → MatchOption o (StaysLong s (s.held ++ bytes) s.at line) (λ met. met ≡ line) → next rule feed s.at ≡ Long line

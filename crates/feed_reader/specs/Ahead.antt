@@ -33,3 +33,9 @@ IsPlainPiece at cut = (at < cut.upto) × (cut.upto ≡ at + length cut.piece) ×
 abbrev pub IsPlainAhead : ℕ → Ahead → Type 0
 IsPlainAhead at (ahead.Piece cut) = IsPlainPiece at cut
 IsPlainAhead at _ = Unit {0}
+
+-- a piece ends behind the offset
+abbrev pub IsOnward : ℕ → Ahead → Type 0
+IsOnward at (ahead.Piece cut) = at < cut.upto
+IsOnward at ahead.End = Unit {0}
+IsOnward at (ahead.LongLine line) = Unit {0}

@@ -1,6 +1,7 @@
 -- The pieces of a feed that is coming, as a reader keeps them.
 use Rattle.std.specs.Prelude.{◌≡◌, ℕ, ◌+◌, ◌-◌, ◌*◌, ◌≤◌, Bool, true, false, Option, Some, None, List, [], ◌∷◌, length, drop}
 use Rattle.report_cut.specs.Pieces.{End, longest_line, header_of, next, AreNext, offset_behind}
+use Rattle.report_cut.specs.Laws.{OffsetsRise}
 use Rattle.report_cut.specs.Standing.{Reached}
 use Rattle.report_cut.specs.declared.piece.Cut.{Cut}
 use Rattle.feed_reader.specs.Ahead.{IsPlainPiece}
@@ -30,6 +31,7 @@ pub record IsCounted (c : Coming) : Type 0 where
   pub read : c.ended ≡ false → c.cutter.long ≡ None → c.read ≡ c.cutter.at + length c.cutter.held
   pub header : c.cutter.rule.replicate ≡ false → c.cutter.header ≡ None
   pub plain : c.cutter.rule.replicate ≡ false → ArePlain c.at c.pieces.items
+  pub rise : OffsetsRise c.at c.pieces.items
 
 -- how much more may be read until a piece waits, or the end or a long line is met
 abbrev pub steps_by : List Cut → Bool → Option ℕ → ℕ → ℕ

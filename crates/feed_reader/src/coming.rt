@@ -30,6 +30,7 @@ impl Coming {
         ensures steps { result ≡ None → steps_left self.new ≡ steps_left self.old }
         ensures next { (feed : List ℕ) → StandsIn feed self.old → IfSome result (λ cut. next self.old.cutter.rule feed self.old.at ≡ Piece cut) }
         ensures plain { self.old.cutter.rule.replicate ≡ false → IfSome result (IsPlainPiece self.old.at) }
+        ensures onward { IfSome result (λ cut. self.old.at < cut.upto) }
         ensures at { MatchOption result (self.new.at ≡ self.old.at) (λ cut. self.new.at ≡ cut.upto) }
         ensures stands { (feed : List ℕ) → StandsIn feed self.old → StandsIn feed self.new }
         ensures rule { self.new.cutter.rule ≡ self.old.cutter.rule }
@@ -44,7 +45,7 @@ impl Coming {
         requires counted { IsCounted self.old }
         requires going { self.old.ended ≡ false }
         requires none { self.old.pieces.items ≡ [] }
-        requires near { self.old.at ≤ 2 ^ 62 }
+        requires near { self.old.at ≤ 2 ^ 62 + 1 }
         requires some { 0 < length bytes.now }
         requires few { length bytes.now ≤ longest_slice }
         ensures counted { IsCounted self.new }

@@ -3,7 +3,7 @@ ghost use Rattle.edge_traits.specs.Count.{Rose};
 ghost use Rattle.report_cut.specs.Pieces.{Long, longest_line, next};
 ghost use Rattle.feed_reader.specs.Coming.{IsCounted, StandsIn, steps_left};
 ghost use Rattle.report_cut.specs.Laws.{beginning};
-ghost use Rattle.feed_reader.specs.Ahead.{Reading, ahead_of, behind, IsPlainAhead};
+ghost use Rattle.feed_reader.specs.Ahead.{Reading, ahead_of, behind, IsOnward, IsPlainAhead};
 ghost use Rattle.feed_reader.specs.declared.ahead.ReaderFault.TheVariants as fault;
 
 use crate::coming::Coming;
@@ -62,10 +62,11 @@ impl<S: Source> FeedReader<S> {
 
     /// What comes next in the feed. A piece is handed out, and the reader stands behind it then.
     pub fn next_piece(&mut self) -> Result<Ahead, ReaderFault>
-        requires { self.old.at ≤ 2 ^ 62 }
+        requires { self.old.at ≤ 2 ^ 62 + 1 }
         ensures next { (feed : List ℕ) → self.old.source.told ≡ Some feed → IfOk result (λ ahead. ahead ≡ ahead_of (next self.old.rule feed self.old.at)) }
         ensures at { MatchResult result (λ ahead. self.new.at ≡ behind self.old.at ahead) (λ _. self.new.at ≡ self.old.at) }
         ensures plain { self.old.rule.replicate ≡ false → IfOk result (IsPlainAhead self.old.at) }
+        ensures onward { IfOk result (IsOnward self.old.at) }
         ensures rule { self.new.rule ≡ self.old.rule }
 
         ensures failed { IsErrOf result ReaderFault.Failed → Rose self.old.source.faults self.new.source.faults }
@@ -100,7 +101,7 @@ fn read_on<S: Source>(source: &mut S, coming: &mut Coming) -> Result<Option<u64>
     requires counted { IsCounted coming.old }
     requires going { coming.old.ended ≡ false }
     requires none { coming.old.pieces.items ≡ [] }
-    requires near { coming.old.at ≤ 2 ^ 62 }
+    requires near { coming.old.at ≤ 2 ^ 62 + 1 }
     ensures counted { IsCounted coming.new }
     ensures at { coming.new.at ≡ coming.old.at }
     ensures rule { coming.new.cutter.rule ≡ coming.old.cutter.rule }

@@ -11,20 +11,6 @@ use Rattle.feed_rows.specs.declared.parsed.Row.{Row}
 one_more : {A B : Type 0} (f : A → List B) (before : List B) (x : A) (xs : List A) → (before ++ flat_map f (x ∷ [])) ++ flat_map f xs ≡ before ++ flat_map f (x ∷ xs)
 one_more f before x xs = append_assoc before (f x ++ []) (flat_map f xs) ∙ ap (λ t. before ++ (t ++ flat_map f xs)) (append-nil (f x))
 
--- a row and others behind it
-pub one_row_more : (all : Parsed) (row : Row) (rows : List Row) → and_rows (and_rows all (row ∷ [])) rows ≡ and_rows all (row ∷ rows)
-one_row_more all row rows =
-    let events = one_more event_in all.events row rows in
-    let bad = one_more bad_in all.bad row rows in
-    λ i. record { events = events i; bad = bad i }
-
--- no row behind what was parsed
-pub no_row_more : (all : Parsed) → and_rows all [] ≡ all
-no_row_more all =
-    let events = append-nil all.events in
-    let bad = append-nil all.bad in
-    λ i. record { events = events i; bad = bad i }
-
 -- a note is a fault of what has it
 pub noted_fault : {A : Type 0} (note : FaultNote) (e : ParseFault) (r : Result A FaultNote) → r ≡ Err note → IsNoted note e → IsFaultOf r e
 noted_fault note (fault.Fault made) r is same = is ∙ ap Err (sym same)

@@ -3,7 +3,7 @@ use Rattle.std.proofs.Common.{◌≡◌, ℕ, ◌==◌, not, ◌++◌, ℤ, List
 use Rattle.std.specs.Option.{option_and_then}
 use Rattle.std.specs.Char.{to_ascii_lowercase, to_ascii_uppercase}
 use Rattle.std.proofs.lemmas.List.{reverse-append}
-use Rattle.std.proofs.lemmas.Option.{none-some}
+use Rattle.std.proofs.lemmas.Option.{none-some, same_Some}
 use Rattle.std.proofs.lemmas.Str.Ascii.{lowercase-lowercase}
 use Rattle.scalar_text.specs.Number.{decimal_in}
 use Rattle.scalar_text.specs.Raw.{raw_of}
@@ -19,9 +19,6 @@ use Rattle.field_types.proofs.KindByKind.{clean_text}
 use Rattle.field_types.proofs.Stripped.{clear_ahead, strip-clear, strip-strip, strip-dark, are_dark, strip_first, strip_last}
 use Rattle.field_types.proofs.Wholes.{own_accuracy_kept}
 
-pub some_same : {A : Type 0} (a b : A) → ◌≡◌ {A = Option A} (Some a) (Some b) → a ≡ b
-some_same a b e = cc
-
 -- what is kept is kept of a stripped text
 pub from_text : (type : FieldType) (b : Bool) (o : Option (List ℕ)) (v : Value) → (if b then option_and_then (λ text. of_text type (strip text)) o else None) ≡ Some v → (text : List ℕ) × (of_text type (strip text) ≡ Some v)
 from_text type true (Some text) v h = (text, h)
@@ -31,7 +28,7 @@ from_text type false o v h = absurd (none-some v h)
 -- a mapped option has a value where the option has
 pub mapped : {A B : Type 0} (f : A → B) (o : Option A) (w : B) → option_map f o ≡ Some w → (v : A) × (o ≡ Some v) × (w ≡ f v)
 mapped f None w h = absurd (none-some w h)
-mapped f (Some v) w h = (v, refl, sym (some_same (f v) w h))
+mapped f (Some v) w h = (v, refl, sym (same_Some (f v) w h))
 
 -- ---- texts
 
@@ -41,7 +38,7 @@ text_of (b ∷ bs) v h = text_if (length (b ∷ bs) == 0) h
   where
     text_if : (e : Bool) → (if e then None else Some (value.Text (b ∷ bs))) ≡ Some v → v ≡ value.Text (b ∷ bs)
     text_if true h = absurd (none-some v h)
-    text_if false h = sym (some_same (value.Text (b ∷ bs)) v h)
+    text_if false h = sym (same_Some (value.Text (b ∷ bs)) v h)
 
 -- a kind keeps a text that is stripped and that it keeps as it is
 pub kept_again : (type : FieldType) (text : List ℕ) (v : Value) → v ≡ value.Text text → strip text ≡ text → of_text type text ≡ Some v → clean type v ≡ Some v
@@ -152,7 +149,7 @@ taxonomy_twice u v h =
 -- ---- bytes in base64
 
 raw_if : (text : List ℕ) (b : Bool) (v : Value) → is_some (raw_of text) ≡ b → (if b then Some (value.Text text) else None) ≡ Some v → v ≡ value.Text text
-raw_if text true v e h = sym (some_same (value.Text text) v h)
+raw_if text true v e h = sym (same_Some (value.Text text) v h)
 raw_if text false v e h = absurd (none-some v h)
 
 pub raw_twice : (u v : Value) → clean kind.Raw u ≡ Some v → clean kind.Raw v ≡ Some v
@@ -164,7 +161,7 @@ raw_twice u v h =
 -- ---- accuracies and flags
 
 accuracy_is : (n : ℤ) (b : Bool) (v : Value) → is_accuracy n ≡ b → (if b then Some (value.Decimal n) else None) ≡ Some v → (is_accuracy n ≡ true) × (v ≡ value.Decimal n)
-accuracy_is n true v e h = (e, sym (some_same (value.Decimal n) v h))
+accuracy_is n true v e h = (e, sym (same_Some (value.Decimal n) v h))
 accuracy_is n false v e h = absurd (none-some v h)
 
 pub accuracy_from : (o : Option ℤ) (v : Value) → option_and_then accuracy_of o ≡ Some v → (n : ℤ) × (is_accuracy n ≡ true) × (v ≡ value.Decimal n)

@@ -7,7 +7,7 @@ use Rattle.std.specs.Str.Parse.{IsNumeral, digits_value}
 use Rattle.std.proofs.Math.Nat.{pow-le-pow_right}
 use Rattle.std.proofs.lemmas.Bool.{and_parts, and_from, lt-ltb, ltb-true}
 use Rattle.std.proofs.lemmas.Int.Digits.{digits_value-lt}
-use Rattle.std.proofs.lemmas.Option.{none-some}
+use Rattle.std.proofs.lemmas.Option.{none-some, same_Some}
 use Rattle.jiff_core.proofs.SignedLemmas.{signed_arith}
 use Rattle.base_types.specs.Digits.{IsDigits, digits_in}
 use Rattle.scalar_text.specs.Number.{IsWholeText, AreMillionths, IsDecimalText, decimal_in, whole_in, port_in, signed, behind_minus, has_minus, point_in, millionths}
@@ -22,7 +22,7 @@ use Rattle.field_types.specs.declared.value.Value.{Value}
 use Rattle.field_types.specs.declared.value.Value.TheVariants as value
 use Rattle.field_types.proofs.KindByKind.{flag_kept}
 use Rattle.field_types.proofs.Stripped.{strip-strip}
-use Rattle.field_types.proofs.Twice.{some_same, from_text, mapped, text_of, kept_again, mapped_stripped, upper_clear, map_twice, upper_twice_byte}
+use Rattle.field_types.proofs.Twice.{from_text, mapped, text_of, kept_again, mapped_stripped, upper_clear, map_twice, upper_twice_byte}
 use Rattle.field_types.proofs.Wholes.{whole_kept, port_kept, asn_kept, own_decimal_kept}
 
 -- ---- flags
@@ -37,7 +37,7 @@ flag_twice u v h =
 -- ---- numbers of autonomous systems and ports
 
 tested : (p : ℕ → Bool) (m n : ℕ) (b : Bool) → p m ≡ b → (if b then Some m else None) ≡ Some n → p n ≡ true
-tested p m n true e h = subst (λ k. p k ≡ true) (some_same m n h) e
+tested p m n true e h = subst (λ k. p k ≡ true) (same_Some m n h) e
 tested p m n false e h = absurd (none-some n h)
 
 tested_from : (p : ℕ → Bool) (o : Option ℕ) (n : ℕ) → option_and_then (λ m. if p m then Some m else None) o ≡ Some n → p n ≡ true
@@ -129,14 +129,14 @@ decimal_twice u v h =
 -- ---- further data
 
 same_if : (b : Bool) (x v : Value) → (if b then Some x else None) ≡ Some v → v ≡ x
-same_if true x v h = sym (some_same x v h)
+same_if true x v h = sym (same_Some x v h)
 same_if false x v h = absurd (none-some v h)
 
 pub extra_twice : (u v : Value) → clean kind.Extra u ≡ Some v → clean kind.Extra v ≡ Some v
 unfolding clean
 extra_twice (value.Text text) v h = kept_again kind.Extra (strip text) v (text_of (strip text) v h) (strip-strip text) h
 extra_twice (value.Whole n) v h = subst (λ w. clean kind.Extra w ≡ Some v) (sym (same_if (is_short n) (value.Whole n) v h)) h
-extra_twice (value.Flag b) v h = subst (λ w. clean kind.Extra w ≡ Some v) (some_same (value.Flag b) v h) h
+extra_twice (value.Flag b) v h = subst (λ w. clean kind.Extra w ≡ Some v) (same_Some (value.Flag b) v h) h
 extra_twice (value.Decimal n) v h = subst (λ w. clean kind.Extra w ≡ Some v) (sym (same_if (is_short n) (value.Decimal n) v h)) h
 extra_twice (value.List items) v h = subst (λ w. clean kind.Extra w ≡ Some v) (sym (same_if (list_all is_extra_item items) (value.List items) v h)) h
 

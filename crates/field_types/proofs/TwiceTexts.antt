@@ -4,7 +4,7 @@ use Rattle.std.specs.List.{list_all, slice_split, join_with_byte}
 use Rattle.std.proofs.lemmas.Bool.{false≢true, and_parts, and_from, le-leb}
 use Rattle.std.proofs.lemmas.List.{reverse-append, take-append-drop}
 use Rattle.std.proofs.lemmas.List.Splits.{join_with_byte-slice_split}
-use Rattle.std.proofs.lemmas.Option.{none-some}
+use Rattle.std.proofs.lemmas.Option.{none-some, same_Some}
 use Rattle.scalar_text.specs.Time.{time_in, time_text, day_text, clock_text, year_of_day}
 use Rattle.scalar_text.proofs.DayTexts.{printed_time}
 use Rattle.scalar_text.proofs.PrintedTimes.{reads_back}
@@ -19,7 +19,7 @@ use Rattle.field_types.specs.declared.kind.FieldType.TheVariants as kind
 use Rattle.field_types.specs.declared.value.Value.{Value}
 use Rattle.field_types.specs.declared.value.Value.TheVariants as value
 use Rattle.field_types.proofs.Stripped.{clear_ahead, ahead_of_front, strip-clear, strip-dark, is_dark, are_dark, dark_byte, dark_append, strip_first, strip_last}
-use Rattle.field_types.proofs.Twice.{some_same, from_text, mapped, kept_again, again_word}
+use Rattle.field_types.proofs.Twice.{from_text, mapped, kept_again, again_word}
 
 -- ---- domain names
 
@@ -77,7 +77,7 @@ unfolding refanged
 refanged_clear text front back = changed_clear (is_defanged text) text front back
 
 same_if : {A : Type 0} (b : Bool) (x v : A) → ◌≡◌ {A = Option A} (if b then Some x else None) (Some v) → v ≡ x
-same_if true x v h = sym (some_same x v h)
+same_if true x v h = sym (same_Some x v h)
 same_if false x v h = absurd (none-some v h)
 
 url_is : (text kept : List ℕ) → url_text text ≡ Some kept → kept ≡ refanged text

@@ -8,7 +8,8 @@ use Rattle.std.specs.Ordering.{int_eq}
 use Rattle.std.proofs.lemmas.Bool.{and_from, and_parts, le-leb, lt-leb, leb-true, lt-ltb, le-ltb, ltb-true, ltb-false, ne_eqb}
 use Rattle.std.proofs.lemmas.Bool.Decides.{Decides-int_eq}
 use Rattle.std.proofs.lemmas.Fmt.{decimal_is_IsNumeral, decimal-digits_value}
-use Rattle.std.proofs.lemmas.Str.Parse.{digit_from_value, IsNumeralModel, numerals_by_value, tells_all_ascii_digits}
+use Rattle.std.proofs.lemmas.Str.Parse.{digit_from_value}
+use Rattle.base_types.proofs.Numerals.{digits_model}
 use Rattle.std.specs.Str.{all_ascii_digits}
 use Rattle.jiff_core.proofs.SignedLemmas.{signed_arith}
 use Rattle.base_types.specs.Digits.{digits_in}
@@ -256,9 +257,6 @@ accuracy_past (pos n) fits high = past_hundred n (nat_lt n (10 ^ 12)) refl fits 
 accuracy_past (negsuc n) fits high = absurd (omega (arith, signed_arith, high))
 
 -- ---- flags
-
-digits_model : IsNumeralModel (λ ds. all_ascii_digits ds ≡ true) (digits_value 10)
-digits_model = numerals_by_value (λ ds. all_ascii_digits ds ≡ true) tells_all_ascii_digits
 
 zero_text : decimal 0 ≡ 48 ∷ []
 zero_text = decimal-digits_value digits_model (48 ∷ []) refl (omega arith) (λ _. refl) (omega arith)

@@ -1,18 +1,18 @@
-mod Counts
+pub mod Counts
 mod Example
 mod Histories
 mod Lawful
 mod Loads
-mod Pairs
+pub mod Pairs
 mod Replayable
 mod SoundCaches
 mod SoundDumps
 mod SoundEntries
-mod SoundHands
+pub mod SoundHands
 mod SoundHistories
-mod SoundNames
-mod SoundParts
-mod SoundReloads
-mod SoundSteps
+pub mod SoundNames
+pub mod SoundParts
+pub mod SoundReloads
+pub mod SoundSteps
 mod Steps
 mod Stranded

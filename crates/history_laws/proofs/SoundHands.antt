@@ -30,7 +30,7 @@ eqb_flips : (i j : ℕ) → eqb i j ≡ eqb j i
 eqb_flips i j = grind (arith, nat_tests)
 
 -- whose hand it is doesn't depend on the side
-hand_flips : (a b : List ℕ) (i j : ℕ) → (bytes_eq a b && eqb i j) ≡ (bytes_eq b a && eqb j i)
+pub hand_flips : (a b : List ℕ) (i j : ℕ) → (bytes_eq a b && eqb i j) ≡ (bytes_eq b a && eqb j i)
 hand_flips a b i j = λ k. nat_list_eq_equiv.symm a b k && eqb_flips i j k
 
 eqb_self : (i : ℕ) → eqb i i ≡ true

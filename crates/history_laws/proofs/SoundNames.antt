@@ -11,6 +11,7 @@ use Rattle.std.proofs.lemmas.Slice.Eq.{bytes_eq-Decides}
 use Rattle.base_types.specs.declared.message.Msg.{Msg}
 use Rattle.base_types.specs.Lists.{IsIn, changed_or_added}
 use Rattle.base_types.proofs.Everywhere.{all_in}
+use Rattle.base_types.proofs.Names.{less_differs}
 use Rattle.stored_types.specs.declared.queue.Queue.{Queue}
 use Rattle.stored_types.specs.Queue.{is_queue, put, put_all, put_first, queued}
 use Rattle.step_code.specs.declared.rules.Facts.{Facts}
@@ -78,9 +79,6 @@ queue_there name [] message others waits = absurd (cc)
 queue_there name (q ∷ queues) message others waits = found_named (is_queue name q) name q queues message others refl (queue_there name queues message others) waits
 
 -- bots
-
-less_differs : (a b : List ℕ) → slice_cmp nat_cmp a b ≡ Less → bytes_eq a b ≡ false
-less_differs a b less = sym (is_eq-slice_cmp a b) ∙ ap is_eq less
 
 sorted_apart : (bots : List Facts) → IsStrictlySortedBy (slice_cmp nat_cmp) (map (λ f. f.bot) bots) → AreNamed (λ (f : Facts). f.bot) bots
 unfolding IsStrictlySortedBy

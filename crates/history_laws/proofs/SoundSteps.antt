@@ -55,7 +55,7 @@ pub record AreKept (m : Meaning) (last : ℕ) (s : Base) : Type 0 where
   pub discarded : s.discarded ≡ 0
 
 -- what the parts of the table say of a message that is taken
-take_fits : (m : Meaning) (s : Base) (now : Moment) (bot : List ℕ) (instance message : ℕ) → Fits m s (record { moment = now; what = kind.Take bot instance message })
+pub take_fits : (m : Meaning) (s : Base) (now : Moment) (bot : List ℕ) (instance message : ℕ) → Fits m s (record { moment = now; what = kind.Take bot instance message })
     → (is_instance (bots_in_force m s) bot instance ≡ true) × (is_none (held bot instance s) ≡ true)
 take_fits m s now bot instance message fits =
     let live = is_instance (bots_in_force m s) bot instance in
@@ -66,7 +66,7 @@ take_fits m s now bot instance message fits =
     let second = part_holds (not (is_halted bot s)) refusal.Halted ((free, full) ∷ (some, refusal.Empty) ∷ []) first.1 in
     let third = part_holds free full ((some, refusal.Empty) ∷ []) second.1 in (first.0, third.0)
 
-none_held : (found : Option Hand) → is_none (option_map (λ h. h.message.no) found) ≡ true → found ≡ None
+pub none_held : (found : Option Hand) → is_none (option_map (λ h. h.message.no) found) ≡ true → found ≡ None
 none_held None free = refl
 none_held (Some h) free = absurd (cc)
 

@@ -9,7 +9,7 @@ use Rattle.base_types.specs.declared.message.Moment.{Moment}
 use Rattle.base_types.specs.declared.message.Msg.{Msg}
 use Rattle.base_types.specs.Lists.{IsIn, without}
 use Rattle.base_types.specs.Name.{queue_ending, queue_name}
-use Rattle.base_types.proofs.Everywhere.{all-append, all_in, all_wider}
+use Rattle.base_types.proofs.Everywhere.{all-append, all_in, all_wider, filter_all}
 use Rattle.stored_types.specs.declared.hand.Hand.{Hand}
 use Rattle.stored_types.specs.declared.queue.Queue.{Queue}
 use Rattle.stored_types.specs.Hand.{is_hand}
@@ -78,10 +78,6 @@ without_filter false false p x xs rest gone is same = rw is same
 filter-without : {A : Type 0} (p is : A → Bool) (xs : List A) → ((x : A) → is x ≡ true → p x ≡ false) → filter p (without is xs) ≡ filter p xs
 filter-without p is [] gone = refl
 filter-without p is (x ∷ xs) gone = without_filter (is x) (p x) p x xs (without is xs) (gone x) refl (filter-without p is xs gone)
-
-filter-all : {A : Type 0} (p : A → Bool) (xs : List A) → AllByRecursion (λ x. p x ≡ true) xs → filter p xs ≡ xs
-filter-all p [] all = refl
-filter-all p (x ∷ xs) all = rw all.0 (ap (λ l. x ∷ l) (filter-all p xs all.1))
 
 which_part : {A : Type 0} (x : A) (xs ys : List A) → IsIn x (xs ++ ys) → IsIn x xs ⊎ IsIn x ys
 which_part x [] ys there = inr there
@@ -366,7 +362,7 @@ module _ (old bots : List Facts) (plan : AreSound old) (s : Base) (named : AreNa
 
   all_returned : IsGivenBack bots s after_all
   all_returned = record {
-    hands = sym (filter-all (λ (h : Hand). is_instance bots h.bot h.instance) after_all.hands live_left) ∙ live_kept bots (instances_of old) s;
+    hands = sym (filter_all (λ (h : Hand). is_instance bots h.bot h.instance) after_all.hands live_left) ∙ live_kept bots (instances_of old) s;
     queues = λ queue. (stranded bots queue (instances_of old) s, are_stranded queue, waits bots queue (instances_of old) s);
   }
 

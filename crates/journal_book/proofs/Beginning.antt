@@ -26,6 +26,7 @@ use Rattle.journal_book.specs.Book.{created, BookView, IsKept}
 use Rattle.journal_book.specs.Keeping.{longest_output, longest_waiting, AreAtRest, AreShort, AreStoreFiles, IsPending, IsReplayed}
 use Rattle.journal_book.specs.Staged.{greatest_limit}
 use Rattle.journal_book.proofs.Flushing.{stored_now}
+use Rattle.journal_book.proofs.Small.{few_of}
 
 new_outs_sealed : (bots : List Facts) → AreSealedFrom (map new_out bots) (map new_out bots)
 new_outs_sealed [] = refl
@@ -38,13 +39,6 @@ new_fronts k (f ∷ bots) image = (record { size = refl; begins = refl }, new_fr
 new_outs_small : (bots : List Facts) → AllByRecursion (λ o. out_length o ≤ longest_output) (map new_out bots)
 new_outs_small [] = tt
 new_outs_small (f ∷ bots) = (omega arith, new_outs_small bots)
-
-one_byte : (out : Output) → 1 ≤ length (output out)
-one_byte out = omega arith
-
-one_each : (outs : List Output) → length outs ≤ length (flat_map output outs)
-one_each [] = omega arith
-one_each (out ∷ outs) = omega (arith, one_byte out, one_each outs, length-append (output out) (flat_map output outs))
 
 -- a state whose code isn't too long has not too many outputs
 few_outs : (b : Base) → length (code_of_base first_format b) ≤ longest_base → length b.outs ≤ longest_base
@@ -59,7 +53,7 @@ few_outs b short =
       length-append (front ++ outs) feeds,
       length-append front outs,
       length-append (to_be_bytes w32 (length b.outs)) (flat_map output b.outs),
-      one_each b.outs,
+      few_of b.outs,
     )
 
 -- the outputs of a state that a store may begin with
@@ -82,6 +76,7 @@ kept_created disk may_leave m bots bundle base rules limit now root journal file
   files = files;
   tells = told;
   counted = omega arith;
+  seals = let past : IsPast m base [] base files = subst (λ (b : Base). IsPast m b [] b files) (sym is) (first_past m bots bundle files) in past.seals;
   within = omega arith;
   each = λ image left.
       let past : IsPast m base [] base image = subst (λ (b : Base). IsPast m b [] b image) (sym is) (first_past m bots bundle image) in

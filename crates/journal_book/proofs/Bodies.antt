@@ -62,16 +62,6 @@ named_more front last at body n was is small = record {
   place = omega (arith, was.place, behind_more front body);
 }
 
-pub generation_last : (bodies : List (List ℕ)) (n at : ℕ) → HaveNamed bodies (Some n) at → AreGenerations bodies n
-generation_last bodies n at was = record {
-  before = was.last_is.0;
-  is = was.bodies ∙ ap (map number) was.last_is.1;
-  given = subst (λ (ns : List ℕ). AllByRecursion (λ k. k ≤ last_given) ns) was.last_is.1 was.given;
-}
-
-pub names_none : (bodies : List (List ℕ)) (at : ℕ) → HaveNamed bodies None at → NameNone bodies header_length
-names_none bodies at was = inl (was.bodies ∙ ap (map number) was.last_is, refl)
-
 pub no_generation : (bodies front later : List (List ℕ)) (last : Option ℕ) (at : ℕ) (body : List ℕ) → HaveNamed front last at → bodies ≡ front ++ body ∷ later → ((n : ℕ) → n ≤ last_given → body ≢ number n) → NameNone bodies at
 no_generation bodies front later last at body was splits bad = inr (record {
   before = was.named;

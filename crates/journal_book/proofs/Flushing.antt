@@ -152,7 +152,7 @@ module _ {D R : Type 0} (disk : D → DiskView) (may_leave : D → ℕ → List 
   pub kept_flushed : (first : Base) (past : List Step) (now : D) (after : Image) (later : JournalView) → IsKept disk may_leave m first past book → (disk now).told ≡ Some after → Adds may_leave book.disk now (λ other. other ≢ journal.file)
       → later.file ≡ journal.file → later.heading ≡ journal.heading → IsAtRest later (may_leave now) ((code_of_base first_format book.base ∷ rest.records) ++ body ∷ []) after
       → IsKept disk may_leave m first past (record book { disk = now; kept = length book.steps })
-  kept_flushed first past now after later kept told adds same_file same_heading rests = record { files = after; tells = told; counted = kept.counted; within = omega arith; each = each_now }
+  kept_flushed first past now after later kept told adds same_file same_heading rests = record { files = after; tells = told; counted = kept.counted; seals = kept.seals; within = omega arith; each = each_now }
     where
       all_bodies : List (List ℕ)
       all_bodies = (code_of_base first_format book.base ∷ rest.records) ++ body ∷ []

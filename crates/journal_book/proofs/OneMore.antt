@@ -96,6 +96,7 @@ kept_staged disk may_leave m first past book step state kept = record {
   files = kept.files;
   tells = kept.tells;
   counted = kept.counted;
+  seals = kept.seals;
   within = omega (arith, kept.within, length-append book.steps (step ∷ []));
   each = λ image left. longer image (kept.each image left);
 }

@@ -48,9 +48,6 @@ root_apart g same = omega (arith, same)
 
 -- ---- what is found
 
-pub history_is : (m : Meaning) (bodies : List (List ℕ)) (base : Base) (steps : List Step) → AreHistory m bodies base steps → IsHistory m base steps
-history_is m bodies base steps is = record { sound = is.sound; writable = is.writable; replays = is.holds.replays }
-
 pub history_small : (m : Meaning) (base : Base) (steps : List Step) → IsHistory m base steps → IsSmall (replay m base steps)
 history_small m base steps is = small_behind m base steps (small_first m base is.sound) is.replays
 
@@ -133,11 +130,6 @@ outs_fault m told last g outs (fault.Damaged file at) some named short bad = λ 
 outs_fault m told last g outs (fault.Store have) some named short bad = absurd bad
 outs_fault m told last g outs fault.Refused some named short bad = absurd bad
 outs_fault m told last g outs fault.OutOfMemory some named short bad = absurd bad
-
-pub disk_fault : (file : ℕ) (e : JournalFault) → in_file file e ≡ fault.Disk → e ≡ journal.Disk
-disk_fault file journal.Disk is = refl
-disk_fault file (journal.Damaged at) is = absurd (cc)
-disk_fault file journal.OutOfMemory is = absurd (cc)
 
 pub some_bytes : (have : ℕ) (file : List ℕ) → have ≡ length file → (have ≡ 0 → ⊥) → 0 < length file
 some_bytes have file size some = omega (arith, size, some)

@@ -15,7 +15,7 @@ use Rattle.step_code.specs.History.{replay}
 use Rattle.step_code.specs.Rules.{last_moment, Meaning}
 use Rattle.step_code.proofs.GivenBack.{latest_after}
 use Rattle.store_image.specs.Opens.{AreReplayable}
-use Rattle.store_image.specs.Stands.{Stands, StandsFor}
+use Rattle.store_image.specs.Stands.{IsSealOf, Stands, StandsFor}
 use Rattle.store_image.specs.Stored.{codes_of, IsStored}
 use Rattle.store_image.proofs.Standing.{replay_steps}
 use Rattle.store_image.proofs.Stored.{stored_is_one}
@@ -111,6 +111,9 @@ module _ (m : Meaning) (first : Base) (before more : List Step) (may_leave : ℕ
   pub counted_told : base.steps ≡ first.steps + length past_told
   counted_told = counted m first base files (before ++ take (each files honest).count more) (each files honest).stands (one_stored files honest).1
 
+  pub seals_told : IsSealOf (replay m first past_told) base
+  seals_told = subst (λ (b : Base). IsSealOf (replay m first past_told) b) (one_stored files honest).1 (each files honest).stands.seals
+
   pub stands_told : (image : Image) → IsImage may_leave image → Stands m first image (past_told ++ steps)
   stands_told image left =
       let is = each image left in
@@ -136,6 +139,7 @@ kept_reopened disk may_leave m first before more rules limit now root journal g 
         files = was.files;
         tells = was.tells;
         counted = counted_told m first before more (may_leave now) g base steps was.files honest was.each stored;
+        seals = seals_told m first before more (may_leave now) g base steps was.files honest was.each stored;
         within = omega arith;
         each = λ image left.
             record {

@@ -26,12 +26,6 @@ use Rattle.store_image.proofs.Stored.{step_is_long}
 use Rattle.journal_book.specs.Reading.{BeginsWithStep, HoldsReplayable, IsBodyFault}
 use Rattle.journal_book.proofs.Bodies.{behind_more, split_there, taken_more}
 
--- bytes that begin with a step that can't be replayed begin with none that can
-pub not_replayable : (m : Meaning) (s : Base) (step : Step) (bytes rest : List ℕ) → IsWritable step → bytes ≡ code_of_step step ++ rest → (IsReplayable m s step → ⊥) → BeginsWithNoStep m s bytes
-not_replayable m s step bytes rest writable code refused = λ other behind fits is replayable.
-    let same = one_code step_law step other rest behind writable fits (sym code ∙ is) in
-    refused (subst (λ (x : Step). IsReplayable m s x) (sym same.0) replayable)
-
 replayable_more : (m : Meaning) (s : Base) (front more : List Step) → AreReplayable m s front → AreReplayable m (replay m s front) more → AreReplayable m s (front ++ more)
 replayable_more m s [] more all then = then
 replayable_more m s (step ∷ front) more all then = (all.0, replayable_more m (after m s step) front more all.1 then)
@@ -64,9 +58,6 @@ pub record HasReplayed (m : Meaning) (s : Base) (body : List ℕ) (start : ℕ) 
   pub code : body ≡ codes_of front ++ rest
   pub goes_on : rest ≡ [] → front ≡ []
   pub place : at ≡ start + length (codes_of front)
-
-pub replayed_none : (m : Meaning) (s : Base) (body : List ℕ) (start : ℕ) → HasReplayed m s body start body start []
-replayed_none m s body start = record { coded = tt; replays = tt; code = refl; goes_on = λ none. refl; place = omega arith }
 
 codes_one_more : (front : List Step) (step : Step) → codes_of (front ++ step ∷ []) ≡ codes_of front ++ code_of_step step
 codes_one_more front step = flat_map-append code_of_step front (step ∷ []) ∙ ap (λ c. codes_of front ++ c) (append-nil (code_of_step step))

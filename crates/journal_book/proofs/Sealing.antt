@@ -197,7 +197,7 @@ pub kept_later : {D R : Type 0} (disk : D → DiskView) (may_leave : D → ℕ �
     → ((image : Image) → (disk book.disk).moment ≤ (disk now).moment → IsImage (may_leave now) image → left_since now (disk book.disk).moment image)
     → Leaves disk left_since book.disk now (StandsFor m first (past ++ durable_steps book) (waiting_steps book)) → IsKept disk may_leave m first past (record book { disk = now; broken = broken })
 kept_later disk may_leave left_since m first past book now broken after kept told counts run =
-    record { files = after; tells = told; counted = kept.counted; within = kept.within; each = λ image left. run.each image (counts image run.later left) }
+    record { files = after; tells = told; counted = kept.counted; seals = kept.seals; within = kept.within; each = λ image left. run.each image (counts image run.later left) }
 
 -- what stands for all steps stands for the durable ones and those that wait
 pub all_or_fewer : (m : Meaning) (first : Base) (past : List Step) (kept : ℕ) (steps : List Step) (image : Image) → StandsFor m first (past ++ take (length steps) steps) (drop (length steps) steps) image → StandsFor m first (past ++ take kept steps) (drop kept steps) image

@@ -79,7 +79,7 @@ short_of [] sealed short = tt
 short_of (out ∷ outs) sealed short =
     (omega (arith, sealed.0, output_length out, short, length-append (output out) (flat_map output outs)), short_of outs sealed.1.1 (omega (arith, short, length-append (output out) (flat_map output outs))))
 
-few_of : (outs : List Output) → length outs ≤ length (flat_map output outs)
+pub few_of : (outs : List Output) → length outs ≤ length (flat_map output outs)
 few_of [] = omega arith
 few_of (out ∷ outs) = omega (arith, length-append (output out) (flat_map output outs), output_length out, few_of outs)
 

@@ -1,4 +1,5 @@
 ghost use Rattle.std.specs.Prelude.{◌≡◌, ◌≢◌, ◌↔◌, ◌⊎◌, ◌≤◌, ◌<◌, ◌+◌, ◌++◌, [], ◌∷◌, ℕ, List, true, false, length, take, drop, Option, Some, None, Err, IfOk, IfErr, OnOk, OnErr, IsErrOf};
+ghost use Rattle.ack_steps.specs.Core.{HasNearFeeds, HasSoundHands};
 ghost use Rattle.edge_traits.specs.Count.{Rose};
 ghost use Rattle.edge_traits.specs.Disk.{ChangesOnly, Image, Leaves};
 ghost use Rattle.step_code.specs.declared.base.Base.{Base};
@@ -213,7 +214,14 @@ impl<D: Disk, R: Rules> Book<D, R> {
     pub fn state(&self) -> &Core<R>
         ensures core { result.now ≡ record { rules = self.now.rules; state = self.now.state } }
         ensures replay { self.now.state ≡ replay R.meaning self.now.base self.now.steps }
+
+        // Whatever the disk held, each full hand is one of a live instance's, and no feed was read past the last number.
+        ensures hands { HasSoundHands R.meaning self.now.state }
+        ensures feeds { HasNearFeeds self.now.state }
     {
+        // Both calls tell what holds of the state.
+        let _ = self.core.plan();
+        let _ = self.core.feeds();
         &self.core
     }
 

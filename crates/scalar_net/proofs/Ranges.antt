@@ -3,7 +3,7 @@ use Rattle.std.proofs.Common.{◌≡◌, ℕ, zero, suc, ◌*◌, ◌+◌, ◌/�
 use Rattle.std.proofs.Math.Nat.{pow-le-pow_right}
 use Rattle.std.proofs.lemmas.Int.Digits.{digits_value-lt}
 use Rattle.std.proofs.lemmas.List.Elements.{All-nil, All-cons, All-head, All-tail, All-append, All-replicate}
-use Rattle.std.proofs.lemmas.Option.{none-some}
+use Rattle.std.proofs.lemmas.Option.{none-some, same_Some}
 use Rattle.std.specs.Int.{w32, w128, from_be_bytes}
 use Rattle.std.specs.Option.{option_or}
 use Rattle.std.specs.Net.Addr.{octets_of, segments_of}
@@ -72,16 +72,13 @@ bytes_fit bytes h =
 groups_fit : (text segments : List ℕ) → IsColonHex text segments → from_be_bytes w128 (octets_of segments) < 2 ^ 128
 groups_fit text segments h = bytes_fit (octets_of segments) (groups_are_bytes segments (colon_hex_fits text segments h))
 
-some_same : {A : Type 0} (a b : A) → ◌≡◌ {A = Option A} (Some a) (Some b) → a ≡ b
-some_same a b e = cc
-
 abbrev IsInRange : Bool × ℕ → Type 0
 IsInRange ip = ip.1 < 2 ^ width ip.0
 
 fits_if : (text : List ℕ) (four six : Option (List ℕ)) → whole_value (read_ipv4 text) ≡ four → whole_value (read_ipv6 text) ≡ six → (ip : Bool × ℕ)
     → option_or (option_map (λ octets. (false, from_be_bytes w32 octets)) four) (option_map (λ groups. (true, from_be_bytes w128 (octets_of groups))) six) ≡ Some ip → IsInRange ip
-fits_if text (Some os) six e f ip h = subst IsInRange (some_same (false, from_be_bytes w32 os) ip h) (octets_fit text os (read_ipv4-sound text os e))
-fits_if text None (Some gs) e f ip h = subst IsInRange (some_same (true, from_be_bytes w128 (octets_of gs)) ip h) (groups_fit text gs (read_ipv6-sound text gs f))
+fits_if text (Some os) six e f ip h = subst IsInRange (same_Some (false, from_be_bytes w32 os) ip h) (octets_fit text os (read_ipv4-sound text os e))
+fits_if text None (Some gs) e f ip h = subst IsInRange (same_Some (true, from_be_bytes w128 (octets_of gs)) ip h) (groups_fit text gs (read_ipv6-sound text gs f))
 fits_if text None None e f ip h = absurd (none-some ip h)
 
 -- the number of an address that is read is below 2 to the power of its bits

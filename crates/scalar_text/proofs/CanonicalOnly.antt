@@ -16,7 +16,7 @@ use Rattle.std.proofs.Math.Seq.{take-append_seam}
 use Rattle.std.proofs.Math.Nat.{pow-le-pow_right}
 use Rattle.base_types.specs.Digits.{IsDigits}
 use Rattle.scalar_text.proofs.PrintedDecimals.{numeral_first, point_behind, decimal_reads_back, same_decimal}
-use Rattle.scalar_text.proofs.NumberForms.{digits_model}
+use Rattle.base_types.proofs.Numerals.{digits_model}
 use Rattle.scalar_text.proofs.CanonicalDecimals.{HasOther, until_nothing}
 
 spread : (n v power more rest front back : ℕ) → more ≡ 10 * power → front ≡ (n * 10 + v) * power + rest → back ≡ (0 + v) * power + rest → front ≡ n * more + back

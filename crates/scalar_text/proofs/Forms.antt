@@ -1,7 +1,7 @@
 -- Options that have a value exactly where a relation holds.
 use Rattle.std.proofs.Common.{◌≡◌, ◌↔◌, Bool, true, false, Option, Some, None, option_map, refl, sym, ap, ◌∙◌, if◌then◌else◌}
 use Rattle.std.specs.Option.{option_and_then}
-use Rattle.std.proofs.lemmas.Option.{none-some}
+use Rattle.std.proofs.lemmas.Option.{none-some, same_Some}
 
 -- the option has the value that the relation holds of, and no other
 pub record IsFormOf {A : Type 0} (P : A → Type 0) (o : Option A) : Type 0 where
@@ -23,12 +23,9 @@ form_iff P o v form = (form.complete v, form.sound v)
 pub form_by : {A : Type 0} {P Q : A → Type 0} (o : Option A) → ((v : A) → P v → Q v) → ((v : A) → Q v → P v) → IsFormOf P o → IsFormOf Q o
 form_by o to from form = record { sound = λ v e. to v (form.sound v e); complete = λ v q. form.complete v (from v q) }
 
-some_same : {A : Type 0} (a b : A) → ◌≡◌ {A = Option A} (Some a) (Some b) → a ≡ b
-some_same a b e = cc
-
 mapped_sound : {A B : Type 0} (f : A → B) (P : A → Type 0) (o q : Option A) → o ≡ q → IsFormOf P o → (w : B) → option_map f q ≡ Some w → (v : A) × P v × (w ≡ f v)
 mapped_sound f P o None e form w h = absurd (none-some w h)
-mapped_sound f P o (Some v) e form w h = (v, form.sound v e, sym (some_same (f v) w h))
+mapped_sound f P o (Some v) e form w h = (v, form.sound v e, sym (same_Some (f v) w h))
 
 pub form_map : {A B : Type 0} (f : A → B) (P : A → Type 0) (o : Option A) → IsFormOf P o → IsFormOf (λ w. (v : A) × P v × (w ≡ f v)) (option_map f o)
 form_map f P o form = record {
@@ -58,4 +55,4 @@ pub form_if : {A : Type 0} (T : Type 0) (P : A → Type 0) (b : Bool) (o : Optio
 form_if T P b o test form = record { sound = tested_sound T P b o test.0 form; complete = tested_complete T P b o test.1 form }
 
 pub form_some : {A : Type 0} (x : A) → IsFormOf (λ v. v ≡ x) (Some x)
-form_some x = record { sound = λ v e. sym (some_same x v e); complete = λ v e. ap Some (sym e) }
+form_some x = record { sound = λ v e. sym (same_Some x v e); complete = λ v e. ap Some (sym e) }

@@ -4,13 +4,9 @@ use Rattle.std.proofs.lemmas.Bool.{lt-ltb, ltb-true, leb-true, and_parts, and_fr
 use Rattle.std.specs.Str.{all_ascii_digits}
 use Rattle.std.specs.Str.Parse.{IsNumeral, digits_value}
 use Rattle.base_types.specs.Digits.{IsDigits, digits_in}
-use Rattle.base_types.proofs.Numerals.{digits_in-some}
-use Rattle.std.proofs.lemmas.Str.Parse.{IsNumeralModel, numerals_by_value, tells_all_ascii_digits}
+use Rattle.base_types.proofs.Numerals.{digits_in-some, digits_model}
 use Rattle.scalar_text.specs.Number.{IsWholeText, whole_in, is_numeral, AreMillionths, millionths, millionths_in, IsDecimalText, decimal_in, behind_minus, has_minus, signed, point_in}
 use Rattle.scalar_text.proofs.Forms.{IsFormOf, form_by, form_map, form_if, none_of}
-
-pub digits_model : IsNumeralModel (λ ds. all_ascii_digits ds ≡ true) (digits_value 10)
-digits_model = numerals_by_value (λ ds. all_ascii_digits ds ≡ true) tells_all_ascii_digits
 
 sound_if : (most : ℕ) (text : List ℕ) (b : Bool) → (nat_lt 0 (length text) && nat_le (length text) most && all_ascii_digits text) ≡ b → (n : ℕ) → ◌≡◌ {A = Option ℕ} (if b then Some (digits_value 10 text) else None) (Some n) → IsDigits most text n
 sound_if most text false test n h = absurd (cc)

@@ -1,12 +1,12 @@
 mod Comments
 mod Contents
-mod Covers
+pub mod Covers
 mod Finds
 mod Keywords
 mod Numbers
-mod Pieces
+pub mod Pieces
 mod Quotes
 mod Runs
 mod Scans
-mod Signs
+pub mod Signs
 mod WordLens

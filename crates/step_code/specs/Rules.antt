@@ -67,14 +67,28 @@ is_worker bots name = passes (λ f. not (collects f)) (bot_named name bots)
 abbrev pub IsPlanOf : Meaning → List ℕ → List Facts → Type 0
 IsPlanOf m bundle bots = m.facts bundle ≡ Some bots
 
+-- the limits of one bot: instances, retries, the pause before a retry in seconds, and the bytes of a piece of a feed
+abbrev pub most_instances : ℕ
+most_instances = 16
+
+abbrev pub most_retries : ℕ
+most_retries = 100
+
+abbrev pub longest_delay : ℕ
+longest_delay = 86_400
+
+abbrev pub longest_piece : ℕ
+longest_piece = 1_048_576
+
 -- a bot within the limits
 pub record IsSoundBot (f : Facts) : Type 0 where
   pub some_instance : 1 ≤ f.instances
-  pub instances : f.instances ≤ 16
-  pub retries : f.retries ≤ 100
+  pub instances : f.instances ≤ most_instances
+  pub retries : f.retries ≤ most_retries
+  pub delay : f.delay ≤ longest_delay
   pub feed : is_some f.feed ≡ collects f
   pub some_bytes : IfSome f.feed (λ feed. 1 ≤ feed.chunk_size)
-  pub chunk : IfSome f.feed (λ feed. feed.chunk_size ≤ 1_048_576)
+  pub chunk : IfSome f.feed (λ feed. feed.chunk_size ≤ longest_piece)
   pub some_key : IfSome f.cache (λ rule. 1 ≤ rule.cache_max)
 
 -- bots within the limits, in byte order of their names

@@ -40,7 +40,7 @@ pub struct Facts {
     pub instances: u8,
     /// How often a message is tried again after a fault.
     pub retries: u32,
-    /// The pause before a message is tried again, in milliseconds.
+    /// The pause before a message is tried again, in seconds, at most 86,400.
     pub delay: u64,
     /// Whether the bot is halted once it has given up on a message.
     pub stop: bool,

@@ -5,6 +5,10 @@ ghost use Rattle.std.specs.Prelude.{◌≡◌, ◌+◌, ◌^◌, ◌≤◌, [], 
 
 #[cfg(test)]
 mod beginning;
+#[cfg(test)]
+mod drills;
+#[cfg(test)]
+mod looks;
 
 #[cfg(test)]
 mod tests {

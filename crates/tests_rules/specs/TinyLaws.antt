@@ -25,20 +25,20 @@ of_bundle P thin tiny other bundle bots loads =
 
 collector_sound : (name file : List ℕ) (defaults : List (List ℕ)) → IsSoundBot (collector name file defaults)
 collector_sound name file defaults =
-    record { some_instance = omega arith; instances = omega arith; retries = omega arith; feed = refl; some_bytes = omega arith; chunk = omega arith; some_key = tt }
+    record { some_instance = omega arith; instances = omega arith; retries = omega arith; delay = omega arith; feed = refl; some_bytes = omega arith; chunk = omega arith; some_key = tt }
 
 deduplicator_sound : IsSoundBot deduplicator
 deduplicator_sound =
-    record { some_instance = omega arith; instances = omega arith; retries = omega arith; feed = refl; some_bytes = tt; chunk = tt; some_key = omega arith }
+    record { some_instance = omega arith; instances = omega arith; retries = omega arith; delay = omega arith; feed = refl; some_bytes = tt; chunk = tt; some_key = omega arith }
 
 strict_sound : IsSoundBot strict_deduplicator
-strict_sound = record { some_instance = omega arith; instances = omega arith; retries = omega arith; feed = refl; some_bytes = tt; chunk = tt; some_key = omega arith }
+strict_sound = record { some_instance = omega arith; instances = omega arith; retries = omega arith; delay = omega arith; feed = refl; some_bytes = tt; chunk = tt; some_key = omega arith }
 
 parser_sound : IsSoundBot parser
-parser_sound = record { some_instance = omega arith; instances = omega arith; retries = omega arith; feed = refl; some_bytes = tt; chunk = tt; some_key = tt }
+parser_sound = record { some_instance = omega arith; instances = omega arith; retries = omega arith; delay = omega arith; feed = refl; some_bytes = tt; chunk = tt; some_key = tt }
 
 writer_sound : (name : List ℕ) → IsSoundBot (writer name)
-writer_sound name = record { some_instance = omega arith; instances = omega arith; retries = omega arith; feed = refl; some_bytes = tt; chunk = tt; some_key = tt }
+writer_sound name = record { some_instance = omega arith; instances = omega arith; retries = omega arith; delay = omega arith; feed = refl; some_bytes = tt; chunk = tt; some_key = tt }
 
 thin_sound : AreSound thin_bots
 unfolding IsStrictlySortedBy

@@ -4,6 +4,18 @@
 #[cfg(test)]
 mod hostile;
 #[cfg(test)]
+mod hostile_sieves;
+#[cfg(test)]
+mod lists;
+#[cfg(test)]
+mod nesting;
+#[cfg(test)]
+mod reading;
+#[cfg(test)]
+mod refusals;
+#[cfg(test)]
 mod tokens;
+#[cfg(test)]
+mod trees;
 #[cfg(test)]
 mod words;

@@ -1,16 +1,15 @@
 -- What a bot that may step stands for.
-use Rattle.std.proofs.Common.{◌≡◌, ◌≤◌, ◌<◌, ◌+◌, ◌-◌, ◌&&◌, ◌==◌, ℕ, zero, suc, Bool, true, false, not, is_some, is_none, nat_le, List, [], ◌∷◌, Option, Some, None, option_map, map, filter, refl, sym, ap, subst, ◌∙◌, arith, if◌then◌else◌}
+use Rattle.std.proofs.Common.{◌≡◌, ◌≤◌, ◌<◌, ◌+◌, ◌-◌, ◌&&◌, ◌==◌, ℕ, zero, suc, Bool, true, false, not, is_some, is_none, nat_le, List, [], ◌∷◌, Option, Some, None, option_map, map, filter, refl, ap, subst, ◌∙◌, arith, if◌then◌else◌}
 use Rattle.std.specs.List.{AllByRecursion}
 use Rattle.std.specs.Option.{option_or}
 use Rattle.std.specs.Cmp.Lexicographic.{slice_cmp}
 use Rattle.std.specs.List.Sorted.{IsStrictlySortedBy}
-use Rattle.std.specs.Ordering.{is_eq, nat_cmp}
-use Rattle.std.specs.Str.{bytes_eq}
+use Rattle.std.specs.Ordering.{nat_cmp}
 use Rattle.std.specs.declared.cmp.Ordering.TheVariants.{Less}
 use Rattle.std.proofs.lemmas.Bool.{eq-eqb, eqb-false, eqb-true, le-leb}
-use Rattle.std.proofs.lemmas.Map.Text.{is_eq-slice_cmp}
 use Rattle.std.proofs.lemmas.Slice.Eq.{bytes_eq-Decides}
 use Rattle.base_types.proofs.Everywhere.{all_found}
+use Rattle.base_types.proofs.Names.{less_differs}
 use Rattle.base_types.specs.Name.{queue_name}
 use Rattle.stored_types.specs.declared.hand.Hand.{Hand}
 use Rattle.step_code.specs.declared.base.Base.{Base}
@@ -57,21 +56,18 @@ among_all s (f ∷ bots) = go (among_all s bots) (collects f) refl (actor_of s f
 
 -- ---- bots
 
-differs : (a b : List ℕ) → slice_cmp nat_cmp a b ≡ Less → bytes_eq a b ≡ false
-differs a b less = sym (is_eq-slice_cmp a b) ∙ ap is_eq less
-
 -- a bot of a plan is the one of its name
-abbrev IsNamed : List Facts → Facts → Type 0
+abbrev pub IsNamed : List Facts → Facts → Type 0
 IsNamed bots f = bot_named f.bot bots ≡ Some f
 
-all_named : (bots : List Facts) → IsStrictlySortedBy (slice_cmp nat_cmp) (map (λ f. f.bot) bots) → AllByRecursion (IsNamed bots) bots
+pub all_named : (bots : List Facts) → IsStrictlySortedBy (slice_cmp nat_cmp) (map (λ f. f.bot) bots) → AllByRecursion (IsNamed bots) bots
 unfolding IsStrictlySortedBy
 all_named [] sorted = tt
 all_named (b ∷ bots) sorted = (rw ((bytes_eq-Decides b.bot b.bot).1 refl) refl, later bots sorted.0 (all_named bots sorted.1))
   where
     later : (fs : List Facts) → AllByRecursion (λ name. slice_cmp nat_cmp b.bot name ≡ Less) (map (λ f. f.bot) fs) → AllByRecursion (IsNamed bots) fs → AllByRecursion (IsNamed (b ∷ bots)) fs
     later [] less named = tt
-    later (f ∷ fs) less named = (rw (differs b.bot f.bot less.0) named.0, later fs less.1 named.1)
+    later (f ∷ fs) less named = (rw (less_differs b.bot f.bot less.0) named.0, later fs less.1 named.1)
 
 -- ---- instances
 
@@ -129,13 +125,13 @@ pub instance_of : (bots : List Facts) (f : Facts) (i : ℕ) → bot_named f.bot 
 instance_of bots f i named worker from upto = ap (passes (λ (g : Facts). not (collects g) && nat_le 1 i && nat_le i g.instances)) named ∙ rw (worker, le-leb 1 i from, le-leb i f.instances upto) refl
 
 -- the bot that steps takes messages
-record Steps (m : Meaning) (s : Base) (actor : Actor) : Type 0 where
+pub record Steps (m : Meaning) (s : Base) (actor : Actor) : Type 0 where
   pub facts : Facts
   pub named : bot_named facts.bot (bots_in_force m s) ≡ Some facts
   pub worker : collects facts ≡ false
   pub acts : actor_of s facts ≡ Some actor
 
-steps_by : (m : Meaning) (s : Base) (actor : Actor) → AreSound (bots_in_force m s) → first_actor m s ≡ Some actor → Steps m s actor
+pub steps_by : (m : Meaning) (s : Base) (actor : Actor) → AreSound (bots_in_force m s) → first_actor m s ≡ Some actor → Steps m s actor
 steps_by m s actor sound is =
     let bots = bots_in_force m s in
     let found = some_first (IsNamed bots) (worker_of s) bots actor (all_named bots sound.order) (among_all s bots ∙ is) in

@@ -1,3 +1,3 @@
-mod Actors
-mod Idle
-mod Waiting
+pub mod Actors
+pub mod Idle
+pub mod Waiting

@@ -1,5 +1,5 @@
 -- Where no bot may step and none is halted, nothing waits.
-use Rattle.std.proofs.Common.{◌≡◌, ◌≤◌, ◌&&◌, ℕ, Bool, true, false, not, is_some, nat_le, List, [], ◌∷◌, Option, Some, None, option_map, map, find, refl, sym, ap, subst, ◌∙◌, arith, unwrap_or, if◌then◌else◌}
+use Rattle.std.proofs.Common.{◌≡◌, ◌≤◌, ◌&&◌, ℕ, Bool, true, false, not, is_some, nat_le, List, [], ◌∷◌, Option, Some, None, option_map, map, find, refl, ap, subst, ◌∙◌, arith, if◌then◌else◌}
 use Rattle.std.specs.List.{AllByRecursion, list_any}
 use Rattle.std.specs.Option.{option_or}
 use Rattle.std.specs.Str.{bytes_eq}
@@ -66,7 +66,7 @@ none_waits s bot none is = go (waiting (queue_name bot) s) (rw (ap (λ names. li
     go (x ∷ xs) is = absurd (cc)
 
 pub nothing_waits : NothingWaits
-nothing_waits m s state sound none halted =
+nothing_waits m s hands sound none halted =
     let idle = none_first (actor_of s) (workers m s) none in
     (no_hands s.hands refl, all_wider _ _ (workers m s) (λ f is. none_waits s f.bot halted (does_nothing s f is).1) idle)
   where
@@ -77,15 +77,11 @@ nothing_waits m s state sound none halted =
         go true role worker is = absurd (cc)
         go false role worker is = rw (role) at is
 
-    bots_are : bots_in_force m s ≡ state.bots
-    bots_are = ap (λ o. unwrap_or o []) state.loads
-
-    no_hands : (hands : List Hand) → s.hands ≡ hands → s.hands ≡ []
+    no_hands : (full : List Hand) → s.hands ≡ full → s.hands ≡ []
     no_hands [] is = is
-    no_hands (h ∷ hands) is =
-        let sound_hand : AllByRecursion (IsSoundHand state.bots (map (λ q. q.name) s.queues)) (h ∷ hands) = subst (λ (hs : List Hand). AllByRecursion (IsSoundHand state.bots (map (λ q. q.name) s.queues)) hs) is state.each_hand in
-        let live = sound_hand.0.live in
-        let worker = worker_of (bots_in_force m s) h.bot h.instance (subst (λ (bots : List Facts). is_instance bots h.bot h.instance ≡ true) (sym bots_are) live) in
+    no_hands (h ∷ others) is =
+        let each = subst (AllByRecursion (IsSoundHand (bots_in_force m s) (map (λ q. q.name) s.queues))) is hands.each_hand in
+        let worker = worker_of (bots_in_force m s) h.bot h.instance each.0.live in
         let f = worker.facts in
         let none_of = all_found _ _ (bots_in_force m s) f (none_first (worker_does s) (bots_in_force m s) (among_all s (bots_in_force m s) ∙ none)) worker.named in
         let nothing = does_nothing s f (of_worker f worker.worker none_of) in

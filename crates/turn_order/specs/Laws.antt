@@ -8,8 +8,8 @@ use Rattle.step_code.specs.declared.step.StepKind.TheVariants as kind
 use Rattle.step_code.specs.Fits.{first_failing, in_hand_parts, parts}
 use Rattle.step_code.specs.History.{IsIdle}
 use Rattle.step_code.specs.Rules.{AreSound, Meaning}
-use Rattle.step_code.specs.Sound.{IsSoundState}
 use Rattle.step_code.specs.State.{bots_in_force, hand_of, waiting}
+use Rattle.ack_steps.specs.Core.{HasSoundHands}
 use Rattle.turn_order.specs.Turn.{first_actor, is_idle, workers}
 use Rattle.turn_order.specs.declared.actor.Actor.TheVariants.{Full, Take}
 
@@ -32,5 +32,5 @@ TakesFit =
 -- where no bot may step and none is halted, no hand is full and nothing waits for a bot
 abbrev pub NothingWaits : Type 0
 NothingWaits =
-    (m : Meaning) (s : Base) → IsSoundState m s → AreSound (bots_in_force m s) → first_actor m s ≡ None → s.halted ≡ [] →
+    (m : Meaning) (s : Base) → HasSoundHands m s → AreSound (bots_in_force m s) → first_actor m s ≡ None → s.halted ≡ [] →
     (s.hands ≡ []) × AllByRecursion (λ f. waiting (queue_name f.bot) s ≡ []) (workers m s)

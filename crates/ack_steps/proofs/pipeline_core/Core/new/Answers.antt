@@ -1,8 +1,8 @@
 use Rattle.std.proofs.Common.{sym, ◌∙◌, ap, subst}
 use Rattle.step_code.specs.declared.base.Base.{Base}
 use Rattle.step_code.specs.Rules.{IsPlanOf}
-use Rattle.ack_steps.specs.Core.{IsOrderly}
-use Rattle.ack_steps.proofs.Kept.{sound_orderly}
+use Rattle.ack_steps.specs.Core.{HasNearFeeds, HasSoundHands, IsOrderly}
+use Rattle.ack_steps.proofs.Kept.{near_feeds, sound_hands, sound_orderly}
 use Rattle.ack_steps.proofs.pipeline_core.Core.new.Goals as goal
 
 pub invariant_of-result : goal.invariant_of-result
@@ -13,4 +13,6 @@ invariant_of-result g c =
       subst (λ l. IsPlanOf g.R.Rules.meaning l (g.R.Rules.bots_of c.in_ok-plan.plan)) (sym bundle) c.in_ok-plan.ensures.plan,
       c.in_ok-from_base.ensures.lengths,
       subst IsOrderly (sym same) (sound_orderly g.R.Rules.meaning c.args.base c.in_ok-plan.ensures.sound),
+      subst (HasSoundHands g.R.Rules.meaning) (sym same) (sound_hands g.R.Rules.meaning c.args.base c.in_ok-plan.ensures.sound),
+      subst HasNearFeeds (sym same) (near_feeds g.R.Rules.meaning c.args.base c.in_ok-plan.ensures.sound),
     )

@@ -1,6 +1,7 @@
-use Rattle.std.proofs.Common.{◌≡◌, ◌≤◌, Err, MatchOption, IfSome, sym, ◌∙◌, ap, subst, arith}
+use Rattle.std.proofs.Common.{◌≡◌, ◌≤◌, List, Err, MatchOption, IfSome, sym, ◌∙◌, ap, subst, arith}
 use Rattle.std.proofs.lemmas.Result.{err_from_is_err_and}
-use Rattle.report_cut.specs.Pieces.{Piece, Long, next}
+use Rattle.report_cut.specs.Pieces.{Piece, End, Long, next, offset_behind}
+use Rattle.report_cut.specs.declared.piece.Cut.{Cut}
 use Rattle.feed_reader.specs.declared.ahead.ReaderFault.TheVariants as fault
 use Rattle.feed_reader.proofs.Sources.{rose_since, ahead_is}
 use Rattle.feed_reader.proofs.reader.FeedReader.next_piece.Goals as goal
@@ -16,6 +17,21 @@ returns-in-Some-clause-next g c = λ feed told.
     (sym (ap (λ r. r.rule) v) ∙ sym kept.rule)
     (sym (ap (λ r. r.at) v) ∙ sym kept.at)
     (c.in-Some.ensures.next feed (kept.stands feed (ap (λ r. r.source.told) v ∙ told)))
+
+pub invariant_of-self-then-self : goal.invariant_of-self-then-self
+invariant_of-self-then-self g c =
+    (c.take.ensures.counted, λ feed told. c.take.ensures.stands feed (c.slices.invariant.stands feed (sym c.slices.invariant.told ∙ told)))
+
+pub returns-then-self-clause-next : goal.returns-then-self-clause-next
+returns-then-self-clause-next g c = λ feed told.
+    let v = c.self.view_is in let kept = c.slices.invariant in
+    let first = ap (λ r. r.source.told) v ∙ told in
+    let at = subst (λ o. MatchOption o (c.take.new.self.at ≡ c.slices.self-inside.coming.at) (λ cut. c.take.new.self.at ≡ cut.upto)) c.in_default.is c.take.ensures.at in
+    ahead_is c.args.self.now.rule c.take.new.self.cutter.rule feed c.args.self.now.at c.take.new.self.at End
+    (sym (ap (λ r. r.rule) v) ∙ sym kept.rule ∙ sym c.take.ensures.rule)
+    (sym (ap (λ r. r.at) v) ∙ sym kept.at ∙ sym at)
+    (subst (λ (cuts : List Cut). next c.take.new.self.cutter.rule feed (offset_behind c.take.new.self.at cuts) ≡ End) (c.take.ensures.none c.in_default.is)
+    ((c.take.ensures.stands feed (kept.stands feed first)).end c.if-self.true))
 
 pub invariant_of-self-in_err-at : goal.invariant_of-self-in_err-at
 invariant_of-self-in_err-at g c = (

@@ -1,0 +1,249 @@
+ghost use Rattle.std.specs.Prelude.{◌≡◌, ◌≢◌, ◌≤◌, ◌<◌, ◌+◌, List, ℕ, length, Some, None, Err, IfOk, IfSome, OnOk, OnErr, IsErrOf, MatchResult, true, false};
+ghost use Rattle.base_types.specs.Lists.{AreBytes};
+ghost use Rattle.edge_traits.specs.Count.{Rose};
+ghost use Rattle.edge_traits.specs.Shelf.{content_of, count_on, IsListed};
+ghost use Rattle.report_cut.specs.Pieces.{longest_line, next, Piece};
+ghost use Rattle.step_code.specs.declared.rules.FeedFacts.{FeedFacts};
+ghost use Rattle.step_code.specs.Sound.{last_number};
+ghost use Rattle.collector_feeds.specs.Found.{found_at, rule_of, within_limit, IsAhead, MayFind};
+ghost use Rattle.collector_feeds.specs.Stage.{read_in, source_in, HasRule};
+ghost use Rattle.collector_feeds.specs.Standing.{all_faults, faults_in, next_look, IsFetched, IsOf, IsReadWithin, RoseBy, StandsAt};
+ghost use Rattle.collector_feeds.specs.Tries.{GoesOn, IsOpenOf, IsReadOn, IsThere};
+
+use crate::stage::Stage;
+use crate::{CollectorFeed, Found};
+use edge_traits::{Shelf, ShelfFault, Source};
+use feed_reader::{Ahead, Beginning, FeedReader, ReaderFault, begin_at};
+use report_cut::{Cut, CutRule};
+use std::alloc::Global;
+use std::mem;
+use step_code::{FeedFacts, LONGEST_FEED};
+
+/// Why a feed wasn't looked at.
+#[derive(Clone, Copy, Debug, PartialEq, Eq)]
+pub enum LookFault {
+    /// Fetches and reads failed more often than they may be tried again.
+    Failed,
+    OutOfMemory,
+}
+
+/// What stands at an offset of a collector's feed, where its last look ended. The feed is fetched if it wasn't. A fetch or a
+/// read that fails is tried again, as often as the collector may.
+///
+/// # Errors
+///
+/// `Failed` once more of them failed in all looks at this feed. `OutOfMemory`. The feed may be looked at again there.
+pub fn look<H: Shelf>(
+    alloc: Global,
+    feed: &mut CollectorFeed<H::Src>,
+    shelf: &mut H,
+    at: u64,
+) -> Result<Found, LookFault>
+    requires stands { StandsAt (H.shelf shelf.old) at feed.old }
+    requires near { at ≤ last_number }
+    requires some { 1 ≤ feed.old.facts.chunk_size }
+    requires chunk { feed.old.facts.chunk_size ≤ longest_line }
+    requires tries { feed.old.failed ≤ feed.old.retries }
+    ensures found { IfOk result (MayFind (H.shelf shelf.old) feed.old.facts at) }
+    ensures stands { IfOk result (λ what. IfSome (next_look at what) (λ place. StandsAt (H.shelf shelf.new) place feed.new)) }
+    ensures of { IsOf (H.shelf shelf.new) feed.new }
+    ensures facts { feed.new.facts ≡ feed.old.facts }
+    ensures retries { feed.new.retries ≡ feed.old.retries }
+    ensures tried { OnOk result (feed.new.failed ≤ feed.new.retries) }
+    ensures failed { IsErrOf result LookFault.Failed → feed.new.failed ≡ feed.new.retries + 1 }
+
+    // Each failure is counted, by the shelf or by the source.
+    ensures counted { (first : ℕ) → RoseBy feed.old.failed first (all_faults (H.shelf shelf.old) feed.old) → RoseBy feed.new.failed first (all_faults (H.shelf shelf.new) feed.new) }
+    ensures told { (H.shelf shelf.new).told ≡ (H.shelf shelf.old).told }
+    ensures count { count_on (H.shelf shelf.old) feed.old.facts.file ≤ count_on (H.shelf shelf.new) feed.old.facts.file }
+    ensures other_counts { (other : List ℕ) → other ≢ feed.old.facts.file → count_on (H.shelf shelf.new) other ≡ count_on (H.shelf shelf.old) other }
+    ensures stay_listed { (other : List ℕ) → IsListed (H.shelf shelf.old) other → IsListed (H.shelf shelf.new) other }
+{
+    if let Some(cut) = feed.kept.take() {
+        return Ok(Found::Piece { cut });
+    }
+    'tries: loop {
+        match try_once(alloc, feed, shelf, at) {
+            Ok(found) => return Ok(found),
+            Err(ReaderFault::OutOfMemory) => return Err(LookFault::OutOfMemory),
+            Err(ReaderFault::Failed) => {}
+        }
+        if feed.failed > feed.retries as u64 {
+            return Err(LookFault::Failed);
+        }
+    }
+}
+
+// One try, which counts its failure.
+fn try_once<H: Shelf>(
+    alloc: Global,
+    feed: &mut CollectorFeed<H::Src>,
+    shelf: &mut H,
+    at: u64,
+) -> Result<Found, ReaderFault>
+    requires stands { StandsAt (H.shelf shelf.old) at feed.old }
+    requires none { feed.old.kept ≡ None }
+    requires near { at ≤ last_number }
+    requires some { 1 ≤ feed.old.facts.chunk_size }
+    requires chunk { feed.old.facts.chunk_size ≤ longest_line }
+    requires tries { feed.old.failed ≤ feed.old.retries }
+    ensures found { IfOk result (MayFind (H.shelf shelf.old) feed.old.facts at) }
+    ensures stands { MatchResult result (λ what. IfSome (next_look at what) (λ place. StandsAt (H.shelf shelf.new) place feed.new)) (λ _. StandsAt (H.shelf shelf.new) at feed.new) }
+    ensures of { IsOf (H.shelf shelf.new) feed.new }
+    ensures facts { feed.new.facts ≡ feed.old.facts }
+    ensures retries { feed.new.retries ≡ feed.old.retries }
+    ensures none { feed.new.kept ≡ None }
+    ensures tried { (IsErrOf result ReaderFault.Failed → feed.new.failed ≡ feed.old.failed + 1) }
+    ensures still { (result ≢ Err ReaderFault.Failed) → feed.new.failed ≡ feed.old.failed }
+    ensures counted { (first : ℕ) → RoseBy feed.old.failed first (all_faults (H.shelf shelf.old) feed.old) → RoseBy feed.new.failed first (all_faults (H.shelf shelf.new) feed.new) }
+    ensures told { (H.shelf shelf.new).told ≡ (H.shelf shelf.old).told }
+    ensures count { count_on (H.shelf shelf.old) feed.old.facts.file ≤ count_on (H.shelf shelf.new) feed.old.facts.file }
+    ensures other_counts { (other : List ℕ) → other ≢ feed.old.facts.file → count_on (H.shelf shelf.new) other ≡ count_on (H.shelf shelf.old) other }
+    ensures stay_listed { (other : List ℕ) → IsListed (H.shelf shelf.old) other → IsListed (H.shelf shelf.new) other }
+{
+    let stage = mem::replace(&mut feed.stage, Stage::Closed);
+    let (stage, found) = find_from(alloc, shelf, &feed.facts, stage, at);
+    let before = mem::replace(&mut feed.stage, stage);
+    end_closed(before);
+    if is_failed(&found) {
+        feed.failed += 1;
+    }
+    found
+}
+
+fn end_closed<S: Source>(stage: Stage<S>)
+    requires { stage ≡ Stage.Closed }
+{
+    match stage {
+        Stage::Closed => {}
+        Stage::Fetched { source: _source } => unreachable!(),
+        Stage::Reading { reader: _reader } => unreachable!(),
+    }
+}
+
+fn is_failed(found: &Result<Found, ReaderFault>) -> bool
+    ensures failed { result ≡ true → IsErrOf found.now ReaderFault.Failed }
+    ensures other { result ≡ false → found.now ≢ Err ReaderFault.Failed }
+{
+    matches!(found, Err(ReaderFault::Failed))
+}
+
+// What stands at an offset of a feed that is open so far, and how far it is open then.
+fn find_from<H: Shelf>(
+    alloc: Global,
+    shelf: &mut H,
+    facts: &FeedFacts,
+    stage: Stage<H::Src>,
+    at: u64,
+) -> (Stage<H::Src>, Result<Found, ReaderFault>)
+    requires of { IfSome (source_in H.Src.source stage) (IsFetched (H.shelf shelf.old) facts.now.file) }
+    requires read { IfSome (read_in stage) (λ read. read ≡ at) }
+    requires within { (content : List ℕ) → content_of (H.shelf shelf.old) facts.now.file ≡ Some content → IsReadWithin content (read_in stage) }
+    requires rule { HasRule facts.now stage }
+    requires near { at ≤ last_number }
+    requires some { 1 ≤ facts.now.chunk_size }
+    requires chunk { facts.now.chunk_size ≤ longest_line }
+    ensures found { IfOk result.1 (MayFind (H.shelf shelf.old) facts.now at) }
+    ensures of { IfSome (source_in H.Src.source result.0) (IsFetched (H.shelf shelf.new) facts.now.file) }
+    ensures within { (content : List ℕ) → content_of (H.shelf shelf.old) facts.now.file ≡ Some content → IsReadWithin content (read_in result.0) }
+    ensures rule { HasRule facts.now result.0 }
+    ensures read { MatchResult result.1 (IsReadOn at (read_in result.0)) (λ _. IfSome (read_in result.0) (λ read. read ≡ at)) }
+    ensures failed { IsErrOf result.1 ReaderFault.Failed
+        → Rose (count_on (H.shelf shelf.old) facts.now.file + faults_in (source_in H.Src.source stage)) (count_on (H.shelf shelf.new) facts.now.file + faults_in (source_in H.Src.source result.0)) }
+    ensures faults { count_on (H.shelf shelf.old) facts.now.file + faults_in (source_in H.Src.source stage) ≤ count_on (H.shelf shelf.new) facts.now.file + faults_in (source_in H.Src.source result.0) }
+    ensures told { (H.shelf shelf.new).told ≡ (H.shelf shelf.old).told }
+    ensures count { count_on (H.shelf shelf.old) facts.now.file ≤ count_on (H.shelf shelf.new) facts.now.file }
+    ensures other_counts { (other : List ℕ) → other ≢ facts.now.file → count_on (H.shelf shelf.new) other ≡ count_on (H.shelf shelf.old) other }
+    ensures stay_listed { (other : List ℕ) → IsListed (H.shelf shelf.old) other → IsListed (H.shelf shelf.new) other }
+{
+    match stage {
+        Stage::Closed => match shelf.fetch(alloc, &facts.file) {
+            Ok(source) => begin(alloc, source, facts, at),
+            Err(ShelfFault::Absent) => (Stage::Closed, Ok(Found::Absent)),
+            Err(ShelfFault::Failed) => (Stage::Closed, Err(ReaderFault::Failed)),
+            Err(ShelfFault::OutOfMemory) => (Stage::Closed, Err(ReaderFault::OutOfMemory)),
+        },
+        Stage::Fetched { source } => begin(alloc, source, facts, at),
+        Stage::Reading { reader } => read_on(reader),
+    }
+}
+
+// Looks for the offset in a source that wasn't read.
+fn begin<S: Source>(
+    alloc: Global,
+    source: S,
+    facts: &FeedFacts,
+    at: u64,
+) -> (Stage<S>, Result<Found, ReaderFault>)
+    requires near { at ≤ last_number }
+    requires some { 1 ≤ facts.now.chunk_size }
+    requires chunk { facts.now.chunk_size ≤ longest_line }
+    ensures found { (feed : List ℕ) → (S.source source).told ≡ Some feed → IfOk result.1 (λ what. what ≡ found_at (rule_of facts.now) (Some feed) at) }
+    ensures ahead { IfOk result.1 (IsAhead at) }
+    ensures there { IfOk result.1 IsThere }
+    ensures open { IsOpenOf (S.source source) (source_in S.source result.0) }
+    ensures within { (feed : List ℕ) → (S.source source).told ≡ Some feed → IsReadWithin feed (read_in result.0) }
+    ensures rule { HasRule facts.now result.0 }
+    ensures read { MatchResult result.1 (IsReadOn at (read_in result.0)) (λ _. IfSome (read_in result.0) (λ read. read ≡ at)) }
+    ensures failed { IsErrOf result.1 ReaderFault.Failed → Rose (S.source source).faults (faults_in (source_in S.source result.0)) }
+{
+    let mut source = source;
+    match begin_at(alloc, &mut source, rule_of(facts), at) {
+        Ok(Beginning::Cutter { cutter }) => read_on(FeedReader::new(alloc, source, cutter)),
+        Ok(Beginning::End) => (Stage::Fetched { source }, Ok(Found::End)),
+        Ok(Beginning::Short { have }) => (Stage::Fetched { source }, Ok(Found::Short { have })),
+        Ok(Beginning::LongHeader) => (Stage::Fetched { source }, Ok(Found::LongLine { at: 0 })),
+        Err(fault) => (Stage::Fetched { source }, Err(fault)),
+    }
+}
+
+fn rule_of(facts: &FeedFacts) -> CutRule
+    ensures { result ≡ rule_of facts.now }
+{
+    CutRule {
+        chunk_size: facts.chunk_size,
+        replicate: facts.replicate,
+    }
+}
+
+// What comes next in a feed.
+fn read_on<S: Source>(reader: FeedReader<S>) -> (Stage<S>, Result<Found, ReaderFault>)
+    requires near { reader.at ≤ last_number }
+    ensures found { (feed : List ℕ) → reader.source.told ≡ Some feed → IfOk result.1 (λ what. what ≡ within_limit (next reader.rule feed reader.at)) }
+    ensures ahead { IfOk result.1 (IsAhead reader.at) }
+    ensures there { IfOk result.1 IsThere }
+    ensures open { IsOpenOf reader.source (source_in S.source result.0) }
+    ensures within { (feed : List ℕ) → reader.source.told ≡ Some feed → reader.at ≤ length feed → IsReadWithin feed (read_in result.0) }
+    ensures rule { (facts : FeedFacts) → reader.rule ≡ rule_of facts → HasRule facts result.0 }
+    ensures read { MatchResult result.1 (IsReadOn reader.at (read_in result.0)) (λ _. IfSome (read_in result.0) (λ read. read ≡ reader.at)) }
+    ensures failed { IsErrOf result.1 ReaderFault.Failed → Rose reader.source.faults (faults_in (source_in S.source result.0)) }
+{
+    let mut reader = reader;
+    let found = match reader.next_piece() {
+        Ok(Ahead::Piece { cut }) => Ok(within_limit(cut)),
+        Ok(Ahead::End) => Ok(Found::End),
+        Ok(Ahead::LongLine { at }) => Ok(Found::LongLine { at }),
+        Err(fault) => Err(fault),
+    };
+    (Stage::Reading { reader }, found)
+}
+
+// A piece, where it ends within the longest feed.
+fn within_limit(cut: Cut) -> Found
+    ensures found { result ≡ within_limit (Piece cut) }
+    ensures ahead { (at : ℕ) → at < cut.upto → IsAhead at result }
+{
+    are_bytes(cut.piece.bytes());
+    if cut.upto > LONGEST_FEED {
+        Found::LongFeed
+    } else {
+        Found::Piece { cut }
+    }
+}
+
+// What is read is bytes, which the prover knows of a slice alone.
+fn are_bytes(bytes: &[u8])
+    ensures { AreBytes bytes.now }
+{
+    let _len = bytes.len();
+}

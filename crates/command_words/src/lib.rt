@@ -1,0 +1,10 @@
+//! What the words of a command line ask for.
+#![tactic(auto)]
+
+mod command;
+mod pairs;
+mod value;
+mod words;
+
+pub use command::{Ask, Command};
+pub use words::command_of;

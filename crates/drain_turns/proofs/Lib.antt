@@ -1,0 +1,6 @@
+mod Moving
+mod Nobody
+mod One
+mod OneDrain
+mod Turning
+mod Working

@@ -1,0 +1,6 @@
+-- what public contracts cite
+pub mod Drained
+pub mod Laws
+pub mod Moves
+pub mod Turn
+pub mod Works

@@ -1,0 +1,27 @@
+ghost use Rattle.drain_turns.specs.Laws.{NobodyOnlyIfHalted, OneDrain, OneStep, OneTurn, SomeStep};
+
+/// A turn that has a step has one that may be taken, at whatever moment the clock shows.
+pub fn some_step()
+    ensures { SomeStep }
+{}
+
+/// A turn has no two steps that may be taken at one moment.
+pub fn one_step()
+    ensures { OneStep }
+{}
+
+/// Where the shelf tells what it has, no two turns come next.
+pub fn one_turn()
+    ensures { OneTurn }
+{}
+
+/// Where something is left to do and it is nobody's turn, a bot is halted.
+pub fn nobody_only_if_halted()
+    ensures { NobodyOnlyIfHalted }
+{}
+
+/// Where the shelf tells what it has and the clock its moment, a call that nothing fails makes the same steps and ends in the
+/// same way.
+pub fn one_drain()
+    ensures { OneDrain }
+{}

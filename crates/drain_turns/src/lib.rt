@@ -1,0 +1,14 @@
+//! One thread's turns: whose turn it is, what it comes to, and the loop that goes on until nothing is left to do.
+#![tactic(auto)]
+
+mod end;
+mod laws;
+mod moves;
+mod turn;
+mod works;
+
+pub use end::TurnsEnd;
+pub use laws::{nobody_only_if_halted, one_drain, one_step, one_turn, some_step};
+pub use moves::{actor_move, found_move};
+pub use turn::Turn;
+pub use works::Ready;

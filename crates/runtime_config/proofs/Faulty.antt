@@ -1,0 +1,106 @@
+-- The first fault of several.
+use Rattle.std.proofs.Common.{◌≡◌, ℕ, List, Bool, true, false, not, OnOk, if◌then◌else◌, Option, Some, None, Result, Ok, Err, option_map, refl, sym, ap, subst, ◌∙◌}
+use Rattle.std.specs.Option.{option_or}
+use Rattle.serde_json.specs.Data.{Members}
+use Rattle.config_bundle.specs.declared.bundle.Bundle.{Bundle}
+use Rattle.runtime_config.specs.Faults.{bad_names, cycle_fault, fault_of, file_fault, limit_fault, missing_names, module_fault, queue_fault, table_fault, Place}
+use Rattle.event_model.specs.Lenient.{least}
+use Rattle.runtime_config.specs.Found.{IsFault, IsFound, IsPlannedAs}
+use Rattle.runtime_config.specs.Load.{planned}
+use Rattle.runtime_config.specs.Runtime.{is_prefix, module_of, Entry}
+use Rattle.runtime_config.specs.declared.fault.LoadFault.{LoadFault}
+use Rattle.runtime_config.specs.declared.fault.LoadFault.TheVariants as fault
+use Rattle.event_model.specs.Fields.{FieldMap}
+use Rattle.runtime_config.specs.declared.plan.Module.TheVariants as as_module
+use Rattle.runtime_config.specs.declared.plan.Planned.{Planned}
+use Rattle.runtime_config.specs.declared.plan.Route.{Route}
+
+abbrev Found : Type 0
+Found = Option LoadFault
+
+moved : (e : LoadFault) (o p : Found) → (o ≡ Some e → p ≡ Some e) → IsFault o e → IsFault p e
+moved fault.Json o p goes is = goes is
+moved (fault.Module bot) o p goes is = goes is
+moved (fault.Parameter bot name) o p goes is = goes is
+moved (fault.Missing bot name) o p goes is = goes is
+moved (fault.File bot) o p goes is = goes is
+moved (fault.Cycle bot) o p goes is = goes is
+moved (fault.Limit bot) o p goes is = goes is
+moved (fault.Queue bot) o p goes is = goes is
+moved (fault.Table bot line) o p goes is = goes is
+moved fault.OutOfMemory o p goes is = tt
+
+pub first_fault_is : (o rest : Found) (e : LoadFault) → IsFault o e → IsFault (option_or o rest) e
+first_fault_is o rest e is = moved e o (option_or o rest) (λ same. ap (λ p. option_or p rest) same) is
+
+pub same_fault : (o p : Found) (e : LoadFault) → o ≡ p → IsFault o e → IsFault p e
+same_fault o p e same is = moved e o p (λ h. sym same ∙ h) is
+
+pub later_found : {A : Type 0} (o rest : Found) (r : Result A LoadFault) → o ≡ None → IsFound rest r → IsFound (option_or o rest) r
+later_found o rest r none is = subst (λ (p : Found). IsFound (option_or p rest) r) (sym none) is
+
+pub later_planned : (o rest : Found) (q : Planned) (r : Result Planned LoadFault) → o ≡ None → IsPlannedAs rest q r → IsPlannedAs (option_or o rest) q r
+later_planned o rest q r none is = subst (λ (p : Found). IsPlannedAs (option_or p rest) q r) (sym none) is
+
+pub same_planned : (o p : Found) (q : Planned) (r : Result Planned LoadFault) → o ≡ p → IsPlannedAs o q r → IsPlannedAs p q r
+same_planned o p q r same is = subst (λ (x : Found). IsPlannedAs x q r) same is
+
+pub or_none : (o : Found) → option_or o None ≡ o
+or_none None = refl
+or_none (Some e) = refl
+
+pub four_first : (a b c d rest : Found) → option_or (option_or a (option_or b (option_or c d))) rest ≡ option_or a (option_or b (option_or c (option_or d rest)))
+four_first (Some e) b c d rest = refl
+four_first None (Some e) c d rest = refl
+four_first None None (Some e) d rest = refl
+four_first None None None d rest = refl
+
+-- a bot whose module reads no table has no fault in one
+pub no_table : (bundle : Bundle) (global : Members) (bot : Entry) → is_prefix (module_of bot) ≡ false → table_fault bundle global bot ≡ None
+no_table bundle global bot is = rw is refl
+
+pub planned_is : (bundle : Bundle) (global : Members) (bot : Entry) (p : Planned) → p.bot ≡ (planned bundle global bot).bot → p.«module» ≡ (planned bundle global bot).«module» → p.instances ≡ (planned bundle global bot).instances
+    → p.retries ≡ (planned bundle global bot).retries → p.delay ≡ (planned bundle global bot).delay → p.stop ≡ (planned bundle global bot).stop → p.paths ≡ (planned bundle global bot).paths → p ≡ planned bundle global bot
+planned_is bundle global bot p b m i r d s ps = λ t. record { bot = b t; «module» = m t; instances = i t; retries = r t; delay = d t; stop = s t; paths = ps t }
+
+-- ---- the faults of queues, limits and cycles
+
+abbrev when : Bool → LoadFault → Found
+when b e = if b then Some e else None
+
+pub there : (b : Bool) (e f : LoadFault) (rest : Found) → b ≡ true → f ≡ e → option_or (when b e) rest ≡ Some f
+there true e f rest is same = ap Some (sym same)
+there false e f rest is same = absurd (cc)
+
+pub absent : (b : Bool) (e : LoadFault) → b ≡ false → when b e ≡ None
+absent true e is = absurd (cc)
+absent false e is = refl
+
+pub paths_known : (b : Bool) (ps qs : List Route) → Some ps ≡ (if b then Some qs else None) → (not b ≡ false) × (ps ≡ qs)
+paths_known true ps qs is = (refl, cc)
+paths_known false ps qs is = absurd (cc)
+
+pub paths_unknown : (b : Bool) (qs : List Route) → None ≡ (if b then Some qs else None) → not b ≡ true
+paths_unknown true qs is = absurd (cc)
+paths_unknown false qs is = refl
+
+pub on_ok : {A : Type 0} (r : Result A LoadFault) (P : Type 0) → P → OnOk r P
+on_ok (Ok _) P p = p
+on_ok (Err _) P p = tt
+
+-- ---- all rules
+
+pub fault_split : (p : Place) → option_or (option_or (module_fault p.bot) (option_or (option_map (fault.Parameter p.bot.0) (least (bad_names p.runtime.global p.bot)))
+    (option_or (option_map (fault.Missing p.bot.0) (least (missing_names p.runtime.global p.bot))) (file_fault p.bundle p.runtime.global p.bot))))
+    (option_or (cycle_fault p.runtime.bots p.bot) (option_or (limit_fault p.bundle p.runtime.global p.before p.bot) (option_or (queue_fault p.runtime.bots p.bot) (table_fault p.bundle p.runtime.global p.bot)))) ≡ fault_of p
+unfolding fault_of
+fault_split p =
+    four_first (module_fault p.bot) (option_map (fault.Parameter p.bot.0) (least (bad_names p.runtime.global p.bot))) (option_map (fault.Missing p.bot.0) (least (missing_names p.runtime.global p.bot)))
+    (file_fault p.bundle p.runtime.global p.bot) _
+    ∙ ap (λ o. option_or (module_fault p.bot) (option_or (option_map (fault.Parameter p.bot.0) (least (bad_names p.runtime.global p.bot)))
+    (option_or (option_map (fault.Missing p.bot.0) (least (missing_names p.runtime.global p.bot))) (option_or (file_fault p.bundle p.runtime.global p.bot)
+    (option_or (cycle_fault p.runtime.bots p.bot) (option_or (limit_fault p.bundle p.runtime.global p.before p.bot) (option_or (queue_fault p.runtime.bots p.bot) o)))))))
+    (sym (or_none (table_fault p.bundle p.runtime.global p.bot)))
+
+pub csv_is : (a1 b1 : List (List (List ℕ))) (a2 b2 : ℕ) (a3 b3 : Bool) (a4 b4 : FieldMap) (a5 b5 : Bool) → a1 ≡ b1 → a2 ≡ b2 → a3 ≡ b3 → a4 ≡ b4 → a5 ≡ b5 → as_module.Csv a1 a2 a3 a4 a5 ≡ as_module.Csv b1 b2 b3 b4 b5
+csv_is a1 b1 a2 b2 a3 b3 a4 b4 a5 b5 p1 p2 p3 p4 p5 = λ t. as_module.Csv (p1 t) (p2 t) (p3 t) (p4 t) (p5 t)

@@ -1,0 +1,15 @@
+pub mod Adding
+pub mod Bots
+pub mod Bounds
+pub mod Cells
+pub mod Faulty
+pub mod Lists
+pub mod Loads
+pub mod Marks
+pub mod Names
+pub mod Numbers
+pub mod Owners
+pub mod Reached
+pub mod Searches
+pub mod Tables
+pub mod Ways

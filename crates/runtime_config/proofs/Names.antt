@@ -1,0 +1,87 @@
+-- Names, one after the other.
+use Rattle.std.proofs.Common.{◌≡◌, ℕ, ◌+◌, ◌<◌, suc, List, [], ◌∷◌, ◌++◌, Bool, true, false, Option, Some, None, length, get_or, drop, map, filter, if◌then◌else◌, refl, sym, ap, ◌∙◌, append_assoc, add-one, drop-cons}
+use Rattle.std.specs.Option.{option_or}
+use Rattle.std.specs.Str.{bytes_eq}
+use Rattle.std.proofs.lemmas.List.{map-append}
+use Rattle.std.proofs.lemmas.List.Elements.{filter-append}
+use Rattle.event_model.specs.Lenient.{least, lesser}
+use Rattle.runtime_config.specs.Faults.{name_when}
+use Rattle.runtime_config.specs.Parameters.{Parameter}
+use Rattle.runtime_config.specs.Rows.{parameter_of}
+use Rattle.runtime_config.specs.Runtime.{parameter_named}
+use Rattle.runtime_config.specs.declared.parameter.Parameter.{Parameter as Row}
+
+-- ---- the least
+
+-- the least of these names and of another one
+abbrev pub least_onto : List (List ℕ) → Option (List ℕ) → Option (List ℕ)
+least_onto [] first = first
+least_onto (x ∷ xs) first = Some (lesser x (least_onto xs first))
+
+least_is : (xs : List (List ℕ)) → least_onto xs None ≡ least xs
+least_is [] = refl
+least_is (x ∷ xs) = ap (λ o. Some (lesser x o)) (least_is xs)
+
+onto_last : (xs : List (List ℕ)) (x : List ℕ) (first : Option (List ℕ)) → least_onto (xs ++ x ∷ []) first ≡ least_onto xs (Some (lesser x first))
+onto_last [] x first = refl
+onto_last (y ∷ ys) x first = ap (λ o. Some (lesser y o)) (onto_last ys x first)
+
+pub one_taken : (all : Option (List ℕ)) (old new : List (List ℕ)) (x : List ℕ) (first : Option (List ℕ)) → all ≡ least_onto old first → old ≡ new ++ x ∷ [] → all ≡ least_onto new (Some (lesser x first))
+one_taken all old new x first so_far split = so_far ∙ ap (λ xs. least_onto xs first) split ∙ onto_last new x first
+
+pub all_taken : (names old : List (List ℕ)) (first : Option (List ℕ)) → least_onto names None ≡ least_onto old first → old ≡ [] → first ≡ least names
+all_taken names old first so_far none = sym (ap (λ xs. least_onto xs first) none) ∙ sym so_far ∙ least_is names
+
+-- ---- parameters by their names
+
+named_after : (b : Bool) (q : Parameter) (xs ys : Option Parameter) → (if b then Some q else option_or xs ys) ≡ option_or (if b then Some q else xs) ys
+named_after true q xs ys = refl
+named_after false q xs ys = refl
+
+pub named_append : (name : List ℕ) (qs rs : List Parameter) → parameter_named name (qs ++ rs) ≡ option_or (parameter_named name qs) (parameter_named name rs)
+named_append name [] rs = refl
+named_append name (q ∷ qs) rs =
+    ap (λ o. if bytes_eq q.name name then Some q else o) (named_append name qs rs)
+    ∙ named_after (bytes_eq q.name name) q (parameter_named name qs) (parameter_named name rs)
+
+pub named_first : (name : List ℕ) (qs rs all : List Parameter) (x : Parameter) → Some x ≡ parameter_named name qs → qs ++ rs ≡ all → Some x ≡ parameter_named name all
+named_first name qs rs all x is whole = ap (λ o. option_or o (parameter_named name rs)) is ∙ sym (named_append name qs rs) ∙ ap (parameter_named name) whole
+
+pub named_second : (name : List ℕ) (qs rs all : List Parameter) (found : Option Parameter) → None ≡ parameter_named name qs → found ≡ parameter_named name rs → qs ++ rs ≡ all → found ≡ parameter_named name all
+named_second name qs rs all found none is whole =
+    is ∙ ap (λ o. option_or o (parameter_named name rs)) none ∙ sym (named_append name qs rs) ∙ ap (parameter_named name) whole
+
+-- ---- names that are put behind others
+
+when_more : (b : Bool) (q : Parameter) (qs : List Parameter) → map (λ (p : Parameter). p.name) (if b then q ∷ qs else qs) ≡ name_when b q.name ++ map (λ (p : Parameter). p.name) qs
+when_more true q qs = refl
+when_more false q qs = refl
+
+rows_from : (is : Parameter → Bool) (rows : List Row) (i : ℕ) (row : Row) → i < length rows → row ≡ get_or rows i row
+    → map (λ (p : Parameter). p.name) (filter is (map parameter_of (drop i rows))) ≡ name_when (is (parameter_of row)) (parameter_of row).name ++ map (λ (p : Parameter). p.name) (filter is (map parameter_of (drop (i + 1) rows)))
+rows_from is rows i row within read =
+    ap (λ rs. map (λ (p : Parameter). p.name) (filter is (map parameter_of rs))) (drop-cons rows i row within ∙ ap (λ (r : Row). r ∷ drop (suc i) rows) (sym read) ∙ ap (λ n. row ∷ drop n rows) (sym (add-one i)))
+    ∙ when_more (is (parameter_of row)) (parameter_of row) (filter is (map parameter_of (drop (i + 1) rows)))
+
+-- a parameter's name is put where it passes
+pub row_pushed : (is : Parameter → Bool) (rows : List Row) (i : ℕ) (row : Row) (b : Bool) (all old new : List (List ℕ)) → i < length rows → row ≡ get_or rows i row → b ≡ is (parameter_of row)
+    → old ++ map (λ (p : Parameter). p.name) (filter is (map parameter_of (drop i rows))) ≡ all → new ≡ old ++ name_when b (parameter_of row).name
+    → new ++ map (λ (p : Parameter). p.name) (filter is (map parameter_of (drop (i + 1) rows))) ≡ all
+row_pushed is rows i row b all old new within read test so_far pushed =
+    let rest = map (λ (p : Parameter). p.name) (filter is (map parameter_of (drop (i + 1) rows))) in
+    ap (λ (t : List (List ℕ)). t ++ rest) (pushed ∙ ap (λ t. old ++ name_when t (parameter_of row).name) test)
+    ∙ append_assoc old (name_when (is (parameter_of row)) (parameter_of row).name) rest
+    ∙ ap (λ (t : List (List ℕ)). old ++ t) (sym (rows_from is rows i row within read)) ∙ so_far
+
+-- two lists of parameters and the members
+pub three_pushed : (is : Parameter → Bool) (shared own : List Row) (members first second third : List (List ℕ)) (all : List Parameter)
+    → map parameter_of shared ++ map parameter_of own ≡ all
+    → first ≡ map (λ (p : Parameter). p.name) (filter is (map parameter_of shared))
+    → second ≡ first ++ map (λ (p : Parameter). p.name) (filter is (map parameter_of own))
+    → third ≡ second ++ members → third ≡ map (λ (p : Parameter). p.name) (filter is all) ++ members
+three_pushed is shared own members first second third all whole one two three =
+    three ∙ ap (λ (t : List (List ℕ)). t ++ members)
+    (two ∙ ap (λ (t : List (List ℕ)). t ++ map (λ (p : Parameter). p.name) (filter is (map parameter_of own))) one
+    ∙ sym (map-append (λ (p : Parameter). p.name) (filter is (map parameter_of shared)) (filter is (map parameter_of own)))
+    ∙ ap (map (λ (p : Parameter). p.name)) (sym (filter-append is (map parameter_of shared) (map parameter_of own)))
+    ∙ ap (λ qs. map (λ (p : Parameter). p.name) (filter is qs)) whole)

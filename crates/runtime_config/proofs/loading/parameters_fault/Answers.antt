@@ -1,0 +1,8 @@
+use Rattle.runtime_config.proofs.Faulty.{first_fault_is, later_found}
+use Rattle.runtime_config.proofs.loading.parameters_fault.Goals as goal
+
+pub returns-in-Ok : goal.returns-in-Ok
+returns-in-Ok c = later_found _ _ c.members_fault.result c.in-Ok.ensures c.members_fault.ensures
+
+pub returns-in-Err : goal.returns-in-Err
+returns-in-Err c = first_fault_is _ _ c.in-Err.fault c.in-Err.ensures

@@ -1,0 +1,10 @@
+use Rattle.std.proofs.Common.{arith}
+use Rattle.runtime_config.proofs.Bounds.{small_chunk}
+use Rattle.runtime_config.specs.Read.{entry_of, members_of}
+use Rattle.runtime_config.proofs.planning.chunk_size.Goals as goal
+
+pub small-requires : goal.small-requires
+small-requires c =
+    let most = small_chunk (members_of c.args.global.now) (entry_of c.args.bot.now) in
+    let same = c.in_ok-bytes.ensures in
+    omega (arith, most, same)

@@ -1,0 +1,38 @@
+use Rattle.std.proofs.Common.{Some, ap, sym, ◌∙◌}
+use Rattle.runtime_config.proofs.Faulty.{no_table}
+use Rattle.runtime_config.specs.Load.{module_as}
+use Rattle.runtime_config.specs.Read.{entry_of, members_of}
+use Rattle.runtime_config.specs.Runtime.{is_prefix}
+use Rattle.runtime_config.proofs.planning.module_of.Goals as goal
+
+pub returns-in_ok-collector-in-Some-Collector : goal.returns-in_ok-collector-in-Some-Collector
+returns-in_ok-collector-in-Some-Collector c =
+    let bundle = c.args.bundle.now in
+    let global = members_of c.args.global.now in
+    let bot = entry_of c.args.bot.now in
+    let word = sym c.in-Some-Collector.ensures ∙ ap Some c.in-Some-Collector.field-0-is in
+    (no_table bundle global bot (ap is_prefix word), c.in_ok-collector-in-Some-Collector.ensures bundle ∙ ap (module_as bundle global bot) (sym word))
+
+pub returns-in_ok-csv-in-Some-Csv : goal.returns-in_ok-csv-in-Some-Csv
+returns-in_ok-csv-in-Some-Csv c =
+    let bundle = c.args.bundle.now in
+    let global = members_of c.args.global.now in
+    let bot = entry_of c.args.bot.now in
+    let word = sym c.in-Some-Csv.ensures ∙ ap Some c.in-Some-Csv.field-0-is in
+    (no_table bundle global bot (ap is_prefix word), c.in_ok-csv-in-Some-Csv.ensures bundle ∙ ap (module_as bundle global bot) (sym word))
+
+pub returns-in_ok-json-in-Some-Json : goal.returns-in_ok-json-in-Some-Json
+returns-in_ok-json-in-Some-Json c =
+    let bundle = c.args.bundle.now in
+    let global = members_of c.args.global.now in
+    let bot = entry_of c.args.bot.now in
+    let word = sym c.in-Some-Json.ensures ∙ ap Some c.in-Some-Json.field-0-is in
+    (no_table bundle global bot (ap is_prefix word), c.in_ok-json-in-Some-Json.ensures bundle ∙ ap (module_as bundle global bot) (sym word))
+
+pub returns-in_ok-dedup-in-Some-Dedup : goal.returns-in_ok-dedup-in-Some-Dedup
+returns-in_ok-dedup-in-Some-Dedup c =
+    let bundle = c.args.bundle.now in
+    let global = members_of c.args.global.now in
+    let bot = entry_of c.args.bot.now in
+    let word = sym c.in-Some-Dedup.ensures ∙ ap Some c.in-Some-Dedup.field-0-is in
+    (no_table bundle global bot (ap is_prefix word), c.in_ok-dedup-in-Some-Dedup.ensures bundle ∙ ap (module_as bundle global bot) (sym word))

@@ -1,0 +1,251 @@
+-- What is wrong with a bot of a bundle: a list of rules, the first of which that finds a fault counts.
+use Rattle.std.specs.Prelude.{◌*◌, ◌+◌, ℕ, List, [], ◌∷◌, ◌++◌, ◌&&◌, ◌||◌, Bool, false, not, nat_le, nat_lt, length, map, filter, filter_map, sum_by, codes, is_some, is_none, Option, Some, None, option_map, option_and_then, unwrap_or, Result, Ok, Err, if◌then◌else◌}
+use Rattle.std.specs.List.{list_all, list_any}
+use Rattle.std.specs.Option.{option_or}
+use Rattle.std.specs.Str.{bytes_eq}
+use Rattle.serde_json.specs.Data.{Data, Members}
+use Rattle.serde_json.specs.Find.{as_bool, get_member}
+use Rattle.event_model.specs.Lenient.{least}
+use Rattle.config_bundle.specs.declared.bundle.Bundle.{Bundle}
+use Rattle.runtime_config.specs.Parameters.{Parameter}
+use Rattle.runtime_config.specs.Reaches.{is_queue_of, reaches, targets}
+use Rattle.runtime_config.specs.Runtime.{given, is_output, is_prefix, line_in, lines_in, module_key, module_of, object_of, parameters, routes, routes_key, routes_of_value, set_as, setting, whole_in, Entry, Route, Runtime}
+use Rattle.runtime_config.specs.Table.{row_count, table_in}
+use Rattle.runtime_config.specs.declared.fault.LoadFault.{LoadFault}
+use Rattle.runtime_config.specs.declared.fault.LoadFault.TheVariants as fault
+use Rattle.runtime_config.specs.declared.table.Table.{Table}
+
+-- one bot of a bundle, as loading looks at it
+pub record Place : Type 0 where
+  pub bundle : Bundle
+  pub runtime : Runtime
+  pub before : List Entry
+  pub bot : Entry
+
+abbrev pub fault_when : Bool → LoadFault → Option LoadFault
+fault_when test fault = if test then Some fault else None
+
+abbrev pub name_when : Bool → List ℕ → List (List ℕ)
+name_when test name = if test then name ∷ [] else []
+
+-- ---- the module and the parameters
+
+-- `module` is there and is none of the words
+abbrev pub module_fault : Entry → Option LoadFault
+module_fault bot = fault_when (is_some (get_member module_key bot.1) && is_none (module_of bot)) (fault.Module bot.0)
+
+abbrev pub unknown_module : Place → Option LoadFault
+unknown_module p = module_fault p.bot
+
+-- a parameter that is given a value of another form
+abbrev pub is_bad : Members → Entry → Parameter → Bool
+is_bad global bot q = is_some (given global bot q.name) && is_none (setting global bot q)
+
+-- the value under a name is there and doesn't pass
+abbrev pub is_given_badly : (Data → Bool) → Option Data → Bool
+is_given_badly passes None = false
+is_given_badly passes (Some d) = not (passes d)
+
+abbrev pub parameters_key : List ℕ
+parameters_key = codes "parameters"
+
+abbrev pub enabled_key : List ℕ
+enabled_key = codes "enabled"
+
+abbrev pub is_true : Data → Bool
+is_true d = unwrap_or (as_bool d) false
+
+-- `parameters` that is no object, `destination_queues` that is no object of lists of texts, `enabled` that isn't true
+abbrev pub bad_members : Entry → List (List ℕ)
+bad_members bot =
+    name_when (is_given_badly (λ d. is_some (object_of d)) (get_member parameters_key bot.1)) parameters_key
+    ++ name_when (is_given_badly (λ d. is_some (routes_of_value d)) (get_member routes_key bot.1)) routes_key
+    ++ name_when (is_given_badly is_true (get_member enabled_key bot.1)) enabled_key
+
+-- these, and the bad parameters
+abbrev pub bad_names : Members → Entry → List (List ℕ)
+bad_names global bot = map (λ q. q.name) (filter (is_bad global bot) (parameters bot)) ++ bad_members bot
+
+-- The least of them in byte order.
+abbrev pub bad_parameter : Place → Option LoadFault
+bad_parameter p = option_map (fault.Parameter p.bot.0) (least (bad_names p.runtime.global p.bot))
+
+-- a parameter that must be given and is given nowhere
+abbrev pub is_missing : Members → Entry → Parameter → Bool
+is_missing global bot q = is_none q.otherwise && is_none (given global bot q.name)
+
+abbrev pub default_path : List ℕ
+default_path = codes "_default"
+
+-- the bot has the path
+abbrev pub has_path : List ℕ → List Route → Bool
+has_path path routes = list_any (λ r. bytes_eq r.0 path) routes
+
+-- an absent `module`; and, of every bot but an output, an absent path `_default`
+abbrev pub missing_members : Entry → List (List ℕ)
+missing_members bot =
+    name_when (is_none (get_member module_key bot.1)) module_key
+    ++ name_when (not (has_path default_path (routes bot)) && not (is_output (module_of bot))) default_path
+
+-- these, and the missing parameters
+abbrev pub missing_names : Members → Entry → List (List ℕ)
+missing_names global bot = map (λ q. q.name) (filter (is_missing global bot) (parameters bot)) ++ missing_members bot
+
+-- The least of them in byte order.
+abbrev pub missing_member : Place → Option LoadFault
+missing_member p = option_map (fault.Missing p.bot.0) (least (missing_names p.runtime.global p.bot))
+
+-- ---- files
+
+-- the name of the bundle's file that the bot's module reads
+abbrev pub file_of : Members → Entry → Option (List ℕ)
+file_of global bot = if is_prefix (module_of bot) then line_in (set_as global bot (codes "file")) else None
+
+-- the bytes of the first file of a name
+abbrev pub content_of : List (List ℕ × List ℕ) → List ℕ → Option (List ℕ)
+content_of [] name = None
+content_of (f ∷ fs) name = if bytes_eq f.0 name then Some f.1 else content_of fs name
+
+-- the bytes of the bot's file
+abbrev pub content : Bundle → Members → Entry → Option (List ℕ)
+content bundle global bot = option_and_then (content_of bundle.files) (file_of global bot)
+
+-- the bundle has no file of the name that the bot gives
+abbrev pub file_fault : Bundle → Members → Entry → Option LoadFault
+file_fault bundle global bot = fault_when (is_some (file_of global bot) && is_none (content bundle global bot)) (fault.File bot.0)
+
+abbrev pub absent_file : Place → Option LoadFault
+absent_file p = file_fault p.bundle p.runtime.global p.bot
+
+-- ---- paths and queues
+
+-- the bot is reached from itself
+abbrev pub cycle_fault : List Entry → Entry → Option LoadFault
+cycle_fault bots bot = fault_when (reaches bots bot bot) (fault.Cycle bot.0)
+
+abbrev pub on_cycle : Place → Option LoadFault
+on_cycle p = cycle_fault p.runtime.bots p.bot
+
+-- the queue is that of one of the bots, which is no collector
+abbrev pub is_known : List Entry → List ℕ → Bool
+is_known bots queue = list_any (is_queue_of queue) bots
+
+-- a destination isn't the queue of a bot of the bundle that is no collector
+abbrev pub queue_fault : List Entry → Entry → Option LoadFault
+queue_fault bots bot = fault_when (not (list_all (is_known bots) (targets bot))) (fault.Queue bot.0)
+
+abbrev pub unknown_queue : Place → Option LoadFault
+unknown_queue p = queue_fault p.runtime.bots p.bot
+
+-- ---- limits
+
+abbrev pub most_bots : ℕ
+most_bots = 64
+
+abbrev pub most_instances : ℕ
+most_instances = 128
+
+abbrev pub most_rows_in_all : ℕ
+most_rows_in_all = 1000000
+
+abbrev pub most_rows : ℕ
+most_rows = 100000
+
+abbrev pub longest_bundle : ℕ
+longest_bundle = 16777216
+
+abbrev pub longest_file : ℕ
+longest_file = 4194304
+
+abbrev pub most_routes : ℕ
+most_routes = 32
+
+abbrev pub most_queues : ℕ
+most_queues = 16
+
+abbrev pub most_columns : ℕ
+most_columns = 256
+
+abbrev pub instances : Members → Entry → ℕ
+instances global bot = whole_in (set_as global bot (codes "instances_threads"))
+
+-- the rows of a prefix expert's table
+abbrev pub rows : Bundle → Members → Entry → ℕ
+rows bundle global bot = unwrap_or (option_map row_count (content bundle global bot)) 0
+
+-- those of all its instances
+abbrev pub rows_in_all : Bundle → Members → Entry → ℕ
+rows_in_all bundle global bot = rows bundle global bot * instances global bot
+
+-- names, each once
+abbrev pub distinct : List (List ℕ) → List (List ℕ)
+distinct [] = []
+distinct (x ∷ xs) = if list_any (bytes_eq x) xs then distinct xs else x ∷ distinct xs
+
+-- the length of the file of a name
+abbrev pub file_length : Bundle → List ℕ → ℕ
+file_length bundle name = length (unwrap_or (content_of bundle.files name) [])
+
+-- the bytes of the runtime text and of the files that these bots name, each once
+abbrev pub bytes_of : Bundle → Members → List Entry → ℕ
+bytes_of bundle global bots = length bundle.runtime + sum_by (file_length bundle) (distinct (filter_map (file_of global) bots))
+
+-- a path has 1 to 16 queues
+abbrev pub is_route : Route → Bool
+is_route r = nat_le 1 (length r.1) && nat_le (length r.1) most_queues
+
+-- the bot has too many paths, or a path with no queue or too many; too many columns; too many rows, or a file that is
+-- too long
+abbrev pub passes_own : Bundle → Members → Entry → Bool
+passes_own bundle global bot =
+    nat_lt most_routes (length (routes bot)) || not (list_all is_route (routes bot))
+    || nat_lt most_columns (length (lines_in (set_as global bot (codes "columns"))))
+    || nat_lt most_rows (rows bundle global bot) || nat_lt longest_file (length (unwrap_or (content bundle global bot) []))
+
+-- there are too many of these bots, or of their instances or rows, or their files have too many bytes
+abbrev pub pass_together : Bundle → Members → List Entry → Bool
+pass_together bundle global bots =
+    nat_lt most_bots (length bots) || nat_lt most_instances (sum_by (instances global) bots)
+    || nat_lt most_rows_in_all (sum_by (rows_in_all bundle global) bots) || nat_lt longest_bundle (bytes_of bundle global bots)
+
+-- a number of the bot, or a sum over it and the bots before it, is above its limit
+abbrev pub limit_fault : Bundle → Members → List Entry → Entry → Option LoadFault
+limit_fault bundle global before bot = fault_when (passes_own bundle global bot || pass_together bundle global (before ++ bot ∷ [])) (fault.Limit bot.0)
+
+abbrev pub past_limit : Place → Option LoadFault
+past_limit p = limit_fault p.bundle p.runtime.global p.before p.bot
+
+-- ---- tables
+
+abbrev pub fault_in : Result Table ℕ → Option ℕ
+fault_in (Ok table) = None
+fault_in (Err line) = Some line
+
+-- the prefix file's line, the first such, is no header or row
+abbrev pub table_fault : Bundle → Members → Entry → Option LoadFault
+table_fault bundle global bot = option_map (fault.Table bot.0) (option_and_then (λ bytes. fault_in (table_in bytes)) (content bundle global bot))
+
+abbrev pub bad_row : Place → Option LoadFault
+bad_row p = table_fault p.bundle p.runtime.global p.bot
+
+-- ---- all rules, in their order
+
+abbrev pub rules : List (Place → Option LoadFault)
+rules = unknown_module ∷ bad_parameter ∷ missing_member ∷ absent_file ∷ on_cycle ∷ past_limit ∷ unknown_queue ∷ bad_row ∷ []
+
+abbrev pub first_some : List (Option LoadFault) → Option LoadFault
+first_some [] = None
+first_some (o ∷ os) = option_or o (first_some os)
+
+-- the bot's first fault
+unfoldable pub fault_of : Place → Option LoadFault
+fault_of p = first_some (map (λ rule. rule p) rules)
+
+-- each bot with those before it
+abbrev pub places_from : Bundle → Runtime → List Entry → List Entry → List Place
+places_from bundle rt before [] = []
+places_from bundle rt before (bot ∷ later) = record { bundle = bundle; runtime = rt; before = before; bot = bot } ∷ places_from bundle rt (before ++ bot ∷ []) later
+
+-- the first fault of the first bot that has one, in byte order of the bots
+unfoldable pub first_fault : Bundle → Runtime → Option LoadFault
+first_fault bundle rt = first_some (map fault_of (places_from bundle rt [] rt.bots))

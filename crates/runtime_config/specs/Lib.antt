@@ -1,0 +1,16 @@
+-- what public contracts cite
+pub mod Parameters
+pub mod Runtime
+pub mod Networks
+pub mod Table
+pub mod Reaches
+pub mod Faults
+pub mod Load
+-- what private contracts use
+pub mod Rows
+pub mod Read
+pub mod Wires
+pub mod Sums
+pub mod Paths
+pub mod Whole
+pub mod Found

@@ -1,0 +1,18 @@
+//! Laws of parameters and of paths. Each is a clause of a function that does nothing.
+ghost use Rattle.std.specs.Prelude.{◌≡◌, ◌≤◌, ◌↔◌, ℕ, List, Some, true};
+ghost use Rattle.serde_json.specs.Data.{Data};
+ghost use Rattle.runtime_config.specs.Parameters.{taken_as};
+ghost use Rattle.runtime_config.specs.Reaches.{reaches, Reaches};
+ghost use Rattle.runtime_config.specs.Runtime.{Entry};
+ghost use Rattle.runtime_config.specs.declared.form.Form.TheVariants as form;
+ghost use Rattle.runtime_config.specs.declared.setting.Setting.TheVariants as setting;
+
+/// What is taken as a number is one from the least to the most.
+pub fn numbers_are_within()
+    ensures { (least most n : ℕ) (d : Data) → taken_as (form.Number least most) d ≡ Some (setting.Whole n) → (least ≤ n) × (n ≤ most) }
+{}
+
+/// A bot is reached exactly where the test says so.
+pub fn reaching_is_tested()
+    ensures { (bots : List Entry) (from to : Entry) → (reaches bots from to ≡ true) ↔ Reaches bots to from }
+{}

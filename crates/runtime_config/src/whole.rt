@@ -1,0 +1,12 @@
+use crate::bot::Bot;
+use crate::object::Object;
+use config_bundle::Bundle;
+
+/// What loading looks at: a bundle, the parameters of all bots, the bots, and what each of them sends to.
+#[derive(Drop)]
+pub(crate) struct Whole<'a, 't> {
+    pub(crate) bundle: &'a Bundle,
+    pub(crate) global: &'a Object<'t>,
+    pub(crate) bots: &'a [Bot<'t>],
+    pub(crate) graph: &'a [Vec<usize>],
+}

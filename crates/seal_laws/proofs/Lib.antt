@@ -1,0 +1,3 @@
+mod Acted
+pub mod Histories
+mod Sealed

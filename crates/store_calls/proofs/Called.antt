@@ -1,0 +1,116 @@
+-- How a call on a store goes on from what its disk stood for.
+use Rattle.std.proofs.Common.{◌≡◌, ◌⊎◌, ◌≤◌, ◌+◌, ◌-◌, inl, inr, ℕ, List, [], ◌++◌, length, take, drop, take_all, sym, ap, ap₂, subst, ◌∙◌, arith, append_assoc, length-append}
+use Rattle.std.proofs.Math.Seq.{take-append-add, take-nil, drop-append-add, drop-length}
+use Rattle.std.proofs.lemmas.List.{append-nil}
+use Rattle.edge_traits.specs.Disk.{DiskView, Image, Leaves}
+use Rattle.edge_traits.proofs.Moments.{run_on, widened}
+use Rattle.step_code.specs.declared.base.Base.{Base}
+use Rattle.step_code.specs.declared.step.Step.{Step}
+use Rattle.step_code.specs.History.{replay, Legal}
+use Rattle.step_code.specs.Rules.{Meaning}
+use Rattle.store_image.specs.Stands.{IsSealOf, Stands, StandsFor}
+use Rattle.store_image.proofs.Standing.{replay-append}
+use Rattle.journal_book.specs.Book.{durable_steps, waiting_steps, BookView, IsKept}
+use Rattle.journal_book.specs.Opening.{IsReopened, StandsNow}
+use Rattle.book_runs.specs.GoesOn.{GoesOn}
+use Rattle.book_runs.proofs.Going.{legal-append}
+use Rattle.seal_laws.proofs.Histories.{legal_whole, seals}
+use Rattle.store_calls.specs.Calls.{IsCall, IsOpened}
+
+module _ {D R : Type 0} {disk : D → DiskView} {may_leave : D → ℕ → List ℕ → Type 0} {left_since : D → ℕ → Image → Type 0} {m : Meaning} (first : Base) (steps more made : List Step) (old : D) (opened later : BookView D R)
+    (is : IsOpened disk may_leave left_since m first steps more old opened) (run : GoesOn disk may_leave left_since m opened later made) where
+  abbrev past : List Step
+  past = is.reopened.past
+
+  -- what was read of the history
+  abbrev read : List Step
+  read = steps ++ take is.reopened.count more
+
+  read_is : past ++ opened.steps ≡ read
+  read_is = is.reopened.splits
+
+  kept_now : IsKept disk may_leave m first past later
+  kept_now = run.kept first past is.reopened.kept
+
+  -- the steps that were there are durable, and none of them waits
+  all_durable : durable_steps opened ≡ opened.steps
+  all_durable = ap (λ n. take n opened.steps) is.all ∙ take_all (length opened.steps) opened.steps (omega arith)
+
+  none_waits : waiting_steps opened ≡ []
+  none_waits = ap (λ n. drop n opened.steps) is.all ∙ drop-length opened.steps
+
+  steps_now : later.steps ≡ opened.steps ++ made
+  steps_now = ap (λ (b : BookView D R). b.steps) run.book
+
+  fewer : opened.kept ≤ later.kept
+  fewer = run.durable first past is.reopened.kept
+
+  kept_is : later.kept ≡ length opened.steps + (later.kept - opened.kept)
+  kept_is = omega (arith, fewer, is.all)
+
+  durable_now : durable_steps later ≡ opened.steps ++ take (later.kept - opened.kept) made
+  durable_now = ap₂ take kept_is steps_now ∙ take-append-add opened.steps made (later.kept - opened.kept)
+
+  waiting_now : waiting_steps later ≡ drop (later.kept - opened.kept) made
+  waiting_now = ap₂ drop kept_is steps_now ∙ drop-append-add opened.steps made (later.kept - opened.kept)
+
+  -- ---- at any moment
+
+  run_leaves : Leaves disk left_since opened.disk later.disk (StandsFor m first read made)
+  run_leaves =
+      let there = run.any_moment first past is.reopened.kept in
+      let history : past ++ durable_steps opened ≡ read = ap (λ ss. past ++ ss) all_durable ∙ read_is in
+      let waits : waiting_steps opened ++ made ≡ made = ap (λ ss. ss ++ made) none_waits in
+      subst (λ (h : List Step). Leaves disk left_since opened.disk later.disk (StandsFor m first h made)) history
+      (subst (λ (w : List Step). Leaves disk left_since opened.disk later.disk (StandsFor m first (past ++ durable_steps opened) w)) waits there)
+
+  amid : Leaves disk left_since old later.disk (λ image. StandsFor m first steps more image ⊎ StandsFor m first read made image)
+  amid = run_on (widened (λ image stands. inl stands) is.any_moment) (widened (λ image stands. inr stands) run_leaves)
+
+  -- ---- behind the call
+
+  stands_now : StandsNow disk may_leave m first (read ++ take (later.kept - opened.kept) made) (drop (later.kept - opened.kept) made) later.disk
+  stands_now =
+      let history : past ++ durable_steps later ≡ read ++ take (later.kept - opened.kept) made =
+      ap (λ ss. past ++ ss) durable_now ∙ sym (append_assoc past opened.steps (take (later.kept - opened.kept) made)) ∙ ap (λ ss. ss ++ take (later.kept - opened.kept) made) read_is in
+      record {
+        files = kept_now.files;
+        tells = kept_now.tells;
+        each = λ image left. subst (λ (w : List Step). StandsFor m first (read ++ take (later.kept - opened.kept) made) w image) waiting_now
+            (subst (λ (h : List Step). StandsFor m first h (waiting_steps later) image) history (kept_now.each image left));
+      }
+
+  -- ---- legal
+
+  sealed_state : IsSealOf (replay m first read) opened.state
+  sealed_state =
+      let behind = seals m (replay m first past) opened.base opened.steps is.reopened.kept.seals in
+      subst (λ (s : Base). IsSealOf (replay m first read) s) (sym is.state)
+      (subst (λ (s : Base). IsSealOf s (replay m opened.base opened.steps)) (sym (replay-append m first past opened.steps) ∙ ap (replay m first) read_is) behind)
+
+  legal_now : Legal m first read → Legal m first (read ++ made)
+  legal_now legal = legal-append m first read made legal (legal_whole m (replay m first read) opened.state made sealed_state run.legal)
+
+  pub called : IsCall disk may_leave left_since m first steps more old later.disk made (later.kept - opened.kept)
+  called = record { count = is.reopened.count; within = is.reopened.within; any_moment = amid; now = stands_now; legal = legal_now }
+
+  pub called_durably : later.kept ≡ length later.steps → IsCall disk may_leave left_since m first steps more old later.disk made (length made)
+  called_durably all =
+      let number : later.kept - opened.kept ≡ length made = omega (arith, all, is.all, ap length steps_now, length-append opened.steps made) in
+      subst (λ (n : ℕ). IsCall disk may_leave left_since m first steps more old later.disk made n) number called
+
+-- what was read of a history is one that the disk stood for
+pub stands_read : {D R : Type 0} {disk : D → DiskView} {may_leave : D → ℕ → List ℕ → Type 0} {m : Meaning} (first : Base) (steps more : List Step) (opened : BookView D R) → opened.kept ≡ length opened.steps
+    → IsReopened disk may_leave m first steps more opened → StandsNow disk may_leave m first steps more opened.disk
+stands_read {disk = disk} {may_leave = may_leave} {m = m} first steps more opened all is = record {
+  files = is.kept.files;
+  tells = is.kept.tells;
+  each = λ image left.
+      let here = is.kept.each image left in
+      let durable : durable_steps opened ≡ opened.steps = ap (λ n. take n opened.steps) all ∙ take_all (length opened.steps) opened.steps (omega arith) in
+      let waits : waiting_steps opened ≡ [] = ap (λ n. drop n opened.steps) all ∙ drop-length opened.steps in
+      let none : take here.count (waiting_steps opened) ≡ [] = ap (take here.count) waits ∙ take-nil here.count in
+      let history : (is.past ++ durable_steps opened) ++ take here.count (waiting_steps opened) ≡ steps ++ take is.count more =
+      ap₂ (λ (a b : List Step). (is.past ++ a) ++ b) durable none ∙ append-nil (is.past ++ opened.steps) ∙ is.splits in
+      record { count = is.count; within = is.within; stands = subst (λ (h : List Step). Stands m first image h) history here.stands };
+}

@@ -1,0 +1,50 @@
+ghost use Rattle.std.specs.Prelude.{◌≡◌, ◌≤◌, List, Some};
+ghost use Rattle.edge_traits.specs.Count.{Rose};
+ghost use Rattle.edge_traits.specs.Disk.{Image};
+ghost use Rattle.step_code.specs.declared.base.Base.{Base};
+ghost use Rattle.step_code.specs.declared.step.Step.{Step};
+ghost use Rattle.journal_book.specs.Opening.{StandsNow};
+ghost use Rattle.store_calls.specs.Calls.{StandsOn};
+ghost use Rattle.store_commands.specs.Ends.{IsShown};
+
+use crate::end::end_of;
+use crate::printing::print;
+use crate::{Shown, StoreEnd};
+use edge_traits::{Disk, Sink};
+use journal_book::Book;
+use std::alloc::Global;
+use step_code::Rules;
+
+// The codes of a generation's steps may have so many bytes together.
+const STEP_BYTES: u64 = 67_108_864;
+
+/// Opens a store, and prints what is asked for of its state. No step is made. The disk comes back.
+pub fn show<D: Disk, R: Rules, S: Sink>(
+    alloc: Global,
+    disk: D,
+    rules: R,
+    what: Shown,
+    out: &mut S,
+) -> (StoreEnd, D)
+    // Where the disk tells what it holds: what is printed, or what the store is refused for.
+    ensures shown { (files : Image) → (D.disk disk).told ≡ Some files
+        → IsShown R.meaning files what result.0 (S.sink out.old) (S.sink out.new) }
+
+    // At any moment of the call, and behind it, the disk stands for the history that it stood for.
+    ensures stands { (first : Base) (steps more : List Step) → StandsNow D.disk D.may_leave R.meaning first steps more disk
+        → StandsOn D.disk D.may_leave D.left_since R.meaning first steps more disk result.1 }
+
+    // The outside failed, as its counts show.
+    ensures disk { result.0 ≡ StoreEnd.Disk → Rose (D.disk disk).faults (D.disk result.1).faults }
+    ensures sink { result.0 ≡ StoreEnd.Sink → Rose (S.sink out.old).faults (S.sink out.new).faults }
+    ensures disk_count { (D.disk disk).faults ≤ (D.disk result.1).faults }
+    ensures sink_count { (S.sink out.old).faults ≤ (S.sink out.new).faults }
+{
+    match Book::reopen(alloc, disk, rules, STEP_BYTES) {
+        Ok(book) => {
+            let end = print(alloc, book.state(), what, out);
+            (end, book.into_disk())
+        }
+        Err((fault, disk)) => (end_of(fault), disk),
+    }
+}

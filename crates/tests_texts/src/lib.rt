@@ -1,0 +1,5 @@
+//! Tests of what the program prints of a state.
+#![tactic(auto)]
+
+#[cfg(test)]
+mod rows;
