@@ -63,7 +63,7 @@ fn a_long_feed_is_whole(rt: HostRuntime) -> Result<(), Fail> {
     assert_eq!(rt; long.bytes().len(), 636_765);
     let mut sum = 0;
     for byte in long.bytes() {
-        sum = (sum + *byte as u64) % 65_521;
+        sum = (sum % 65_521 + *byte as u64) % 65_521;
     }
     assert_eq!(rt; sum, 46_126);
     Ok(())
