@@ -1,3 +1,3 @@
 mod Finding
-mod Giving
-mod Trying
+pub mod Giving
+pub mod Trying

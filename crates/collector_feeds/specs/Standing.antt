@@ -1,27 +1,28 @@
 -- A collector's feed during a call, as contracts see it.
-use Rattle.std.specs.Prelude.{◌≡◌, ◌⊎◌, ◌≤◌, ◌+◌, ℕ, false, List, length, Option, Some, None, IfSome, MatchOption}
+use Rattle.std.specs.Prelude.{◌≡◌, ◌⊎◌, ◌≤◌, ◌+◌, ℕ, false, List, length, Option, Some, None, IfSome}
 use Rattle.edge_traits.specs.Count.{last_count}
 use Rattle.edge_traits.specs.Shelf.{ShelfView, content_of, count_on, lacks, IsListed}
 use Rattle.edge_traits.specs.Source.{SourceView}
 use Rattle.report_cut.specs.declared.piece.Cut.{Cut}
 use Rattle.step_code.specs.declared.rules.FeedFacts.{FeedFacts}
 use Rattle.collector_feeds.specs.Found.{MayFind}
-use Rattle.collector_feeds.specs.declared.found.Found.{Found}
 use Rattle.collector_feeds.specs.declared.found.Found.TheVariants as found
 
--- the file and how it is cut; how often a fetch or a read may be tried again, and how often one failed; the source that was
--- fetched, and the offset up to which its pieces were handed out; and a piece that was handed out and put back
+-- the collector; the file and how it is cut; how often a fetch or a read may be tried again, and how often one failed; the
+-- source that was fetched, and the offset up to which its pieces were handed out; and a piece that was put back, with the
+-- offset at which it was found
 pub record FeedView : Type 0 where
+  pub bot : List ℕ
   pub facts : FeedFacts
   pub retries : ℕ
   pub failed : ℕ
   pub source : Option SourceView
   pub read : Option ℕ
-  pub kept : Option Cut
+  pub kept : Option (ℕ × Cut)
 
 -- a feed that hasn't been looked at
-abbrev pub closed : FeedFacts → ℕ → FeedView
-closed facts retries = record { facts = facts; retries = retries; failed = 0; source = None; read = None; kept = None }
+abbrev pub closed : List ℕ → FeedFacts → ℕ → FeedView
+closed bot facts retries = record { bot = bot; facts = facts; retries = retries; failed = 0; source = None; read = None; kept = None }
 
 -- the count rose by so much, or it stands at its last value
 abbrev pub RoseBy : ℕ → ℕ → ℕ → Type 0
@@ -47,26 +48,13 @@ pub record IsFetched (shelf : ShelfView) (file : List ℕ) (source : SourceView)
 abbrev pub IsOf : ShelfView → FeedView → Type 0
 IsOf shelf feed = IfSome feed.source (IsFetched shelf feed.facts.file)
 
--- a feed's source was read up to this offset, if it was read at all
-abbrev pub IsReadUpTo : ℕ → FeedView → Type 0
-IsReadUpTo at feed = IfSome feed.read (λ read. read ≡ at)
-
 -- what was read isn't more than there is
 abbrev pub IsReadWithin : List ℕ → Option ℕ → Type 0
 IsReadWithin content read = IfSome read (λ upto. upto ≤ length content)
 
--- the next look is at this offset: it was read up to there, or the piece that stands there was put back
-pub record StandsAt (shelf : ShelfView) (at : ℕ) (feed : FeedView) : Type 0 where
+-- the feed may be looked at: what was fetched is of the shelf, and no more of it was read than there is; and a piece that was
+-- put back is one that the collector may find there
+pub record IsReady (shelf : ShelfView) (feed : FeedView) : Type 0 where
   pub of : IsOf shelf feed
   pub within : (content : List ℕ) → content_of shelf feed.facts.file ≡ Some content → IsReadWithin content feed.read
-  pub read : MatchOption feed.kept (IsReadUpTo at feed) (λ cut. MayFind shelf feed.facts at (found.Piece cut) × IsReadUpTo cut.upto feed)
-
--- where the next look is, once this was found at an offset: behind a piece, and else there; a feed that is too long isn't
--- looked at again
-abbrev pub next_look : ℕ → Found → Option ℕ
-next_look at (found.Piece cut) = Some cut.upto
-next_look at found.End = Some at
-next_look at found.Absent = Some at
-next_look at (found.Short have) = Some at
-next_look at (found.LongLine line) = Some at
-next_look at found.LongFeed = None
+  pub kept : IfSome feed.kept (λ piece. MayFind shelf feed.facts piece.0 (found.Piece piece.1))

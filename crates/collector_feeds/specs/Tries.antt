@@ -1,7 +1,6 @@
 -- One try of a look.
-use Rattle.std.specs.Prelude.{◌≡◌, ◌≤◌, ℕ, Option, Some, None, IfSome}
+use Rattle.std.specs.Prelude.{◌≡◌, ◌≤◌, Option, Some, None}
 use Rattle.edge_traits.specs.Source.{SourceView}
-use Rattle.collector_feeds.specs.Standing.{next_look}
 use Rattle.collector_feeds.specs.declared.found.Found.{Found}
 use Rattle.collector_feeds.specs.declared.found.Found.TheVariants as found
 
@@ -24,7 +23,3 @@ IsThere found.Absent = ⊥
 IsThere (found.Short have) = Unit {0}
 IsThere (found.LongLine line) = Unit {0}
 IsThere found.LongFeed = Unit {0}
-
--- a source was read up to where the next look is
-abbrev pub IsReadOn : ℕ → Option ℕ → Found → Type 0
-IsReadOn at read what = IfSome read (λ upto. IfSome (next_look at what) (λ place. upto ≡ place))

@@ -18,6 +18,7 @@ pub fn give_back<H: Shelf>(feed: CollectorFeed<H::Src>, shelf: &mut H)
     ensures stay_listed { (other : List ℕ) → IsListed (H.shelf shelf.old) other → IsListed (H.shelf shelf.new) other }
 {
     let CollectorFeed {
+        bot: _,
         facts,
         retries: _,
         failed: _,

@@ -1,4 +1,4 @@
-ghost use Rattle.std.specs.Prelude.{◌≡◌, ◌≢◌, ◌≤◌, ◌<◌, ◌+◌, List, ℕ, length, Some, None, Err, IfOk, IfSome, OnOk, OnErr, IsErrOf, MatchResult, true, false};
+ghost use Rattle.std.specs.Prelude.{◌≡◌, ◌≢◌, ◌≤◌, ◌<◌, ◌+◌, List, ℕ, length, Some, None, Err, IfOk, IfSome, IsErrOf, true, false};
 ghost use Rattle.base_types.specs.Lists.{AreBytes};
 ghost use Rattle.edge_traits.specs.Count.{Rose};
 ghost use Rattle.edge_traits.specs.Shelf.{content_of, count_on, IsListed};
@@ -7,8 +7,8 @@ ghost use Rattle.step_code.specs.declared.rules.FeedFacts.{FeedFacts};
 ghost use Rattle.step_code.specs.Sound.{last_number};
 ghost use Rattle.collector_feeds.specs.Found.{found_at, rule_of, within_limit, IsAhead, MayFind};
 ghost use Rattle.collector_feeds.specs.Stage.{read_in, source_in, HasRule};
-ghost use Rattle.collector_feeds.specs.Standing.{all_faults, faults_in, next_look, IsFetched, IsOf, IsReadWithin, RoseBy, StandsAt};
-ghost use Rattle.collector_feeds.specs.Tries.{GoesOn, IsOpenOf, IsReadOn, IsThere};
+ghost use Rattle.collector_feeds.specs.Standing.{all_faults, faults_in, IsFetched, IsReadWithin, IsReady, RoseBy};
+ghost use Rattle.collector_feeds.specs.Tries.{GoesOn, IsOpenOf, IsThere};
 
 use crate::stage::Stage;
 use crate::{CollectorFeed, Found};
@@ -27,30 +27,26 @@ pub enum LookFault {
     OutOfMemory,
 }
 
-/// What stands at an offset of a collector's feed, where its last look ended. The feed is fetched if it wasn't. A fetch or a
-/// read that fails is tried again, as often as the collector may.
+/// What stands at an offset of a collector's feed, in bytes. The feed is fetched if it wasn't, and read on where it was read
+/// up to there. A fetch or a read that fails is tried again, as often as the collector may.
 ///
 /// # Errors
 ///
-/// `Failed` once more of them failed in all looks at this feed. `OutOfMemory`. The feed may be looked at again there.
+/// `Failed` once more of them failed in all looks at this feed. `OutOfMemory`. The feed may be looked at again.
 pub fn look<H: Shelf>(
     alloc: Global,
     feed: &mut CollectorFeed<H::Src>,
     shelf: &mut H,
     at: u64,
 ) -> Result<Found, LookFault>
-    requires stands { StandsAt (H.shelf shelf.old) at feed.old }
+    requires ready { IsReady (H.shelf shelf.old) feed.old }
     requires near { at ≤ last_number }
-    requires some { 1 ≤ feed.old.facts.chunk_size }
-    requires chunk { feed.old.facts.chunk_size ≤ longest_line }
-    requires tries { feed.old.failed ≤ feed.old.retries }
     ensures found { IfOk result (MayFind (H.shelf shelf.old) feed.old.facts at) }
-    ensures stands { IfOk result (λ what. IfSome (next_look at what) (λ place. StandsAt (H.shelf shelf.new) place feed.new)) }
-    ensures of { IsOf (H.shelf shelf.new) feed.new }
+    ensures ready { IsReady (H.shelf shelf.new) feed.new }
+    ensures bot { feed.new.bot ≡ feed.old.bot }
     ensures facts { feed.new.facts ≡ feed.old.facts }
     ensures retries { feed.new.retries ≡ feed.old.retries }
-    ensures tried { OnOk result (feed.new.failed ≤ feed.new.retries) }
-    ensures failed { IsErrOf result LookFault.Failed → feed.new.failed ≡ feed.new.retries + 1 }
+    ensures failed { IsErrOf result LookFault.Failed → feed.new.retries < feed.new.failed }
 
     // Each failure is counted, by the shelf or by the source.
     ensures counted { (first : ℕ) → RoseBy feed.old.failed first (all_faults (H.shelf shelf.old) feed.old) → RoseBy feed.new.failed first (all_faults (H.shelf shelf.new) feed.new) }
@@ -59,19 +55,19 @@ pub fn look<H: Shelf>(
     ensures other_counts { (other : List ℕ) → other ≢ feed.old.facts.file → count_on (H.shelf shelf.new) other ≡ count_on (H.shelf shelf.old) other }
     ensures stay_listed { (other : List ℕ) → IsListed (H.shelf shelf.old) other → IsListed (H.shelf shelf.new) other }
 {
-    if let Some(cut) = feed.kept.take() {
-        return Ok(Found::Piece { cut });
+    if let Some((place, cut)) = feed.kept.take() {
+        if place == at {
+            return Ok(Found::Piece { cut });
+        }
     }
-    'tries: loop {
+    'tries: while feed.failed <= feed.retries as u64 {
         match try_once(alloc, feed, shelf, at) {
             Ok(found) => return Ok(found),
             Err(ReaderFault::OutOfMemory) => return Err(LookFault::OutOfMemory),
             Err(ReaderFault::Failed) => {}
         }
-        if feed.failed > feed.retries as u64 {
-            return Err(LookFault::Failed);
-        }
     }
+    Err(LookFault::Failed)
 }
 
 // One try, which counts its failure.
@@ -81,19 +77,17 @@ fn try_once<H: Shelf>(
     shelf: &mut H,
     at: u64,
 ) -> Result<Found, ReaderFault>
-    requires stands { StandsAt (H.shelf shelf.old) at feed.old }
+    requires ready { IsReady (H.shelf shelf.old) feed.old }
     requires none { feed.old.kept ≡ None }
     requires near { at ≤ last_number }
-    requires some { 1 ≤ feed.old.facts.chunk_size }
-    requires chunk { feed.old.facts.chunk_size ≤ longest_line }
     requires tries { feed.old.failed ≤ feed.old.retries }
     ensures found { IfOk result (MayFind (H.shelf shelf.old) feed.old.facts at) }
-    ensures stands { MatchResult result (λ what. IfSome (next_look at what) (λ place. StandsAt (H.shelf shelf.new) place feed.new)) (λ _. StandsAt (H.shelf shelf.new) at feed.new) }
-    ensures of { IsOf (H.shelf shelf.new) feed.new }
+    ensures ready { IsReady (H.shelf shelf.new) feed.new }
+    ensures bot { feed.new.bot ≡ feed.old.bot }
     ensures facts { feed.new.facts ≡ feed.old.facts }
     ensures retries { feed.new.retries ≡ feed.old.retries }
     ensures none { feed.new.kept ≡ None }
-    ensures tried { (IsErrOf result ReaderFault.Failed → feed.new.failed ≡ feed.old.failed + 1) }
+    ensures tried { IsErrOf result ReaderFault.Failed → feed.new.failed ≡ feed.old.failed + 1 }
     ensures still { (result ≢ Err ReaderFault.Failed) → feed.new.failed ≡ feed.old.failed }
     ensures counted { (first : ℕ) → RoseBy feed.old.failed first (all_faults (H.shelf shelf.old) feed.old) → RoseBy feed.new.failed first (all_faults (H.shelf shelf.new) feed.new) }
     ensures told { (H.shelf shelf.new).told ≡ (H.shelf shelf.old).told }
@@ -102,6 +96,7 @@ fn try_once<H: Shelf>(
     ensures stay_listed { (other : List ℕ) → IsListed (H.shelf shelf.old) other → IsListed (H.shelf shelf.new) other }
 {
     let stage = mem::replace(&mut feed.stage, Stage::Closed);
+    let stage = standing_at(stage, at);
     let (stage, found) = find_from(alloc, shelf, &feed.facts, stage, at);
     let before = mem::replace(&mut feed.stage, stage);
     end_closed(before);
@@ -109,6 +104,28 @@ fn try_once<H: Shelf>(
         feed.failed += 1;
     }
     found
+}
+
+// A feed that was read up to another offset is read anew.
+fn standing_at<S: Source>(stage: Stage<S>, at: u64) -> Stage<S>
+    ensures source { source_in S.source result ≡ source_in S.source stage }
+    ensures read { IfSome (read_in result) (λ read. read ≡ at) }
+    ensures within { (content : List ℕ) → IsReadWithin content (read_in stage) → IsReadWithin content (read_in result) }
+    ensures rule { (facts : FeedFacts) → HasRule facts stage → HasRule facts result }
+{
+    match stage {
+        Stage::Closed => Stage::Closed,
+        Stage::Fetched { source } => Stage::Fetched { source },
+        Stage::Reading { reader } => {
+            if reader.at() == at {
+                Stage::Reading { reader }
+            } else {
+                Stage::Fetched {
+                    source: reader.into_source(),
+                }
+            }
+        }
+    }
 }
 
 fn end_closed<S: Source>(stage: Stage<S>)
@@ -147,7 +164,6 @@ fn find_from<H: Shelf>(
     ensures of { IfSome (source_in H.Src.source result.0) (IsFetched (H.shelf shelf.new) facts.now.file) }
     ensures within { (content : List ℕ) → content_of (H.shelf shelf.old) facts.now.file ≡ Some content → IsReadWithin content (read_in result.0) }
     ensures rule { HasRule facts.now result.0 }
-    ensures read { MatchResult result.1 (IsReadOn at (read_in result.0)) (λ _. IfSome (read_in result.0) (λ read. read ≡ at)) }
     ensures failed { IsErrOf result.1 ReaderFault.Failed
         → Rose (count_on (H.shelf shelf.old) facts.now.file + faults_in (source_in H.Src.source stage)) (count_on (H.shelf shelf.new) facts.now.file + faults_in (source_in H.Src.source result.0)) }
     ensures faults { count_on (H.shelf shelf.old) facts.now.file + faults_in (source_in H.Src.source stage) ≤ count_on (H.shelf shelf.new) facts.now.file + faults_in (source_in H.Src.source result.0) }
@@ -184,7 +200,6 @@ fn begin<S: Source>(
     ensures open { IsOpenOf (S.source source) (source_in S.source result.0) }
     ensures within { (feed : List ℕ) → (S.source source).told ≡ Some feed → IsReadWithin feed (read_in result.0) }
     ensures rule { HasRule facts.now result.0 }
-    ensures read { MatchResult result.1 (IsReadOn at (read_in result.0)) (λ _. IfSome (read_in result.0) (λ read. read ≡ at)) }
     ensures failed { IsErrOf result.1 ReaderFault.Failed → Rose (S.source source).faults (faults_in (source_in S.source result.0)) }
 {
     let mut source = source;
@@ -215,7 +230,6 @@ fn read_on<S: Source>(reader: FeedReader<S>) -> (Stage<S>, Result<Found, ReaderF
     ensures open { IsOpenOf reader.source (source_in S.source result.0) }
     ensures within { (feed : List ℕ) → reader.source.told ≡ Some feed → reader.at ≤ length feed → IsReadWithin feed (read_in result.0) }
     ensures rule { (facts : FeedFacts) → reader.rule ≡ rule_of facts → HasRule facts result.0 }
-    ensures read { MatchResult result.1 (IsReadOn reader.at (read_in result.0)) (λ _. IfSome (read_in result.0) (λ read. read ≡ reader.at)) }
     ensures failed { IsErrOf result.1 ReaderFault.Failed → Rose reader.source.faults (faults_in (source_in S.source result.0)) }
 {
     let mut reader = reader;

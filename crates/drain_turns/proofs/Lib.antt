@@ -1,6 +1,6 @@
-mod Moving
-mod Nobody
+pub mod Moving
+pub mod Nobody
 mod One
 mod OneDrain
-mod Turning
-mod Working
+pub mod Turning
+pub mod Working

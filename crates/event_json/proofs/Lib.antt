@@ -1,4 +1,5 @@
 pub mod Ends
+pub mod Exact
 pub mod Items
 pub mod Lines
 pub mod MessageText

@@ -103,7 +103,7 @@ pair_at-reads pair behind typed stop =
     ∙ ap (option_and_then with_value) (text_at-reads pair.0 (58 ∷ (value_text pair.1 ++ behind)) utf8.0)
     ∙ ap (option_map (named pair.0)) (value_at-reads pair.1 behind (readable_field pair.0 pair.1 typed.field utf8.1) stop)
 
-pair_here : (text : Key) (pair : Pair) (behind : Key) → IsTypedPair pair → begins_with_stop behind ≡ true → text ≡ pair_text pair ++ behind → pair_at text ≡ Some (pair, behind)
+pub pair_here : (text : Key) (pair : Pair) (behind : Key) → IsTypedPair pair → begins_with_stop behind ≡ true → text ≡ pair_text pair ++ behind → pair_at text ≡ Some (pair, behind)
 pair_here text pair behind typed stop is = ap pair_at is ∙ pair_at-reads pair behind typed stop
 
 -- ---- a pair that is taken, or not
@@ -166,7 +166,7 @@ pair_in [] pair later are = record { field = are.fields.0; texts = (and_parts (i
 pair_in (e ∷ es) pair later are =
     pair_in es pair later (record { fields = are.fields.1; texts = (and_parts (is_utf8_pair e) (list_all is_utf8_pair (es ++ pair ∷ later)) are.texts).1 })
 
-stops : (later : Pairs) → begins_with_stop (pairs_text later ++ 125 ∷ []) ≡ true
+pub stops : (later : Pairs) → begins_with_stop (pairs_text later ++ 125 ∷ []) ≡ true
 stops [] = refl
 stops (e ∷ later) = refl
 

@@ -1,4 +1,5 @@
 -- what public contracts cite
+pub mod Exact
 pub mod Lenient
 pub mod Strict
 pub mod Text

@@ -3,6 +3,7 @@
 
 mod clean;
 mod direct;
+pub mod laws;
 mod leaf;
 mod line;
 mod ordered;
@@ -13,5 +14,5 @@ mod value;
 mod write;
 
 pub use clean::{Cleaner, clean_message};
-pub use strict::read_message;
+pub use strict::{message_in, read_message};
 pub use write::{push_message, write_message};

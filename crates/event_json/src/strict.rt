@@ -3,6 +3,7 @@ ghost use Rattle.std.specs.Prelude.{◌≡◌, ◌≢◌, ◌++◌, List, ℕ, S
 ghost use Rattle.event_model.specs.declared.message.Kind.{Kind as AnyKind};
 ghost use Rattle.event_model.specs.declared.message.Message.{Message as AnyMessage};
 ghost use Rattle.event_json.specs.Decode.{opening};
+ghost use Rattle.event_json.specs.Exact.{strict};
 ghost use Rattle.event_json.specs.Strict.{IsStrictFault, IsTextOf};
 
 use crate::clean::clean_any;
@@ -32,10 +33,11 @@ fn kind_at(text: &[u8]) -> Option<(Kind, &[u8])>
     }
 }
 
-/// The message whose canonical text the bytes are.
+/// The message whose canonical text the bytes are, if they are one's.
 pub fn message_in(alloc: Global, bytes: &[u8]) -> Result<Option<Message>, OutOfMemory>
     ensures sound { IfOk result (λ found. IfSome found (IsTextOf bytes.now)) }
     ensures complete { (message : AnyMessage) → IsTextOf bytes.now message → IfOk result (λ found. found ≡ Some message) }
+    ensures exact { IfOk result (λ found. found ≡ strict bytes.now) }
 {
     let Some((kind, text)) = kind_at(bytes) else {
         return Ok(None);

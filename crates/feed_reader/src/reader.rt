@@ -87,6 +87,13 @@ impl<S: Source> FeedReader<S> {
         }
     }
 
+    /// The offset in the feed up to which pieces were handed out, in bytes.
+    pub fn at(&self) -> u64
+        ensures { result ≡ self.now.at }
+    {
+        self.coming.at
+    }
+
     /// The source, to be given back.
     pub fn into_source(self) -> S
         ensures { S.source result ≡ self.source }

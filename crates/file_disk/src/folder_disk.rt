@@ -22,7 +22,7 @@ use std::rt::Files;
 pub struct FolderDisk<'a, R: Files> {
     alloc: Global,
     files: &'a R,
-    folder: Text,
+    folder: &'a Text,
     // The files that were opened.
     handles: Vec<Handle<R::File>>,
     faults: u64,
@@ -33,7 +33,7 @@ where
     R::File: FileExt,
 {
     /// The files of this folder, which need not be there. It takes no memory.
-    pub fn new(alloc: Global, files: &'a R, folder: Text) -> Self
+    pub fn new(alloc: Global, files: &'a R, folder: &'a Text) -> Self
         ensures told { ⟦<FolderDisk<'a, R> as Disk>⟧.disk result ≡ untold 0 }
         // A crash may leave anything: what is said of what it leaves is said of disks that tell more.
         ensures anything { (file : ℕ) (content : List ℕ) → ⟦<FolderDisk<'a, R> as Disk>⟧.may_leave result file content }

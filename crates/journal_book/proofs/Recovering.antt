@@ -1,19 +1,21 @@
 -- What a crash leaves while the files of a store are recovered.
-use Rattle.std.proofs.Common.{◌≡◌, ◌≢◌, ◌⊎◌, inl, inr, ⊎_elim, ◌≤◌, ◌==◌, ℕ, Bool, true, false, List, Some, refl, sym, subst, ◌∙◌, arith, if◌then◌else◌}
+use Rattle.std.proofs.Common.{◌≡◌, ◌≢◌, ◌⊎◌, inl, inr, ⊎_elim, ◌≤◌, ◌<◌, ◌==◌, ℕ, Bool, true, false, List, [], ◌∷◌, ◌++◌, length, map, Some, refl, sym, ap, subst, ◌∙◌, arith, length-append, if◌then◌else◌}
 use Rattle.std.specs.Prelude.{⊤}
 use Rattle.std.proofs.lemmas.Bool.{eqb-true, eqb-false}
 use Rattle.edge_traits.specs.Disk.{Adds, ChangesOnly, DiskView, Elapses, Image, IsImage, Leaves, LeavesOthers}
 use Rattle.edge_traits.proofs.Moments.{run_on, widened}
-use Rattle.disk_journal.specs.GateFile.{Heading, HaveSameBodies}
+use Rattle.disk_journal.specs.GateFile.{gate_file, heading_of, Heading, HaveSameBodies}
 use Rattle.disk_journal.specs.Reads.{OnlyReads}
+use Rattle.stored_types.specs.Code.{number}
 use Rattle.step_code.specs.declared.base.Base.{Base}
 use Rattle.step_code.specs.declared.step.Step.{Step}
 use Rattle.step_code.specs.Rules.{Meaning}
 use Rattle.store_image.specs.Stands.{StandsFor}
-use Rattle.store_image.specs.Files.{IsStoreFile}
+use Rattle.store_image.specs.Files.{root_file, IsStoreFile}
 use Rattle.store_image.proofs.Alike.{alike_put, stands_alike}
 use Rattle.store_image.proofs.Standing.{put_file}
 use Rattle.journal_book.specs.Opening.{KeepsHistories, StandsNow}
+use Rattle.journal_book.proofs.Histories.{gate_length}
 
 -- a file as it is left, or as it was
 either : (may_leave : ℕ → List ℕ → Type 0) (file other : ℕ) (content rest : List ℕ) (is : Bool) → (other == file) ≡ is → may_leave file content → (other ≢ file → may_leave other rest) → may_leave other (if is then content else rest)
@@ -51,6 +53,13 @@ module _ {D : Type 0} (disk : D → DiskView) (may_leave : D → ℕ → List �
           let changes = elsewhere was.files was.tells in
           let left = widened (stands_still m first steps more was (honest was.files was.tells)) (any_moment was.files was.tells) in
           record { files = changes.0; tells = changes.1; each = λ image may. left.each image (counts (disk old).moment image left.later may) }
+
+-- what stands for a history has a root that isn't empty
+pub some_root : (m : Meaning) (first : Base) (steps more : List Step) (image : Image) → StandsFor m first steps more image → 0 < length (image root_file)
+some_root m first steps more image is =
+    let named = is.stands.stored.named in
+    let bodies = map number (named.before ++ is.stands.generation ∷ []) in
+    omega (arith, ap length named.bodies.content, length-append (gate_file (heading_of 0) bodies named.bodies.gate) named.bodies.behind, gate_length (heading_of 0) bodies named.bodies.gate)
 
 -- reads keep histories
 pub reads_keep : {D : Type 0} {disk : D → DiskView} {may_leave : D → ℕ → List ℕ → Type 0} {left_since : D → ℕ → Image → Type 0} {old new : D} → ((image : Image) → left_since old (disk old).moment image → IsImage (may_leave old) image)

@@ -10,6 +10,7 @@ use Rattle.step_code.specs.History.{replay}
 use Rattle.step_code.specs.Rules.{Meaning}
 use Rattle.store_image.specs.Damage.{IsDamagedStore, IsShort}
 use Rattle.store_image.specs.Files.{root_file}
+use Rattle.store_image.specs.Opens.{AreLong}
 use Rattle.store_image.specs.Stands.{StandsFor}
 use Rattle.journal_book.specs.Book.{BookView, IsKept}
 use Rattle.journal_book.specs.declared.book_fault.BookFault.{BookFault}
@@ -43,6 +44,10 @@ pub record IsReopened {D R : Type 0} (disk : D → DiskView) (may_leave : D → 
   pub within : count ≤ length more
   pub splits : past ++ book.steps ≡ steps ++ take count more
   pub kept : IsKept disk may_leave m first past book
+
+-- the disk tells what it holds, and the files of these outputs are no shorter than what is sealed
+abbrev pub TellsLong : Option Image → List Output → Type 0
+TellsLong told outs = (files : Image) × (told ≡ Some files) × AreLong 0 outs files
 
 -- ---- what private contracts cite
 

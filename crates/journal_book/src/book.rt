@@ -7,6 +7,7 @@ ghost use Rattle.step_code.specs.declared.step.Step.{Step};
 ghost use Rattle.step_code.specs.After.{after};
 ghost use Rattle.step_code.specs.Content.{May};
 ghost use Rattle.step_code.specs.Fits.{Fits};
+ghost use Rattle.step_code.specs.Rules.{last_moment};
 ghost use Rattle.step_code.specs.declared.rules.Facts.{Facts};
 ghost use Rattle.step_code.specs.History.{first, replay};
 ghost use Rattle.step_code.specs.Sound.{IsSound};
@@ -17,7 +18,7 @@ ghost use Rattle.journal_book.specs.Book.{created, durable_steps, waiting_steps,
 ghost use Rattle.journal_book.specs.Faults.{IsCreateFault};
 ghost use Rattle.journal_book.specs.Outputs.{AreCompleted, IsBringUpFault, LeavesOuts};
 ghost use Rattle.store_image.specs.Opens.{Opens};
-ghost use Rattle.journal_book.specs.Opening.{opened, IsReopened, IsReopenFault, StandsNow};
+ghost use Rattle.journal_book.specs.Opening.{opened, IsReopened, IsReopenFault, StandsNow, TellsLong};
 ghost use Rattle.journal_book.specs.Staged.{bytes_with, cause_of, greatest_limit, most_waiting, most_waiting_bytes, staged, stamp, step_cause, IsMove, IsStageRefusal};
 
 use crate::create::{Opened, make_store};
@@ -108,6 +109,12 @@ impl<D: Disk, R: Rules> Book<D, R> {
         // Whatever a crash leaves now stands for no steps of the new store.
         ensures kept { (files : Image) → (D.disk disk).told ≡ Some files → IfOk result (λ book. IsKept D.disk D.may_leave R.meaning book.base [] book) }
         ensures empty { (files : Image) → (D.disk disk).told ≡ Some files → OnOk result (files root_file ≡ []) }
+        ensures refused_empty { (files : Image) → (D.disk disk).told ≡ Some files → IfErr result (λ e. e.0 ≡ BookFault.Refused → files root_file ≡ []) }
+
+        // A store that is there is left alone: it stands for its history behind the call and at any moment of it.
+        ensures still_err { (first : Base) (steps more : List Step) → StandsNow D.disk D.may_leave R.meaning first steps more disk → IfErr result (λ e. StandsNow D.disk D.may_leave R.meaning first steps more e.1) }
+        ensures any_moment_err { (first : Base) (steps more : List Step) → StandsNow D.disk D.may_leave R.meaning first steps more disk
+            → IfErr result (λ e. Leaves D.disk D.left_since disk e.1 (StandsFor R.meaning first steps more)) }
         ensures fault { IfErr result (λ e. IsCreateFault R.meaning bundle.now (D.disk disk).told e.0) }
         ensures untold { (D.disk disk).told ≡ None → IfOk result (λ book. (D.disk book.disk).told ≡ None) }
         ensures failed { IfErr result (λ e. e.0 ≡ BookFault.Disk → Rose (D.disk disk).faults (D.disk e.1).faults) }
@@ -161,6 +168,7 @@ impl<D: Disk, R: Rules> Book<D, R> {
         ensures book { IfOk result (λ book. book ≡ opened R.meaning rules book.generation book.base book.steps limit book.disk) }
         ensures opens { (files : Image) → (D.disk disk).told ≡ Some files → IfOk result (λ book. Opens R.meaning files book.generation book.base book.steps) }
         ensures sound { IfOk result (λ book. IsSound R.meaning book.base) }
+        ensures long { (files : Image) → (D.disk disk).told ≡ Some files → IfOk result (λ book. TellsLong (D.disk book.disk).told book.state.outs) }
 
         // The book goes on from all steps that whatever a crash left stood for.
         ensures kept { (first : Base) (steps more : List Step) → StandsNow D.disk D.may_leave R.meaning first steps more disk → IfOk result (λ book. IsReopened D.disk D.may_leave R.meaning first steps more book) }
@@ -215,9 +223,11 @@ impl<D: Disk, R: Rules> Book<D, R> {
         ensures core { result.now ≡ record { rules = self.now.rules; state = self.now.state } }
         ensures replay { self.now.state ≡ replay R.meaning self.now.base self.now.steps }
 
-        // Whatever the disk held, each full hand is one of a live instance's, and no feed was read past the last number.
+        // Whatever the disk held, each full hand is one of a live instance's, no feed was read past the last number, and the
+        // latest moment is one that a step may have.
         ensures hands { HasSoundHands R.meaning self.now.state }
         ensures feeds { HasNearFeeds self.now.state }
+        ensures latest { self.now.state.latest.0 ≤ last_moment }
     {
         // Both calls tell what holds of the state.
         let _ = self.core.plan();

@@ -13,6 +13,7 @@ ghost use Rattle.step_code.specs.Sound.{longest_base, IsSound};
 ghost use Rattle.store_image.specs.Files.{root_file};
 ghost use Rattle.journal_book.specs.Faults.{HasNoFirst, IsCreateFault, Tells};
 ghost use Rattle.journal_book.specs.Keeping.{AreAtRest, AreStoreFiles, longest_waiting};
+ghost use Rattle.journal_book.specs.Opening.{KeepsHistories};
 
 use crate::BookFault;
 use crate::files::{ROOT, generation_file};
@@ -143,6 +144,8 @@ pub fn make_store<D: Disk, R: Rules>(
         → IfOk result (λ made. AreAtRest made.root made.journal (D.may_leave disk.new) 0 made.base.value [] after) }
     ensures tells { (files : Image) → (D.disk disk.old).told ≡ Some files → OnOk result (Tells (D.disk disk.new).told) }
     ensures empty { (files : Image) → (D.disk disk.old).told ≡ Some files → OnOk result (files root_file ≡ []) }
+    ensures refused_empty { (files : Image) → (D.disk disk.old).told ≡ Some files → IsErrOf result BookFault.Refused → files root_file ≡ [] }
+    ensures left_alone { (files : Image) → (D.disk disk.old).told ≡ Some files → 0 < length (files root_file) → KeepsHistories D.disk D.may_leave D.left_since disk.old disk.new }
     ensures fault { IfErr result (IsCreateFault R.meaning bundle.now (D.disk disk.old).told) }
     ensures untold { (D.disk disk.old).told ≡ None → (D.disk disk.new).told ≡ None }
     ensures failed { IsErrOf result BookFault.Disk → Rose (D.disk disk.old).faults (D.disk disk.new).faults }

@@ -14,7 +14,7 @@ ghost use Rattle.store_image.specs.Files.{generation_file, root_file, IsStoreFil
 ghost use Rattle.store_image.specs.Opens.{AreLong, Opens};
 ghost use Rattle.store_image.specs.Stored.{codes_of, NamesLast};
 ghost use Rattle.journal_book.specs.Keeping.{longest_waiting, AreAtRest, AreStoreFiles};
-ghost use Rattle.journal_book.specs.Opening.{in_file, IsFileFault, IsReopenFault, IsShortFault, KeepsHistories, Recovers};
+ghost use Rattle.journal_book.specs.Opening.{in_file, IsFileFault, IsReopenFault, IsShortFault, KeepsHistories, Recovers, TellsLong};
 ghost use Rattle.journal_book.specs.Reading.{AreGenerations, AreHistory, IsHistory};
 
 use crate::BookFault;
@@ -172,6 +172,7 @@ pub fn open_store<D: Disk, R: Rules>(
     ensures history { IfOk result (λ found. IsHistory R.meaning found.history.base.value found.history.steps) }
     ensures length { IfOk result (λ found. found.journal.length ≤ longest_waiting + 2 * length (codes_of found.history.steps)) }
     ensures opens { (files : Image) → (D.disk disk.old).told ≡ Some files → IfOk result (λ found. Opens R.meaning files found.generation found.history.base.value found.history.steps) }
+    ensures long { (files : Image) → (D.disk disk.old).told ≡ Some files → IfOk result (λ found. TellsLong (D.disk disk.new).told found.history.core.state.outs) }
     ensures at_rest { (files after : Image) → (D.disk disk.old).told ≡ Some files → (D.disk disk.new).told ≡ Some after
         → IfOk result (λ found. AreAtRest found.root found.journal (D.may_leave disk.new) found.generation found.history.base.value found.history.steps after) }
     ensures fault { IfErr result (IsReopenFault R.meaning (D.disk disk.old).told) }

@@ -1,10 +1,11 @@
 //! The program: its command line, and the outside as the system gives it.
 #![tactic(auto)]
 
-ghost use Rattle.std.specs.Prelude.{◌≡◌, ◌≢◌, ◌↔◌, None, false, drop};
-ghost use Rattle.pipeline_top.specs.StatusText.{number_of};
-ghost use Rattle.pipeline_top.specs.Words.{feed_name};
-ghost use Rattle.pipeline_program.specs.CommandLine.{is_command};
+ghost use Rattle.std.specs.Prelude.{◌≡◌, ◌≢◌, ◌↔◌, false};
+ghost use Rattle.status_texts.specs.StatusText.{number_of};
+ghost use Rattle.command_words.specs.Words.{command_of};
+ghost use Rattle.pipeline_top.specs.Commands.{is_command as is_pipeline_command};
+ghost use Rattle.pipeline_program.specs.CommandLine.{is_command, stands_alone};
 
 mod clock;
 mod counts;
@@ -15,10 +16,11 @@ mod tests;
 
 use base_types::Text;
 use clock::SystemClock;
-use edge_traits::NoDisk;
+use file_disk::FolderDisk;
 use pipeline_top::{Status, run_tool};
 use shelf::FileShelf;
 use sink::WriterSink;
+use std::os::unix::fs::FileExt;
 use std::process::ExitCode;
 use std::rt::{Clock, Env, Files};
 use std::{env, io};
@@ -27,22 +29,41 @@ const HELP: &str = "\
 intelpipe STORE COMMAND [--NAME VALUE]...
 intelpipe --help | --version
 
-Reads feeds of security events into typed messages, and writes them as lines of canonical JSON.
+Runs feeds of security events through a pipeline of bots. Each message is kept in a store until it is processed.
 
-STORE is the folder of the store; for convert it is any word.
+STORE is the folder of the store; for check and convert it is any word.
 
 Commands:
-  convert --feed NAME    write each event of the feed, a line each, to standard output
+  init --bundle NAME     make a store for the bots of a bundle
+  drain                  run the bots until nothing is left to do
+    --steps N            make at most so many steps
+    --reload NAME        put another bundle in force first
+    --round new          read the feeds that were read to their ends once more
+  status                 print what waits, what is in hand, and how far feeds are read
+  dumps                  print the messages that were put aside, a line each, with their faults
+  redo --dump NO         put the message of a dump back into the queue of its bot
+  check --bundle NAME    print how many bots a bundle has, or its first fault
+  convert --feed NAME    write each event of a feed, a line each, to standard output
 
 Exit status:
    0  done
    1  no memory
    2  the words are no command
-   4  the feed is absent, or can't be read
+   3  the bundle has a fault: its number and its bot
+   4  a feed or a file of the bundle is absent, or can't be read
+   5  the store's files failed
    6  standard output failed
-  12  a line of the feed passes 1,048,576 bytes; those before it are written
-  13  a line of the feed ends behind 1,073,741,824 bytes; those before it are written
+   7  the store is damaged: the number of the file and the offset
+   8  so many steps were made, and something is left to do
+   9  the store is full
+  10  a feed is shorter than what was read of it
+  11  a bot that is to stop at a fault has stopped
+  12  a line of a feed passes 1,048,576 bytes
+  13  a feed passes 1,073,741,824 bytes
+  14  there is no store; for init: there is one
+  15  there is no such dump
   17  a line of the feed is no event or report; those before it are written
+  18  a number is used up
 ";
 
 const VERSION: &str = "intelpipe 0.1.0\n";
@@ -52,7 +73,10 @@ fn main(rt: HostRuntime) -> ExitCode {
 }
 
 // Does what the command line says. Answers the exit status.
-fn run<R: Files + Env + Clock + Print + Eprint + AllocGlobal + Drop>(rt: &R) -> u8 {
+fn run<R: Files + Env + Clock + Print + Eprint + AllocGlobal + Drop>(rt: &R) -> u8
+where
+    R::File: FileExt,
+{
     match command_line(rt) {
         Ok(words) => exit_status(rt, &words),
         Err(status) => told(rt, &status),
@@ -61,6 +85,8 @@ fn run<R: Files + Env + Clock + Print + Eprint + AllocGlobal + Drop>(rt: &R) -> 
 
 // Does what the words say. Answers the exit status, which is 2 exactly where they are no command.
 fn exit_status<R: Files + Clock + Print + Eprint + AllocGlobal + Drop>(rt: &R, words: &[Text]) -> u8
+where
+    R::File: FileExt,
     ensures { (result ≡ 2) ↔ (is_command words.now ≡ false) }
 {
     told(rt, &run_words(rt, words))
@@ -94,24 +120,28 @@ fn command_line<R: Env + AllocGlobal>(rt: &R) -> Result<Vec<Text>, Status> {
 }
 
 fn run_words<R: Files + Clock + Print + AllocGlobal + Drop>(rt: &R, words: &[Text]) -> Status
+where
+    R::File: FileExt,
     ensures { (result ≡ Status.Words) ↔ (is_command words.now ≡ false) }
 {
     match words {
         [] => Status::Words,
-        [word] if word.as_str() == "--help" => show(rt, HELP),
-        [word] if word.as_str() == "--version" => show(rt, VERSION),
-        _ => run_command(rt, behind_store(words)),
+        [word] => run_alone(rt, word),
+        [store, command @ ..] => run_command(rt, store, command),
     }
 }
 
-// The words behind the store's folder.
-fn behind_store(words: &[Text]) -> &[Text]
-    ensures { result.now ≡ drop 1 words.now }
+// Does what a word says that stands alone.
+fn run_alone<R: Print>(rt: &R, word: &Text) -> Status
+    ensures { (result ≡ Status.Words) ↔ (stands_alone word.now ≡ false) }
 {
-    match words {
-        [] => words,
-        [_store, command @ ..] => command,
+    if word.as_str() == "--help" {
+        return show(rt, HELP);
     }
+    if word.as_str() == "--version" {
+        return show(rt, VERSION);
+    }
+    Status::Words
 }
 
 fn show<P: Print>(rt: &P, text: &str) -> Status
@@ -123,14 +153,21 @@ fn show<P: Print>(rt: &P, text: &str) -> Status
     }
 }
 
-// Runs a command over the system's files, clock and standard output.
-fn run_command<R: Files + Clock + Print + AllocGlobal + Drop>(rt: &R, words: &[Text]) -> Status
-    ensures { (result ≡ Status.Words) ↔ (feed_name words.now ≡ None) }
+// Runs a command over the system's files, clock and standard output, on the store in this folder.
+fn run_command<R: Files + Clock + Print + AllocGlobal + Drop>(
+    rt: &R,
+    store: &Text,
+    words: &[Text],
+) -> Status
+where
+    R::File: FileExt,
+    ensures { (result ≡ Status.Words) ↔ (is_pipeline_command (command_of words.now) ≡ false) }
 {
     let alloc = rt.alloc();
     let mut shelf = FileShelf::new(alloc, rt);
+    let disk = FolderDisk::new(alloc, rt, store);
     let mut out = WriterSink::new(io::writer(rt));
     let clock = SystemClock::new(rt);
-    let (status, _disk) = run_tool(alloc, words, &mut shelf, NoDisk::new(), &mut out, &clock);
+    let (status, _disk) = run_tool(alloc, words, &mut shelf, disk, &mut out, &clock);
     status
 }

@@ -13,6 +13,7 @@ use std::env::FillError;
 use std::fmt::Display;
 use std::fs::{Metadata, OpenFile, OpenOptions};
 use std::io::{self, Cursor, Read, Seek, SeekFrom, Write};
+use std::os::unix::fs::FileExt;
 use std::rt::{Env, Files};
 use std::test::Fail;
 use std::time::Duration;
@@ -67,6 +68,16 @@ impl OpenFile for Page {
     }
 
     fn sync_data(&self) -> io::Result<()> {
+        unsupported()
+    }
+}
+
+impl FileExt for Page {
+    fn read_at(&self, _buf: &mut [u8], _offset: u64) -> io::Result<usize> {
+        unsupported()
+    }
+
+    fn write_at(&self, _buf: &[u8], _offset: u64) -> io::Result<usize> {
         unsupported()
     }
 }
@@ -229,7 +240,7 @@ struct Run {
     told: &'static str,
 }
 
-const RUNS: [Run; 9] = [
+const RUNS: [Run; 13] = [
     Run {
         words: &["intelpipe", "any", "convert", "--feed", "feed.json"],
         content: b"{\"comment\":\" a \"}\n\n{\"status\":\"on\"}\n",
@@ -257,6 +268,34 @@ const RUNS: [Run; 9] = [
         status: 4,
         output: "",
         told: "intelpipe: feed other.json failed\n",
+    },
+    Run {
+        words: &["intelpipe", "any", "check", "--bundle", "feed.json"],
+        content: b"{}",
+        status: 0,
+        output: "ok 0 bots\n",
+        told: "",
+    },
+    Run {
+        words: &["intelpipe", "any", "check", "--bundle", "feed.json"],
+        content: b"{\"a\":{\"module\":\"expert.none\"}}",
+        status: 3,
+        output: "",
+        told: "intelpipe: config 2 a\n",
+    },
+    Run {
+        words: &["intelpipe", "any", "drain"],
+        content: b"",
+        status: 14,
+        output: "",
+        told: "intelpipe: store 0\n",
+    },
+    Run {
+        words: &["intelpipe", "any", "status", "--steps", "3"],
+        content: b"",
+        status: 2,
+        output: "",
+        told: "intelpipe: words\n",
     },
     Run {
         words: &["intelpipe", "--version"],
@@ -325,7 +364,8 @@ fn help_names_each_status(rt: HostRuntime) -> Result<(), Fail> {
     assert_eq!(rt; run(&machine), 0);
     let help = text_of(&machine.output, rt.alloc())?;
     for number in &[
-        "   0 ", "   1 ", "   2 ", "   4 ", "   6 ", "  12 ", "  13 ", "  17 ",
+        "   0 ", "   1 ", "   2 ", "   3 ", "   4 ", "   5 ", "   6 ", "   7 ", "   8 ", "   9 ",
+        "  10 ", "  11 ", "  12 ", "  13 ", "  14 ", "  15 ", "  17 ", "  18 ",
     ] {
         assert!(rt; help.contains(*number), "{number}");
     }

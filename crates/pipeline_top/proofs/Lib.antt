@@ -1,5 +1,6 @@
 mod Ahead
-mod BotTexts
+mod Bundles
+mod Halting
 mod LineEnds
-mod Statuses
+mod Still
 mod Writing

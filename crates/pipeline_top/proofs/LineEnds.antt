@@ -12,8 +12,8 @@ use Rattle.edge_traits.specs.Output.{Moved}
 use Rattle.edge_traits.proofs.Outputs.{Moved-write}
 use Rattle.pipeline_top.specs.Line.{PutLine}
 use Rattle.pipeline_top.specs.declared.line.Place.{Place}
-use Rattle.pipeline_top.specs.declared.status.Status.{Status}
-use Rattle.pipeline_top.specs.declared.status.Status.TheVariants as status
+use Rattle.status_texts.specs.declared.status.Status.{Status}
+use Rattle.status_texts.specs.declared.status.Status.TheVariants as status
 
 -- ---- what a line comes to
 

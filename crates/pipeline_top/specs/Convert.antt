@@ -9,8 +9,8 @@ use Rattle.event_json.specs.Text.{message_text}
 use Rattle.report_cut.specs.Line.{without_newline}
 use Rattle.report_cut.specs.Pieces.{longest_line}
 use Rattle.pipeline_top.specs.declared.line.Place.{Place}
-use Rattle.pipeline_top.specs.declared.status.Status.{Status}
-use Rattle.pipeline_top.specs.declared.status.Status.TheVariants as status
+use Rattle.status_texts.specs.declared.status.Status.{Status}
+use Rattle.status_texts.specs.declared.status.Status.TheVariants as status
 
 -- no line may end behind this offset of a feed
 abbrev pub longest_feed : ℕ

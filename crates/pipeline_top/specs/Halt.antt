@@ -6,9 +6,9 @@ use Rattle.feed_reader.specs.declared.ahead.ReaderFault.{ReaderFault}
 use Rattle.feed_reader.specs.declared.ahead.ReaderFault.TheVariants as reader
 use Rattle.pipeline_top.specs.declared.halt.Halt.{Halt}
 use Rattle.pipeline_top.specs.declared.halt.Halt.TheVariants as halt
-use Rattle.pipeline_top.specs.declared.status.FeedWhy.TheVariants as why
-use Rattle.pipeline_top.specs.declared.status.Status.{Status}
-use Rattle.pipeline_top.specs.declared.status.Status.TheVariants as status
+use Rattle.status_texts.specs.declared.status.FeedWhy.TheVariants as why
+use Rattle.status_texts.specs.declared.status.Status.{Status}
+use Rattle.status_texts.specs.declared.status.Status.TheVariants as status
 
 abbrev pub of_shelf : ShelfFault → Halt
 of_shelf shelf.Absent = halt.Absent

@@ -1,5 +1,8 @@
+-- what public contracts cite
+pub mod Commands
 pub mod Convert
+pub mod Outside
+pub mod Statuses
+-- what only private contracts cite
 pub mod Halt
 pub mod Line
-pub mod StatusText
-pub mod Words

@@ -3,7 +3,7 @@ use Rattle.std.specs.Prelude.{◌≡◌, ℕ, List, [], ◌∷◌, ◌++◌, fal
 use Rattle.report_cut.specs.declared.piece.CutRule.{CutRule}
 use Rattle.pipeline_top.specs.Convert.{Line, empty, text, refused, converted, end_from}
 use Rattle.pipeline_top.specs.declared.line.Place.{Place}
-use Rattle.pipeline_top.specs.declared.status.Status.{Status}
+use Rattle.status_texts.specs.declared.status.Status.{Status}
 
 -- the buffer gains what the line comes to, or the line is refused
 abbrev pub PutLine : Line → List ℕ → List ℕ → Option Status → Type 0

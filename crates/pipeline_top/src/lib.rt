@@ -1,13 +1,19 @@
 //! The top calls: what the program does for each command.
 #![tactic(auto)]
 
+mod beginning;
+mod bringing;
 mod buffer;
+mod checking;
 mod convert;
+mod converting;
+mod draining;
 mod halt;
 mod line;
-mod status;
+mod showing;
+mod statuses;
 mod tool;
-mod words;
 
-pub use status::{FeedWhy, Status, status_text};
+pub use bringing::Unbrought;
+pub use status_texts::{FeedWhy, Status, status_text};
 pub use tool::run_tool;

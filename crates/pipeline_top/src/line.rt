@@ -5,7 +5,7 @@ ghost use Rattle.event_model.specs.declared.message.Message.{Message};
 ghost use Rattle.report_cut.specs.Pieces.{longest_line};
 ghost use Rattle.pipeline_top.specs.Convert.{refused, line_of, line_of_reading, read_line, longest_feed, convert_bot, behind_line, IsLineEnd};
 ghost use Rattle.pipeline_top.specs.Line.{PutLine};
-ghost use Rattle.pipeline_top.specs.declared.status.Status.TheVariants as status;
+ghost use Rattle.status_texts.specs.declared.status.Status.TheVariants as status;
 
 use crate::Status;
 use crate::buffer::Buffer;

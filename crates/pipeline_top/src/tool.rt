@@ -1,20 +1,24 @@
-ghost use Rattle.std.specs.Prelude.{◌≡◌, ◌≢◌, ◌↔◌, ◌⊎◌, ◌≤◌, List, ℕ, [], Some, None, true};
+ghost use Rattle.std.specs.Prelude.{◌≡◌, ◌↔◌, ◌≤◌, List, ℕ, false};
 ghost use Rattle.edge_traits.specs.Count.{Rose};
-ghost use Rattle.edge_traits.specs.Shelf.{count_on, content_of, lacks};
-ghost use Rattle.edge_traits.specs.Sink.{Took};
-ghost use Rattle.pipeline_top.specs.declared.status.FeedWhy.{FeedWhy};
-ghost use Rattle.pipeline_top.specs.declared.status.FeedWhy.TheVariants.{Absent, Failed};
-ghost use Rattle.pipeline_top.specs.Words.{feed_name};
-ghost use Rattle.pipeline_top.specs.Convert.{conversion, convert_bot, end_of, IsOutside, Wrote};
+ghost use Rattle.edge_traits.specs.Shelf.{count_on};
+ghost use Rattle.command_words.specs.Words.{command_of};
+ghost use Rattle.status_texts.specs.declared.status.FeedWhy.TheVariants.{Failed};
+ghost use Rattle.pipeline_top.specs.Commands.{is_command, IsTool};
 
-use crate::convert::convert_feed;
-use crate::halt::halt_status;
-use crate::{Status, words};
+use crate::Status;
+use crate::beginning::init;
+use crate::checking::check;
+use crate::converting::convert_named;
+use crate::draining::drain;
+use crate::showing::{redo, show};
 use base_types::Text;
+use command_words::{Command, command_of};
 use edge_traits::{Clock, Disk, Shelf, Sink};
 use std::alloc::Global;
+use store_commands::Shown;
 
-/// Does what the words say, as `convert --feed NAME`, and answers how it ended. The disk comes back.
+/// Does what the words say, as `drain --steps 3`, and answers how it ended. Words that are no command do nothing. The disk comes
+/// back.
 pub fn run_tool<H: Shelf, D: Disk, S: Sink, C: Clock>(
     alloc: Global,
     words: &[Text],
@@ -23,71 +27,34 @@ pub fn run_tool<H: Shelf, D: Disk, S: Sink, C: Clock>(
     out: &mut S,
     clock: &C,
 ) -> (Status, D)
-    // The words are no command, and nothing is read or written.
-    ensures words { (result.0 ≡ Status.Words) ↔ (feed_name words.now ≡ None) }
-    ensures untouched { result.0 ≡ Status.Words → (H.shelf shelf.new ≡ H.shelf shelf.old) × (S.sink out.new ≡ S.sink out.old) }
+    // What is done for each command: what it brings from the shelf, what it makes of a store, at any moment of the call and behind
+    // it, what it prints, and how it ends.
+    ensures done { IsTool D.disk D.may_leave D.left_since (command_of words.now) (record { shelf = H.shelf shelf.old; sink = S.sink out.old; sink_now = S.sink out.new; clock = C.told clock.now }) disk result.1 result.0 }
 
-    // The feed isn't there: exactly where the shelf tells that it lacks the name.
-    ensures absent { (name : List ℕ) → result.0 ≡ Status.Feed name Absent
-        → (feed_name words.now ≡ Some name) × (lacks (H.shelf shelf.old) name ≡ true) }
-    ensures lacking { (name : List ℕ) → feed_name words.now ≡ Some name → lacks (H.shelf shelf.old) name ≡ true
-        → ((result.0 ≡ Status.Feed name Absent) ⊎ (result.0 ≡ Status.Memory)) × Took (S.sink out.old) (S.sink out.new) [] }
+    // The words are no command, and nothing is read or written.
+    ensures words { (result.0 ≡ Status.Words) ↔ (is_command (command_of words.now) ≡ false) }
+    ensures untouched { result.0 ≡ Status.Words → H.shelf shelf.new ≡ H.shelf shelf.old }
 
     // The outside failed, as its counts show.
-    ensures failed { (name : List ℕ) → result.0 ≡ Status.Feed name Failed
-        → (feed_name words.now ≡ Some name) × Rose (count_on (H.shelf shelf.old) name) (count_on (H.shelf shelf.new) name) }
+    ensures disk { result.0 ≡ Status.Disk → Rose (D.disk disk).faults (D.disk result.1).faults }
     ensures sink { result.0 ≡ Status.Sink → Rose (S.sink out.old).faults (S.sink out.new).faults }
-
-    // The feed of `convert` counts as a bot of that name.
-    ensures long_line { (bot : List ℕ) (at : ℕ) → result.0 ≡ Status.LongLine bot at → bot ≡ convert_bot }
-    ensures long_feed { (bot : List ℕ) → result.0 ≡ Status.LongFeed bot → bot ≡ convert_bot }
-
-    // Where the feed is told: how its conversion ends, and what is written.
-    ensures end { (name content : List ℕ) → feed_name words.now ≡ Some name → content_of (H.shelf shelf.old) name ≡ Some content
-        → IsOutside result.0 ⊎ (result.0 ≡ end_of content) }
-    ensures written { (name content : List ℕ) → feed_name words.now ≡ Some name → content_of (H.shelf shelf.old) name ≡ Some content
-        → Wrote result.0 (S.sink out.old) (S.sink out.new) (conversion content) }
+    ensures failed { (name : List ℕ) → result.0 ≡ Status.Feed name Failed → Rose (count_on (H.shelf shelf.old) name) (count_on (H.shelf shelf.new) name) }
 
     // What stays.
-    ensures disk { result.1 ≡ disk }
     ensures told { (H.shelf shelf.new).told ≡ (H.shelf shelf.old).told }
     ensures counts { (name : List ℕ) → count_on (H.shelf shelf.old) name ≤ count_on (H.shelf shelf.new) name }
-    ensures other_counts { (name : List ℕ) → feed_name words.now ≢ Some name
-        → count_on (H.shelf shelf.new) name ≡ count_on (H.shelf shelf.old) name }
+    ensures disk_count { (D.disk disk).faults ≤ (D.disk result.1).faults }
     ensures sink_count { (S.sink out.old).faults ≤ (S.sink out.new).faults }
 {
-    match words::feed_name(words) {
+    match command_of(words) {
         None => (Status::Words, disk),
-        Some(name) => (convert(alloc, name, shelf, out), disk),
-    }
-}
-
-// Converts the feed of this name.
-fn convert<H: Shelf, S: Sink>(alloc: Global, name: &Text, shelf: &mut H, out: &mut S) -> Status
-    ensures words { result ≢ Status.Words }
-    ensures named { (other : List ℕ) (why : FeedWhy) → result ≡ Status.Feed other why → other ≡ name.now }
-    ensures absent { (other : List ℕ) → result ≡ Status.Feed other Absent → lacks (H.shelf shelf.old) other ≡ true }
-    ensures lacking { lacks (H.shelf shelf.old) name.now ≡ true
-        → ((result ≡ Status.Feed name.now Absent) ⊎ (result ≡ Status.Memory)) × Took (S.sink out.old) (S.sink out.new) [] }
-    ensures failed { (other : List ℕ) → result ≡ Status.Feed other Failed
-        → Rose (count_on (H.shelf shelf.old) other) (count_on (H.shelf shelf.new) other) }
-    ensures sink { result ≡ Status.Sink → Rose (S.sink out.old).faults (S.sink out.new).faults }
-    ensures long_line { (bot : List ℕ) (at : ℕ) → result ≡ Status.LongLine bot at → bot ≡ convert_bot }
-    ensures long_feed { (bot : List ℕ) → result ≡ Status.LongFeed bot → bot ≡ convert_bot }
-
-    ensures end { (content : List ℕ) → content_of (H.shelf shelf.old) name.now ≡ Some content
-        → IsOutside result ⊎ (result ≡ end_of content) }
-    ensures written { (content : List ℕ) → content_of (H.shelf shelf.old) name.now ≡ Some content
-        → Wrote result (S.sink out.old) (S.sink out.new) (conversion content) }
-
-    ensures told { (H.shelf shelf.new).told ≡ (H.shelf shelf.old).told }
-    ensures count { count_on (H.shelf shelf.old) name.now ≤ count_on (H.shelf shelf.new) name.now }
-    ensures other_counts { (other : List ℕ) → other ≢ name.now
-        → count_on (H.shelf shelf.new) other ≡ count_on (H.shelf shelf.old) other }
-    ensures sink_count { (S.sink out.old).faults ≤ (S.sink out.new).faults }
-{
-    match convert_feed(alloc, shelf, name, out) {
-        Ok(status) => status,
-        Err(halt) => halt_status(alloc, name, halt),
+        Some(Command::Convert { feed }) => (convert_named(alloc, feed, shelf, out), disk),
+        Some(Command::Check { bundle }) => (check(alloc, bundle, shelf, out), disk),
+        Some(Command::Init { bundle }) => init(alloc, bundle, shelf, disk, out),
+        Some(Command::Drain(ask)) => drain(alloc, ask, shelf, disk, out, clock),
+        Some(Command::Status) => show(alloc, Shown::State, disk, out),
+        Some(Command::Dumps) => show(alloc, Shown::Dumps, disk, out),
+        Some(Command::Redo { dump }) => redo(alloc, dump, disk, out, clock),
+        Some(Command::Drill { .. }) => (Status::Words, disk),
     }
 }

@@ -35,6 +35,10 @@ retries_of : WithinAll (codes "error_max_retries") 100
 retries_of None of = given_within (codes "error_max_retries") 0 100 3 (of (codes "error_max_retries")) (omega arith)
 retries_of (Some word) of = given_within (codes "error_max_retries") 0 100 3 (of (codes "error_max_retries")) (omega arith)
 
+delay_of : WithinAll (codes "error_retry_delay") 86400
+delay_of None of = given_within (codes "error_retry_delay") 0 86400 15 (of (codes "error_retry_delay")) (omega arith)
+delay_of (Some word) of = given_within (codes "error_retry_delay") 0 86400 15 (of (codes "error_retry_delay")) (omega arith)
+
 chunk_of : WithinAll (codes "chunk_size") 1048576
 chunk_of None of = omega arith
 chunk_of (Some modules.Collector) of = given_within (codes "chunk_size") 1 1048576 65536 (of (codes "chunk_size")) (omega arith)
@@ -97,6 +101,9 @@ few_instances global bot = within (codes "instances_threads") 16 global bot inst
 
 pub few_retries : (global : Members) (bot : Entry) → whole_in (set_as global bot (codes "error_max_retries")) ≤ 100
 few_retries global bot = within (codes "error_max_retries") 100 global bot retries_of
+
+pub short_delay : (global : Members) (bot : Entry) → whole_in (set_as global bot (codes "error_retry_delay")) ≤ 86400
+short_delay global bot = within (codes "error_retry_delay") 86400 global bot delay_of
 
 pub small_chunk : (global : Members) (bot : Entry) → whole_in (set_as global bot (codes "chunk_size")) ≤ 1048576
 small_chunk global bot = within (codes "chunk_size") 1048576 global bot chunk_of

@@ -7,9 +7,12 @@ pub mod Lists
 pub mod Loads
 pub mod Marks
 pub mod Names
+pub mod Naming
 pub mod Numbers
+pub mod Ordered
 pub mod Owners
 pub mod Reached
 pub mod Searches
 pub mod Tables
 pub mod Ways
+pub mod Within

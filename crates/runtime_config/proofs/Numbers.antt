@@ -1,6 +1,6 @@
 -- Numbers between two others.
 use Rattle.std.proofs.Common.{◌≡◌, ◌≤◌, ℕ, Bool, true, false, Option, Some, None, refl, subst, arith}
-use Rattle.std.specs.Prelude.{◌&&◌, nat_le, option_and_then, if◌then◌else◌}
+use Rattle.std.specs.Prelude.{◌&&◌, is_none, nat_le, option_and_then, if◌then◌else◌}
 use Rattle.std.proofs.lemmas.Bool.{and_parts, leb-true}
 use Rattle.std.proofs.lemmas.Option.{cond_some}
 use Rattle.serde_json.specs.Data.{Data}
@@ -34,3 +34,17 @@ zero_within (Some n) least most = by_test (nat_le least n && nat_le n most) refl
 pub whole_is_within : (least most : ℕ) (d : Data) → whole_in (taken_as (form.Number least most) d) ≤ most
 unfolding taken_as
 whole_is_within least most d = zero_within (option_and_then as_u64 (as_number d)) least most
+
+tested_least : (b : Bool) (least n : ℕ) → (b ≡ true → least ≤ n) → is_none (if b then Some (setting.Whole n) else None) ≡ false → least ≤ whole_in (if b then Some (setting.Whole n) else None)
+tested_least true least n within is = within refl
+tested_least false least n within is = absurd (cc (is))
+
+some_least : (o : Option ℕ) (least most : ℕ) → is_none (option_and_then (whole_within least most) o) ≡ false → least ≤ whole_in (option_and_then (whole_within least most) o)
+some_least None least most is = absurd (cc (is))
+some_least (Some n) least most is =
+    tested_least (nat_le least n && nat_le n most) least n (λ tests. leb-true least n (and_parts (nat_le least n) (nat_le n most) tests).0) is
+
+-- what is taken as a number, where it is taken as one, is at least the least
+pub least_within : (least most : ℕ) (d : Data) → is_none (taken_as (form.Number least most) d) ≡ false → least ≤ whole_in (taken_as (form.Number least most) d)
+unfolding taken_as
+least_within least most d is = some_least (option_and_then as_u64 (as_number d)) least most is

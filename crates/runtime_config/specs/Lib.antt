@@ -6,6 +6,8 @@ pub mod Table
 pub mod Reaches
 pub mod Faults
 pub mod Load
+pub mod Within
+pub mod Named
 -- what private contracts use
 pub mod Rows
 pub mod Read

@@ -1,5 +1,7 @@
 //! The parameters that are given to a bot.
 ghost use Rattle.std.specs.Prelude.{◌≡◌, ◌++◌, [], map, option_map, unwrap_or, IfOk};
+ghost use Rattle.std.specs.Option.{option_or};
+ghost use Rattle.serde_json.specs.Find.{get_member};
 ghost use Rattle.serde_json.specs.View.{view};
 ghost use Rattle.runtime_config.specs.Parameters.{parameters_of};
 ghost use Rattle.runtime_config.specs.Read.{entry_of, members_of};
@@ -14,14 +16,21 @@ use event_model::Fields;
 use serde_json::Value as Tree;
 use std::alloc::Global;
 
+/// The value under a name of a bot's own parameters, or else of those of all bots.
+pub(crate) fn given_in<'t>(global: &Object<'t>, own: &Object<'t>, name: &str) -> Option<&'t Tree>
+    ensures { option_map (λ tree. view tree.now) result ≡ option_or (get_member name.now (members_of own.now)) (get_member name.now (members_of global.now)) }
+{
+    match own.get(name) {
+        Some(tree) => Some(tree),
+        None => global.get(name),
+    }
+}
+
 /// The value of a parameter: the bot's own, or that of all bots.
 pub(crate) fn given<'t>(global: &Object<'t>, bot: &Bot<'t>, name: &str) -> Option<&'t Tree>
     ensures { option_map (λ tree. view tree.now) result ≡ given (members_of global.now) (entry_of bot.now) name.now }
 {
-    match bot.object("parameters").get(name) {
-        Some(tree) => Some(tree),
-        None => global.get(name),
-    }
+    given_in(global, &bot.object("parameters"), name)
 }
 
 static NO_PARAMETERS: [Parameter; 0] = [];

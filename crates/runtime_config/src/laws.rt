@@ -1,10 +1,14 @@
-//! Laws of parameters and of paths. Each is a clause of a function that does nothing.
-ghost use Rattle.std.specs.Prelude.{◌≡◌, ◌≤◌, ◌↔◌, ℕ, List, Some, true};
+//! Laws of parameters, of paths and of plans. Each is a clause of a function that does nothing.
+ghost use Rattle.std.specs.Prelude.{◌≡◌, ◌≤◌, ◌↔◌, ℕ, List, Ok, Some, true};
 ghost use Rattle.serde_json.specs.Data.{Data};
+ghost use Rattle.config_bundle.specs.declared.bundle.Bundle.{Bundle as AnyBundle};
+ghost use Rattle.runtime_config.specs.Load.{load};
 ghost use Rattle.runtime_config.specs.Parameters.{taken_as};
 ghost use Rattle.runtime_config.specs.Reaches.{reaches, Reaches};
 ghost use Rattle.runtime_config.specs.Runtime.{Entry};
+ghost use Rattle.runtime_config.specs.Within.{AreWithin};
 ghost use Rattle.runtime_config.specs.declared.form.Form.TheVariants as form;
+ghost use Rattle.runtime_config.specs.declared.plan.Plan.{Plan as AnyPlan};
 ghost use Rattle.runtime_config.specs.declared.setting.Setting.TheVariants as setting;
 
 /// What is taken as a number is one from the least to the most.
@@ -15,4 +19,9 @@ pub fn numbers_are_within()
 /// A bot is reached exactly where the test says so.
 pub fn reaching_is_tested()
     ensures { (bots : List Entry) (from to : Entry) → (reaches bots from to ≡ true) ↔ Reaches bots to from }
+{}
+
+/// The bots of a plan are in byte order of their names, and their numbers are within their limits.
+pub fn plans_are_within()
+    ensures { (bundle : AnyBundle) (plan : AnyPlan) → load bundle ≡ Ok plan → AreWithin plan.bots }
 {}

@@ -10,6 +10,7 @@ pub mod laws;
 mod limits;
 mod loading;
 mod module;
+mod named;
 mod object;
 mod parameter;
 mod paths;
@@ -28,6 +29,7 @@ pub use fault::LoadFault;
 pub use form::{Form, Words};
 pub use loading::load;
 pub use module::{ModuleWord, module_of};
+pub use named::named_files;
 pub use parameter::{Otherwise, Parameter, own_parameters, setting_of, shared_parameters};
 pub use plan::{
     FieldsList, Module, NamesList, NetworkList, Plan, Planned, PlannedList, Route, RouteList,

@@ -25,13 +25,12 @@ use crate::object::{Object, object_of};
 use crate::paths::known_paths;
 use crate::planning::planned;
 use crate::rules::{absent_file, bad_parameter, missing_member, unknown_module};
-use crate::runtime::bots_in;
+use crate::runtime::{bots_in, tree_in};
 use crate::whole::Whole;
 use crate::wires::graph_of;
 use crate::{LoadFault, Plan, Planned, PlannedList};
 use base_types::OutOfMemory;
 use config_bundle::Bundle;
-use event_model::{ReadFault, read_tree};
 use serde_json::Value as Tree;
 use std::alloc::Global;
 
@@ -231,11 +230,7 @@ fn tree_of(alloc: Global, runtime: &[u8]) -> Result<Option<Tree>, OutOfMemory>
     if runtime.len() > LONGEST_RUNTIME {
         return Ok(None);
     }
-    match read_tree(alloc, runtime) {
-        Ok(tree) => Ok(Some(tree)),
-        Err(ReadFault::OutOfMemory) => Err(OutOfMemory),
-        Err(_) => Ok(None),
-    }
+    tree_in(alloc, runtime)
 }
 
 /// The bots of a bundle with their checked parameters, in byte order of their names; or its first fault: `Json`, or of the

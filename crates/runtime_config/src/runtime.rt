@@ -4,16 +4,29 @@ ghost use Rattle.std.specs.FinMap.{is_sorted};
 ghost use Rattle.std.specs.Ordering.{nat_cmp};
 ghost use Rattle.std.specs.Cmp.Lexicographic.{slice_cmp};
 ghost use Rattle.serde_json.specs.View.{view, members_view};
+ghost use Rattle.event_model.specs.Trees.{tree_in};
 ghost use Rattle.runtime_config.specs.Read.{entries_of, entry_of, IsAdded};
 ghost use Rattle.runtime_config.specs.Runtime.{bots_in, bot_of};
 
 use crate::bot::Bot;
 use crate::object::object_of;
 use base_types::{BotName, OutOfMemory};
+use event_model::{ReadFault, read_tree};
 use serde_json::{Map, Value as Tree};
 use std::alloc::Global;
 
 const GLOBAL_KEY: &str = "global";
+
+/// The tree of a runtime text, where it has one.
+pub(crate) fn tree_in(alloc: Global, runtime: &[u8]) -> Result<Option<Tree>, OutOfMemory>
+    ensures { IfOk result (λ tree. option_map view tree ≡ tree_in runtime.now) }
+{
+    match read_tree(alloc, runtime) {
+        Ok(tree) => Ok(Some(tree)),
+        Err(ReadFault::OutOfMemory) => Err(OutOfMemory),
+        Err(_) => Ok(None),
+    }
+}
 
 // The bot of this name, where it is one and its value is an object.
 fn bot_of<'t>(alloc: Global, name: &str, tree: &'t Tree) -> Result<Option<Bot<'t>>, OutOfMemory>

@@ -58,7 +58,7 @@ fn is_word(words: Words, text: &str) -> bool
     }
 }
 
-fn is_file_name(text: &str) -> bool
+pub(crate) fn is_file_name(text: &str) -> bool
     ensures { result ≡ is_file_name text.now }
 {
     !text.is_empty() && text.len() <= 255

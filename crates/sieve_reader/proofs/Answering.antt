@@ -92,12 +92,14 @@ ended [] e = refl
 ended (l ∷ ls) e = absurd (cc)
 
 module _ (text : List ℕ) (tokens : List Token) (are : AreTokens text tokens) where
+  pub read_file : (xs : List SieveItem) → (rest : List Lexeme) × (file judged 64 (lexemes text tokens) ≡ Ok (xs, rest)) → IsFile IsRight 64 (lexemes text tokens) xs
+  read_file xs read =
+      let nothing : read.0 ≡ [] = ended read.0 (items_end is_end (an_item judged 64) (suc (length (lexemes text tokens))) [] (lexemes text tokens) xs read.0 read.1) in
+      let whole : file judged 64 (lexemes text tokens) ≡ Ok (xs, []) = read.1 ∙ ap (λ (l : List Lexeme). Ok (xs, l)) nothing in
+      file_sound judged 64 (lexemes text tokens) xs whole
+
   pub read_sound : (s : SieveView) → IsReadFrom text tokens s → Reads text s
-  read_sound s h =
-      let (rest, read) = h.0 in
-      let nothing : rest ≡ [] = ended rest (items_end is_end (an_item judged 64) (suc (length (lexemes text tokens))) [] (lexemes text tokens) s.items rest read) in
-      let whole : file judged 64 (lexemes text tokens) ≡ Ok (s.items, []) = read ∙ ap (λ (l : List Lexeme). Ok (s.items, l)) nothing in
-      (tokens, are, file_sound judged 64 (lexemes text tokens) s.items whole, h.1, h.2)
+  read_sound s h = (tokens, are, read_file s.items h.0, h.1, h.2)
 
   refused_for : (why : told.Cause) (at : ℕ) → IsRefusedFor text tokens why at → IsRefused text why at
   refused_for why at h =

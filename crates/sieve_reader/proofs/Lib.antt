@@ -7,6 +7,7 @@ mod Cursors
 mod Digits
 mod Files
 mod FirstWrong
+pub mod FixedValues
 mod Going
 mod GoingActions
 mod GoingConds
@@ -25,5 +26,6 @@ mod Rows
 mod Tests
 mod TestsRead
 mod Turns
+pub mod Weights
 mod Wider
 mod Windows

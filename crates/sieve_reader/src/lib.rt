@@ -5,6 +5,7 @@ mod action;
 mod boxed;
 mod collect;
 mod conds;
+mod copying;
 mod cursor;
 mod fault;
 mod laws;

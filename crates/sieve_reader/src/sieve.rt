@@ -1,5 +1,6 @@
 ghost use Rattle.std.specs.Prelude.{◌≡◌, ◌<◌, ◌≤◌, ◌-◌, ◌^◌, drop, length, List, IfOk, IfErr};
 ghost use Rattle.sieve_tokens.specs.Token.{AreTokens};
+ghost use Rattle.sieve_reader.specs.Fixed.{all_fixed, AreCanonical};
 ghost use Rattle.sieve_reader.specs.Leaf.{judged};
 ghost use Rattle.sieve_reader.specs.Lexeme.{lexemes, Lexeme};
 ghost use Rattle.sieve_reader.specs.Outcome.{fault_at, IsReadFault, IsReadFrom};
@@ -11,6 +12,7 @@ ghost use Rattle.sieve_reader.specs.declared.sieve.SieveFault.TheVariants.{OutOf
 
 use crate::SieveItemList;
 use crate::collect::{paths, patterns};
+use crate::copying::{copy_items, copy_spots, copy_texts};
 use crate::cursor::Cursor;
 use crate::fault::{Cause, Fault};
 use crate::statements::file;
@@ -35,6 +37,7 @@ pub struct Sieve {
 
 impl Model for Sieve {
     ghost use Rattle.std.specs.Coded.{codes};
+    ghost use Rattle.sieve_reader.specs.Fixed.{all_fixed, AreCanonical};
     ghost use Rattle.sieve_reader.specs.SieveView.{SieveView};
     ghost use Rattle.sieve_reader.specs.contracts.tree.SieveItem as items_code;
 
@@ -43,6 +46,8 @@ impl Model for Sieve {
     ghost coded = { Prim.hlevel (codes, items_code.the_row.coded) };
 
     ghost view = { λ s. record { items = s.items; patterns = s.patterns; paths = s.paths } };
+
+    ghost invariant = { λ s. AreCanonical (all_fixed s.items) };
 }
 
 /// Why a text is no sieve, with the offset in bytes.
@@ -72,9 +77,10 @@ impl From<OutOfMemory> for SieveFault {
 }
 
 impl Sieve {
-    /// Its items, in the order in which they are written.
+    /// Its items, in the order in which they are written. Each value that they set as it stands is canonical for its field.
     pub fn items(&self) -> &SieveItemList
-        ensures { result.now ≡ self.now.items }
+        ensures items { result.now ≡ self.now.items }
+        ensures fixed { AreCanonical (all_fixed result.now) }
     {
         &self.items
     }
@@ -91,6 +97,16 @@ impl Sieve {
         ensures { result.now ≡ self.now.paths }
     {
         self.paths.as_slice()
+    }
+
+    pub fn copy(&self, alloc: Global) -> Result<Sieve, OutOfMemory>
+        ensures { IfOk result (λ sieve. sieve ≡ self.now) }
+    {
+        Ok(Sieve {
+            items: copy_items(alloc, self.items.as_slice())?,
+            patterns: copy_texts(alloc, self.patterns.as_slice())?,
+            paths: copy_spots(alloc, self.paths.as_slice())?,
+        })
     }
 }
 
@@ -122,6 +138,7 @@ fn read_items(alloc: Global, text: &[u8], tokens: &[Token]) -> Result<SieveItemL
     requires short { length text.now < 2 ^ 32 }
     requires tokens { AreTokens text.now tokens.now }
     ensures items { IfOk result (λ items. (rest : List Lexeme) × (spec.file judged 64 (lexemes text.now tokens.now) ≡ Ok (items, rest))) }
+    ensures fixed { IfOk result (λ items. AreCanonical (all_fixed items)) }
     ensures fault { IfErr result (IsReadFault text.now tokens.now) }
 {
     let mut cursor = Cursor::new(text, tokens);

@@ -1,7 +1,7 @@
 -- How a call on a store goes on from what its disk stood for.
-use Rattle.std.proofs.Common.{◌≡◌, ◌⊎◌, ◌≤◌, ◌+◌, ◌-◌, inl, inr, ℕ, List, [], ◌++◌, length, take, drop, take_all, sym, ap, ap₂, subst, ◌∙◌, arith, append_assoc, length-append}
+use Rattle.std.proofs.Common.{◌≡◌, ◌⊎◌, ◌≤◌, ◌+◌, ◌-◌, inl, inr, ⊎_elim, ℕ, List, [], ◌++◌, length, take, drop, take_all, refl, sym, ap, ap₂, subst, ◌∙◌, arith, append_assoc, length-append}
 use Rattle.std.proofs.Math.Seq.{take-append-add, take-nil, drop-append-add, drop-length}
-use Rattle.std.proofs.lemmas.List.{append-nil}
+use Rattle.std.proofs.lemmas.List.{append-nil, drop_all}
 use Rattle.edge_traits.specs.Disk.{DiskView, Image, Leaves}
 use Rattle.edge_traits.proofs.Moments.{run_on, widened}
 use Rattle.step_code.specs.declared.base.Base.{Base}
@@ -15,7 +15,14 @@ use Rattle.journal_book.specs.Opening.{IsReopened, StandsNow}
 use Rattle.book_runs.specs.GoesOn.{GoesOn}
 use Rattle.book_runs.proofs.Going.{legal-append}
 use Rattle.seal_laws.proofs.Histories.{legal_whole, seals}
-use Rattle.store_calls.specs.Calls.{IsCall, IsOpened}
+use Rattle.store_calls.specs.Calls.{IsCall, IsOpened, StandsAmid, StandsOn}
+
+-- what stands for what was read of a history stands for that history
+narrow : (m : Meaning) (first : Base) (steps more rest : List Step) (n : ℕ) (image : Image) → n ≤ length more → rest ≡ [] → StandsFor m first (steps ++ take n more) rest image → StandsFor m first steps more image
+narrow m first steps more rest n image within none stands =
+    let nothing : take stands.count rest ≡ [] = ap (take stands.count) none ∙ take-nil stands.count in
+    let history : (steps ++ take n more) ++ take stands.count rest ≡ steps ++ take n more = ap (λ (ss : List Step). (steps ++ take n more) ++ ss) nothing ∙ append-nil (steps ++ take n more) in
+    record { count = n; within = within; stands = subst (λ (h : List Step). Stands m first image h) history stands.stands }
 
 module _ {D R : Type 0} {disk : D → DiskView} {may_leave : D → ℕ → List ℕ → Type 0} {left_since : D → ℕ → Image → Type 0} {m : Meaning} (first : Base) (steps more made : List Step) (old : D) (opened later : BookView D R)
     (is : IsOpened disk may_leave left_since m first steps more old opened) (run : GoesOn disk may_leave left_since m opened later made) where
@@ -82,7 +89,7 @@ module _ {D R : Type 0} {disk : D → DiskView} {may_leave : D → ℕ → List 
 
   -- ---- legal
 
-  sealed_state : IsSealOf (replay m first read) opened.state
+  pub sealed_state : IsSealOf (replay m first read) opened.state
   sealed_state =
       let behind = seals m (replay m first past) opened.base opened.steps is.reopened.kept.seals in
       subst (λ (s : Base). IsSealOf (replay m first read) s) (sym is.state)
@@ -94,10 +101,34 @@ module _ {D R : Type 0} {disk : D → DiskView} {may_leave : D → ℕ → List 
   pub called : IsCall disk may_leave left_since m first steps more old later.disk made (later.kept - opened.kept)
   called = record { count = is.reopened.count; within = is.reopened.within; any_moment = amid; now = stands_now; legal = legal_now }
 
+  pub count_called : called.count ≡ is.reopened.count
+  unfolding called
+  count_called = refl
+
   pub called_durably : later.kept ≡ length later.steps → IsCall disk may_leave left_since m first steps more old later.disk made (length made)
   called_durably all =
       let number : later.kept - opened.kept ≡ length made = omega (arith, all, is.all, ap length steps_now, length-append opened.steps made) in
       subst (λ (n : ℕ). IsCall disk may_leave left_since m first steps more old later.disk made n) number called
+
+  -- a run that makes no step leaves the history as it stood
+  pub still_stands : made ≡ [] → StandsOn disk may_leave left_since m first steps more old later.disk
+  still_stands none =
+      let n = called.count in
+      let still : (image : Image) → StandsAmid m first steps more (steps ++ take n more) made image → StandsFor m first steps more image =
+      λ image. ⊎_elim (λ was. was) (narrow m first steps more made n image called.within none) in
+      let durable = later.kept - opened.kept in
+      let kept : (steps ++ take n more) ++ take durable made ≡ steps ++ take n more =
+      ap (λ (ss : List Step). (steps ++ take n more) ++ take durable ss) none ∙ ap (λ (ss : List Step). (steps ++ take n more) ++ ss) (take-nil durable) ∙ append-nil (steps ++ take n more) in
+      let rest : drop durable made ≡ [] = ap (drop durable) none ∙ drop_all durable [] (omega arith) in
+      record {
+        any_moment = widened still called.any_moment;
+        now = record {
+          files = called.now.files;
+          tells = called.now.tells;
+          each = λ image left.
+              narrow m first steps more (drop durable made) n image called.within rest (subst (λ (h : List Step). StandsFor m first h (drop durable made) image) kept (called.now.each image left));
+        };
+      }
 
 -- what was read of a history is one that the disk stood for
 pub stands_read : {D R : Type 0} {disk : D → DiskView} {may_leave : D → ℕ → List ℕ → Type 0} {m : Meaning} (first : Base) (steps more : List Step) (opened : BookView D R) → opened.kept ≡ length opened.steps

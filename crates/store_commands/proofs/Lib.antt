@@ -1,1 +1,5 @@
+mod Begun
+mod Completed
+mod RedoEnds
+mod Redone
 mod Telling

@@ -20,6 +20,10 @@ shown_open m files what s end.Memory old new open_in printed = printed
 shown_open m files what s end.Disk old new open_in printed = absurd printed
 shown_open m files what s (end.Store have) old new open_in printed = absurd printed
 shown_open m files what s (end.Damaged file at) old new open_in printed = absurd printed
+shown_open m files what s end.Refused old new open_in printed = absurd printed
+shown_open m files what s (end.NoDump n) old new open_in printed = absurd printed
+shown_open m files what s (end.Spent next) old new open_in printed = absurd printed
+shown_open m files what s (end.Full bytes) old new open_in printed = absurd printed
 
 pub shown_fault : (m : Meaning) (files : Image) (what : Shown) (told : Option Image) (f : BookFault) (sink : SinkView) → told ≡ Some files → IsReopenFault m told f → IsShown m files what (end_of f) sink sink
 shown_fault m files what told fault.Disk sink is bad = Took-nothing sink

@@ -15,6 +15,8 @@ use Rattle.store_image.specs.Files.{root_file}
 use Rattle.store_image.specs.Opens.{Opens}
 use Rattle.journal_book.specs.declared.book_fault.BookFault.{BookFault}
 use Rattle.journal_book.specs.declared.book_fault.BookFault.TheVariants as fault
+use Rattle.journal_book.specs.declared.stage_refusal.StageRefusal.{StageRefusal}
+use Rattle.journal_book.specs.declared.stage_refusal.StageRefusal.TheVariants as refusal
 use Rattle.store_commands.specs.declared.end.StoreEnd.{StoreEnd}
 use Rattle.store_commands.specs.declared.end.StoreEnd.TheVariants as end
 use Rattle.store_commands.specs.declared.printing.Shown.{Shown}
@@ -42,16 +44,28 @@ IsShown m files what end.Memory old new = Took old new []
 IsShown m files what end.Disk old new = Took old new []
 IsShown m files what (end.Store have) old new = (have ≡ 0) × (files root_file ≡ []) × Took old new []
 IsShown m files what (end.Damaged file at) old new = (0 < length (files root_file)) × IsDamagedStore m files file at × Took old new []
+IsShown m files what end.Refused old new = ⊥
+IsShown m files what (end.NoDump n) old new = ⊥
+IsShown m files what (end.Spent next) old new = ⊥
+IsShown m files what (end.Full bytes) old new = ⊥
 
 -- ---- what private contracts cite
 
--- what comes of a fault of opening
+-- what comes of a fault of making or opening a store, or of completing its outputs
 abbrev pub end_of : BookFault → StoreEnd
 end_of fault.Disk = end.Disk
 end_of (fault.Damaged file at) = end.Damaged file at
 end_of (fault.Store have) = end.Store have
-end_of fault.Refused = end.Memory
+end_of fault.Refused = end.Refused
 end_of fault.OutOfMemory = end.Memory
+
+-- what comes of a refusal of the step that redoes this dump; a book that was just opened isn't broken
+abbrev pub refusal_end : ℕ → StageRefusal → StoreEnd
+refusal_end dump refusal.Broken = end.Memory
+refusal_end dump (refusal.Step part) = end.NoDump dump
+refusal_end dump (refusal.Spent next) = end.Spent next
+refusal_end dump (refusal.Full bytes) = end.Full bytes
+refusal_end dump refusal.OutOfMemory = end.Memory
 
 -- a text was printed, a front of it where the sink failed, and nothing where memory ran out
 abbrev pub IsPrinted : List ℕ → StoreEnd → SinkView → SinkView → Type 0
@@ -61,3 +75,7 @@ IsPrinted text end.Memory old new = Took old new []
 IsPrinted text end.Disk old new = ⊥
 IsPrinted text (end.Store have) old new = ⊥
 IsPrinted text (end.Damaged file at) old new = ⊥
+IsPrinted text end.Refused old new = ⊥
+IsPrinted text (end.NoDump n) old new = ⊥
+IsPrinted text (end.Spent next) old new = ⊥
+IsPrinted text (end.Full bytes) old new = ⊥

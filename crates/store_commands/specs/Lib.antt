@@ -1,1 +1,5 @@
+-- what public contracts cite
 pub mod Ends
+pub mod Begun
+pub mod Redone
+pub mod Completed

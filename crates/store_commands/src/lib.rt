@@ -1,10 +1,20 @@
-//! Commands on a store that make no step: what is shown of its state.
+//! Commands on a store: one is made, what is shown of its state, its outputs are completed, and a message that was put aside
+//! is redone.
 #![tactic(auto)]
 
+mod beginning;
+mod completing;
 mod end;
 mod printing;
+mod redoing;
 mod showing;
 
+pub use beginning::{find_store, init};
+pub use completing::complete;
 pub use end::StoreEnd;
-pub use printing::Shown;
+pub use printing::{Shown, print_summary};
+pub use redoing::redo;
 pub use showing::show;
+
+/// The codes of a generation's steps have at most so many bytes together.
+pub const STEP_BYTES: u64 = 67_108_864;

@@ -1,12 +1,12 @@
 ghost use Rattle.std.specs.Prelude.{◌≡◌, ◌≤◌};
-ghost use Rattle.state_texts.specs.Texts.{state_text};
+ghost use Rattle.state_texts.specs.Texts.{state_text, summary};
 ghost use Rattle.store_commands.specs.Ends.{shown_text, IsPrinted};
 
 use crate::StoreEnd;
 use ack_steps::Core;
 use base_types::OutOfMemory;
 use edge_traits::{Failed, Sink, write_all};
-use state_texts::state_text;
+use state_texts::{state_text, summary_text};
 use std::alloc::Global;
 use step_code::Rules;
 
@@ -49,5 +49,20 @@ fn print_state<R: Rules, S: Sink>(alloc: Global, core: &Core<R>, out: &mut S) ->
     match write_all(out, text.bytes()) {
         Ok(()) => StoreEnd::Done,
         Err(Failed) => StoreEnd::Sink,
+    }
+}
+
+/// Prints the summary of a state, and answers `Done`, `Sink` where the output failed, or `Memory`: nothing is printed then.
+pub fn print_summary<R: Rules, S: Sink>(alloc: Global, core: &Core<R>, out: &mut S) -> StoreEnd
+    ensures printed { IsPrinted (summary core.now.state) result (S.sink out.old) (S.sink out.new) }
+    ensures count { (S.sink out.old).faults ≤ (S.sink out.new).faults }
+{
+    let counts = match summary_text(alloc, core) {
+        Ok(counts) => counts,
+        Err(OutOfMemory) => return StoreEnd::Memory,
+    };
+    match write_all(out, counts.bytes()) {
+        Ok(()) => StoreEnd::Done,
+        Err(_) => StoreEnd::Sink,
     }
 }

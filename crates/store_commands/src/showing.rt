@@ -9,14 +9,11 @@ ghost use Rattle.store_commands.specs.Ends.{IsShown};
 
 use crate::end::end_of;
 use crate::printing::print;
-use crate::{Shown, StoreEnd};
+use crate::{STEP_BYTES, Shown, StoreEnd};
 use edge_traits::{Disk, Sink};
 use journal_book::Book;
 use std::alloc::Global;
 use step_code::Rules;
-
-// The codes of a generation's steps may have so many bytes together.
-const STEP_BYTES: u64 = 67_108_864;
 
 /// Opens a store, and prints what is asked for of its state. No step is made. The disk comes back.
 pub fn show<D: Disk, R: Rules, S: Sink>(

@@ -2,4 +2,10 @@
 #![tactic(auto)]
 
 #[cfg(test)]
+mod begun;
+#[cfg(test)]
+mod fixtures;
+#[cfg(test)]
+mod redone;
+#[cfg(test)]
 mod shown;

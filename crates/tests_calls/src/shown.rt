@@ -1,4 +1,5 @@
-use base_types::{Blob, NumberList};
+use crate::fixtures::{numbers, sink};
+use base_types::Blob;
 use edge_memory::{MemDisk, MemSink};
 use edge_traits::{Disk, Sink};
 use journal_book::Book;
@@ -19,14 +20,6 @@ fn stored<D: Disk + Drop, R: Rules>(alloc: Global, disk: D, rules: R) -> Result<
     }
 }
 
-fn numbers(alloc: Global, number: u64) -> Result<NumberList, Fail> {
-    let mut list = NumberList::new(alloc);
-    match list.push(number) {
-        Ok(()) => Ok(list),
-        Err(_) => Err(Fail::from("memory")),
-    }
-}
-
 // What a command prints, and how it ends. The disk is let go.
 fn shown<D: Disk + Drop, R: Rules, S: Sink>(
     alloc: Global,
@@ -41,10 +34,6 @@ fn shown<D: Disk + Drop, R: Rules, S: Sink>(
 
 fn store(alloc: Global) -> Result<MemDisk, Fail> {
     stored(alloc, MemDisk::new(alloc), TinyRules)
-}
-
-fn sink(alloc: Global) -> MemSink {
-    MemSink::new(alloc, NumberList::new(alloc))
 }
 
 #[test]

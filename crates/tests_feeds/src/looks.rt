@@ -1,11 +1,13 @@
 //! What collectors find in their feeds.
-ghost use Rattle.std.specs.Prelude.{◌≤◌};
+ghost use Rattle.std.specs.Prelude.{◌≤◌, IfOk};
+ghost use Rattle.edge_traits.specs.Shelf.{ShelfView};
 ghost use Rattle.step_code.specs.Sound.{last_number};
+ghost use Rattle.collector_feeds.specs.Standing.{IsReady};
 
-use base_types::{Blob, NumberList, Text};
+use base_types::{Blob, BotName, NumberList, Text};
 use collector_feeds::{CollectorFeed, Found, LookFault, give_back, look};
 use edge_memory::MemShelf;
-use edge_traits::Shelf;
+use edge_traits::{Shelf, Source};
 use std::alloc::Global;
 use std::test::Fail;
 use step_code::FeedFacts;
@@ -43,16 +45,27 @@ fn text(alloc: Global, bytes: &[u8]) -> Result<Text, Fail> {
     }
 }
 
-// One look at an offset of `feed.csv`, with pieces of 8 bytes and three tries more.
-fn look_once<H: Shelf>(alloc: Global, shelf: &mut H, at: u64, replicate: bool) -> Result<Seen, Fail>
-    requires { at ≤ last_number }
+// `feed.csv`, in pieces of 8 bytes, with three tries more.
+#[tactic(auto, using(crate::proofs::Closed::closed_ready))]
+fn feed_of<S: Source>(alloc: Global, replicate: bool) -> Result<CollectorFeed<S>, Fail>
+    ensures { (shelf : ShelfView) → IfOk result (IsReady shelf) }
 {
     let facts = FeedFacts {
         file: text(alloc, b"feed.csv")?,
         chunk_size: 8,
         replicate,
     };
-    let mut feed = CollectorFeed::new(alloc, &facts, 3)?;
+    match BotName::new(b"in") {
+        Ok(bot) => Ok(CollectorFeed::new(alloc, bot, &facts, 3)?),
+        Err(_) => Err(Fail::from("no name")),
+    }
+}
+
+// One look at an offset.
+fn look_once<H: Shelf>(alloc: Global, shelf: &mut H, at: u64, replicate: bool) -> Result<Seen, Fail>
+    requires { at ≤ last_number }
+{
+    let mut feed = feed_of(alloc, replicate)?;
     let found = look(alloc, &mut feed, shelf, at);
     let seen = answer(&found);
     give_back(feed, shelf);
@@ -142,5 +155,49 @@ fn failures_are_tried_again(rt: HostRuntime) -> Result<(), Fail> {
         let found = look_once(alloc, &mut shelf, 0, false)?;
         assert_eq!(rt; found, *want, "{fetches} fetches and {reads} reads fail");
     }
+    Ok(())
+}
+
+// A look at an offset of a feed.
+fn look_at<H: Shelf>(
+    alloc: Global,
+    feed: &mut CollectorFeed<H::Src>,
+    shelf: &mut H,
+    at: u64,
+) -> Seen
+    requires ready { IsReady (H.shelf shelf.old) feed.old }
+    requires near { at ≤ last_number }
+    ensures { IsReady (H.shelf shelf.new) feed.new }
+{
+    let found = look(alloc, feed, shelf, at);
+    answer(&found)
+}
+
+// Looks one after the other at one feed.
+#[test]
+fn a_feed_is_looked_at_anywhere(rt: HostRuntime) -> Result<(), Fail> {
+    let alloc = rt.alloc();
+    let mut shelf = MemShelf::new(alloc, NumberList::new(alloc));
+    let content = Blob::new(alloc, b"line one\nline two\n")?;
+    shelf.put(
+        alloc,
+        &text(alloc, b"feed.csv")?,
+        &content,
+        NumberList::new(alloc),
+    )?;
+    let mut feed = feed_of(alloc, false)?;
+    let first = look_at(alloc, &mut feed, &mut shelf, 0);
+    let second = look_at(alloc, &mut feed, &mut shelf, 9);
+    let again = look_at(alloc, &mut feed, &mut shelf, 9);
+    let end = look_at(alloc, &mut feed, &mut shelf, 18);
+    let short = look_at(alloc, &mut feed, &mut shelf, 30);
+    let anew = look_at(alloc, &mut feed, &mut shelf, 0);
+    give_back(feed, &mut shelf);
+    assert_eq!(rt; first, Seen::Piece(9));
+    assert_eq!(rt; second, Seen::Piece(18));
+    assert_eq!(rt; again, Seen::Piece(18));
+    assert_eq!(rt; end, Seen::End);
+    assert_eq!(rt; short, Seen::Short(18));
+    assert_eq!(rt; anew, Seen::Piece(9));
     Ok(())
 }

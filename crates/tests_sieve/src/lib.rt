@@ -2,6 +2,8 @@
 #![tactic(auto)]
 
 #[cfg(test)]
+mod events;
+#[cfg(test)]
 mod hostile;
 #[cfg(test)]
 mod hostile_sieves;
@@ -10,9 +12,17 @@ mod lists;
 #[cfg(test)]
 mod nesting;
 #[cfg(test)]
+mod operators;
+#[cfg(test)]
+mod random;
+#[cfg(test)]
+mod readback;
+#[cfg(test)]
 mod reading;
 #[cfg(test)]
 mod refusals;
+#[cfg(test)]
+mod running;
 #[cfg(test)]
 mod tokens;
 #[cfg(test)]

@@ -7,4 +7,4 @@ mod order;
 
 pub use actor::Actor;
 pub use laws::{full_hands_fit, idle_is_told, nothing_waits, takes_fit};
-pub use order::{first_actor, is_idle};
+pub use order::{first_actor, has_finished, is_idle};

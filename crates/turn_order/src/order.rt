@@ -106,7 +106,8 @@ fn has_waiting<R: Rules>(core: &Core<R>, bot: &BotName) -> bool
     core.front_no(bot).is_some()
 }
 
-fn has_finished<R: Rules>(core: &Core<R>, bot: &BotName) -> bool
+/// Whether a collector has read its feed to the end.
+pub fn has_finished<R: Rules>(core: &Core<R>, bot: &BotName) -> bool
     ensures { result ≡ has_finished bot.now core.now.state }
 {
     match core.feed_of(bot) {

@@ -12,20 +12,20 @@ pub returns-in-Err-OutOfMemory-clause-counted : goal.returns-in-Err-OutOfMemory-
 returns-in-Err-OutOfMemory-clause-counted g c = λ first rose.
     c.try_once.ensures.counted first (c.tries.invariant.counted first (subst (λ (f : FeedView). RoseBy f.failed first (all_faults (g.H.Shelf.shelf c.args.shelf.now) f)) (sym c.feed.view_is) rose))
 
-pub returns-then-feed-clause-counted : goal.returns-then-feed-clause-counted
-returns-then-feed-clause-counted g c = λ first rose.
-    c.try_once.ensures.counted first (c.tries.invariant.counted first (subst (λ (f : FeedView). RoseBy f.failed first (all_faults (g.H.Shelf.shelf c.args.shelf.now) f)) (sym c.feed.view_is) rose))
+pub returns-clause-counted : goal.returns-clause-counted
+returns-clause-counted g c = λ first rose.
+    c.tries.invariant.counted first (subst (λ (f : FeedView). RoseBy f.failed first (all_faults (g.H.Shelf.shelf c.args.shelf.now) f)) (sym c.feed.view_is) rose)
 
 pub tries-preserved : goal.tries-preserved
 tries-preserved g c =
     let kept = c.tries.invariant in let made = c.try_once.ensures in
     let mid = g.H.Shelf.shelf c.tries.shelf in let now = g.H.Shelf.shelf c.try_once.new.shelf in
     record {
-      stands = c.in-Err-Failed.ensures.stands;
+      ready = made.ready;
       none = made.none;
+      bot = made.bot ∙ kept.bot;
       facts = made.facts ∙ kept.facts;
       retries = made.retries ∙ kept.retries;
-      tried = omega (arith, c.if-feed.false, ap (λ f. f.failed) c.feed-in-tries.view_is, ap (λ f. f.retries) c.feed-in-tries.view_is);
       counted = λ n rose. made.counted n (kept.counted n rose);
       told = made.told ∙ kept.told;
       count = omega (arith, kept.count, subst (λ (f : FeedFacts). count_on mid f.file ≤ count_on now f.file) kept.facts made.count);

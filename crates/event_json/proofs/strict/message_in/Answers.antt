@@ -1,6 +1,7 @@
 use Rattle.std.proofs.Common.{sym, subst, ◌∙◌, IfSome}
 use Rattle.std.proofs.lemmas.Option.{none-some}
 use Rattle.event_json.specs.Decode.{IsTextOfFields}
+use Rattle.event_json.proofs.Exact.{strict-none, strict-reads}
 use Rattle.event_json.proofs.Messages.{read_message, no_message, the_message, same_message}
 use Rattle.event_json.proofs.strict.message_in.Goals as goal
 
@@ -21,3 +22,16 @@ pub returns-in-None-clause-complete : goal.returns-in-None-clause-complete
 returns-in-None-clause-complete c =
     λ message of. absurd (none-some message.fields (sym c.in-None.is
     ∙ (the_message c.args.bytes.now c.in-Some.text.now c.in-Some.kind c.in_ok-fields.field-0 message c.in-Some.ensures c.in_ok-fields.ensures.complete of).1))
+
+pub returns-in_default-clause-exact : goal.returns-in_default-clause-exact
+returns-in_default-clause-exact c = sym (strict-none c.args.bytes.now (λ message of. no_message c.args.bytes.now message c.in_default.ensures of))
+
+pub returns-in-Some-2-clause-exact : goal.returns-in-Some-2-clause-exact
+returns-in-Some-2-clause-exact c =
+    sym (strict-reads c.args.bytes.now _ (read_message c.args.bytes.now c.in-Some.text.now c.in-Some.kind c.in-Some-2.fields c.in-Some.ensures
+    (subst (λ found. IfSome found (IsTextOfFields c.in-Some.text.now)) c.in-Some-2.is c.in_ok-fields.ensures.sound)))
+
+pub returns-in-None-clause-exact : goal.returns-in-None-clause-exact
+returns-in-None-clause-exact c =
+    sym (strict-none c.args.bytes.now (λ message of. absurd (none-some message.fields (sym c.in-None.is
+    ∙ (the_message c.args.bytes.now c.in-Some.text.now c.in-Some.kind c.in_ok-fields.field-0 message c.in-Some.ensures c.in_ok-fields.ensures.complete of).1))))

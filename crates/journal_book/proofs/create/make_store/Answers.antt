@@ -1,4 +1,4 @@
-use Rattle.std.proofs.Common.{◌≡◌, [], ◌∷◌, List, ℕ, refl, sym, ◌∙◌, ap, subst, arith}
+use Rattle.std.proofs.Common.{◌≡◌, [], ◌∷◌, List, ℕ, length, refl, sym, ◌∙◌, ap, subst, arith}
 use Rattle.disk_journal.specs.Journal.{IsAtRest}
 use Rattle.step_code.specs.declared.base.Base.{Base}
 use Rattle.step_code.specs.Code.{code_of_base, first_format}
@@ -26,3 +26,25 @@ returns-in-Ok-make_files-clause-empty g c = λ files told. is_nothing _ c.in_ok-
 
 pub returns-in-Err-make_files-clause-fault : goal.returns-in-Err-make_files-clause-fault
 returns-in-Err-make_files-clause-fault g c = c.in-Err-make_files.ensures.fault g.R.Rules.meaning c.args.bundle.now (g.D.Disk.disk c.args.disk.now).told
+
+-- the root was empty
+pub returns-in-Err-clause-left_alone : goal.returns-in-Err-clause-left_alone
+returns-in-Err-clause-left_alone g c = λ files told some. absurd (omega (arith, some, ap length (is_nothing _ c.in_ok-have.have (c.in_ok-have.ensures.len files told) c.if-have-ne0.false)))
+
+pub returns-in-Err-clause-refused_empty : goal.returns-in-Err-clause-refused_empty
+returns-in-Err-clause-refused_empty g c = λ files told refused. is_nothing _ c.in_ok-have.have (c.in_ok-have.ensures.len files told) c.if-have-ne0.false
+
+pub returns-in-Err-begin-clause-left_alone : goal.returns-in-Err-begin-clause-left_alone
+returns-in-Err-begin-clause-left_alone g c = λ files told some. absurd (omega (arith, some, ap length (is_nothing _ c.in_ok-have.have (c.in_ok-have.ensures.len files told) c.if-have-ne0.false)))
+
+pub returns-in-Err-begin-clause-refused_empty : goal.returns-in-Err-begin-clause-refused_empty
+returns-in-Err-begin-clause-refused_empty g c = λ files told refused. is_nothing _ c.in_ok-have.have (c.in_ok-have.ensures.len files told) c.if-have-ne0.false
+
+pub returns-in-Ok-make_files-clause-left_alone : goal.returns-in-Ok-make_files-clause-left_alone
+returns-in-Ok-make_files-clause-left_alone g c = λ files told some. absurd (omega (arith, some, ap length (is_nothing _ c.in_ok-have.have (c.in_ok-have.ensures.len files told) c.if-have-ne0.false)))
+
+pub returns-in-Err-make_files-clause-left_alone : goal.returns-in-Err-make_files-clause-left_alone
+returns-in-Err-make_files-clause-left_alone g c = λ files told some. absurd (omega (arith, some, ap length (is_nothing _ c.in_ok-have.have (c.in_ok-have.ensures.len files told) c.if-have-ne0.false)))
+
+pub returns-in-Err-make_files-clause-refused_empty : goal.returns-in-Err-make_files-clause-refused_empty
+returns-in-Err-make_files-clause-refused_empty g c = λ files told refused. is_nothing _ c.in_ok-have.have (c.in_ok-have.ensures.len files told) c.if-have-ne0.false

@@ -55,6 +55,12 @@ returns-in-Ok-check_outs-clause-opens g c = λ files told.
     opens_with m files mid.0 last.0 c.in-Ok.found.1 history.base.value history.steps found.0 (c.in-Ok.ensures.named files told_len) mid.2 (found.3 mid.0 mid.1) found.1 last.2
     (subst (λ (os : List Output). AreLong 0 os last.0) outs (c.in-Ok-check_outs.ensures.long last.0 last.1))
 
+pub returns-in-Ok-check_outs-clause-long : goal.returns-in-Ok-check_outs-clause-long
+returns-in-Ok-check_outs-clause-long g c = λ files told.
+    let mid = c.open_root.ensures.recovers.elsewhere files (c.len.ensures.told ∙ told) in
+    let last = c.open_generation.ensures.recovers.elsewhere mid.0 mid.1 in
+    (last.0, c.check_outs.ensures.reads.told ∙ last.1, c.in-Ok-check_outs.ensures.long last.0 last.1)
+
 pub returns-in-Ok-check_outs-clause-at_rest : goal.returns-in-Ok-check_outs-clause-at_rest
 returns-in-Ok-check_outs-clause-at_rest g c = λ files after told now.
     let m = g.R.Rules.meaning in

@@ -8,7 +8,7 @@ use Rattle.feed_reader.specs.Ahead.{behind, IsPlainAhead}
 use Rattle.feed_reader.specs.declared.ahead.Ahead.TheVariants as ahead
 use Rattle.pipeline_top.specs.Convert.{conversion, converted, end_at, end_from, convert_bot, put_line, behind_line}
 use Rattle.pipeline_top.specs.Line.{converted_unless, end_unless}
-use Rattle.pipeline_top.specs.declared.status.Status.TheVariants as status
+use Rattle.status_texts.specs.declared.status.Status.TheVariants as status
 use Rattle.pipeline_top.proofs.Ahead.{ahead_here, piece_comes, long_comes}
 use Rattle.pipeline_top.proofs.LineEnds.{Moved-then, line_of-long}
 use Rattle.pipeline_top.proofs.convert.convert_pieces.Goals as goal

@@ -1,6 +1,6 @@
 use Rattle.std.proofs.Common.{Some, refl, sym, ap, subst, arith}
 use Rattle.pipeline_top.specs.Line.{PutLine}
-use Rattle.pipeline_top.specs.declared.status.Status.TheVariants as status
+use Rattle.status_texts.specs.declared.status.Status.TheVariants as status
 use Rattle.pipeline_top.proofs.LineEnds.{line_of-far, line_of-near, put_near}
 use Rattle.pipeline_top.proofs.line.put_converted.Goals as goal
 

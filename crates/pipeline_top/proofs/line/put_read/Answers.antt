@@ -2,7 +2,7 @@ use Rattle.std.proofs.Common.{List, sym, subst, Some}
 use Rattle.event_json.specs.Lenient.{lenient}
 use Rattle.pipeline_top.specs.Convert.{read_line}
 use Rattle.pipeline_top.specs.Line.{PutLine}
-use Rattle.pipeline_top.specs.declared.status.Status.TheVariants as status
+use Rattle.status_texts.specs.declared.status.Status.TheVariants as status
 use Rattle.pipeline_top.proofs.LineEnds.{put_empty, put_text, put_bad}
 use Rattle.pipeline_top.proofs.line.put_read.Goals as goal
 

@@ -1,6 +1,7 @@
 use Rattle.std.proofs.Common.{[], refl, sym, ap, subst}
 use Rattle.journal_book.specs.Book.{BookView, IsKept}
 use Rattle.journal_book.proofs.Beginning.{kept_created, new_outs_short, pending_created, replayed_created, rest_created, view_created}
+use Rattle.journal_book.proofs.Recovering.{some_root}
 use Rattle.journal_book.proofs.book.Book.create.Goals as goal
 
 pub invariant_of-result : goal.invariant_of-result
@@ -25,3 +26,15 @@ returns-in-Ok-clause-kept g c = λ files told.
     subst (λ (b : BookView g.row.D.Denot g.row.R.Denot). IsKept g.D.Disk.disk g.D.Disk.may_leave g.R.Rules.meaning made.base.value [] b)
     (sym (view_created c.args.rules made.core.rules made.base.value made.core.state c.new.result c.args.limit c.make_store.new.disk (ap (λ core. core.rules) c.in-Ok.ensures.core) (ap (λ core. core.state) c.in-Ok.ensures.core) c.new.ensures))
     kept
+
+pub returns-in-Err-clause-still_err : goal.returns-in-Err-clause-still_err
+returns-in-Err-clause-still_err g c = λ first steps more was.
+    let m = g.R.Rules.meaning in
+    let there = some_root m first steps more was.files (was.each was.files (g.met.D.Disk.honest c.args.disk was.files was.tells)) in
+    (c.make_store.ensures.left_alone was.files was.tells there).now m first steps more was
+
+pub returns-in-Err-clause-any_moment_err : goal.returns-in-Err-clause-any_moment_err
+returns-in-Err-clause-any_moment_err g c = λ first steps more was.
+    let m = g.R.Rules.meaning in
+    let there = some_root m first steps more was.files (was.each was.files (g.met.D.Disk.honest c.args.disk was.files was.tells)) in
+    (c.make_store.ensures.left_alone was.files was.tells there).run m first steps more was

@@ -1,0 +1,106 @@
+//! What a bot makes of a body.
+ghost use Rattle.std.specs.Prelude.{◌≡◌, [], true, None, Some, IfOk};
+ghost use Rattle.event_json.specs.Exact.{strict};
+ghost use Rattle.feed_rows.specs.Notes.{kind_note};
+ghost use Rattle.step_code.specs.declared.rules.Given.TheVariants as given;
+ghost use Rattle.bot_rules.specs.Gives.{are_lawful, body_gives, job_gives, takes};
+ghost use Rattle.bot_rules.specs.Jobs.{role_for};
+ghost use Rattle.bot_rules.specs.Ready.{IsReady};
+
+use crate::Job;
+use crate::body::message_of;
+use crate::experts::{dedup_gives, prefix_gives, taxonomy_gives};
+use crate::parsers::{csv_gives, json_gives};
+use base_types::{Blob, Moment, NoteList, OutOfMemory, QueueList, SendList};
+use event_model::{Kind, Message};
+use feed_rows::kind_note;
+use std::alloc::Global;
+use step_code::{Given, Role};
+
+fn role_for(job: &Job) -> Role
+    ensures { result ≡ role_for job.now }
+{
+    match job {
+        Job::Csv(_) | Job::Json(_) => Role::Parser,
+        Job::Dedup(_) | Job::Prefix(_) | Job::Taxonomy => Role::Expert,
+        Job::Output => Role::Output,
+    }
+}
+
+// Whether a bot of this role takes messages of this kind.
+fn takes(role: Role, kind: Kind) -> bool
+    ensures { result ≡ takes role kind }
+{
+    match role {
+        Role::Collector => false,
+        Role::Parser => kind == Kind::Report,
+        Role::Expert => kind == Kind::Event,
+        Role::Output => true,
+    }
+}
+
+fn wrong_kind(alloc: Global) -> Result<Given, OutOfMemory>
+    ensures { IfOk result (λ g. g ≡ given.Fault kind_note) }
+{
+    Ok(Given::Fault(kind_note(alloc)?))
+}
+
+// An output writes the body as it is.
+fn written(alloc: Global) -> Given
+    ensures { result ≡ given.Pass [] [] None true }
+{
+    Given::Pass {
+        sends: SendList::new(alloc),
+        dumps: NoteList::new(alloc),
+        key: None,
+        line: true,
+    }
+}
+
+// What is made of a message of the right kind, whose text the body is.
+#[tactic(auto, unfolding(crate::specs::Gives::job_gives))]
+fn job_gives(
+    alloc: Global,
+    job: &Job,
+    queues: &QueueList,
+    body: &Blob,
+    _since: Moment,
+    message: &Message,
+) -> Result<Given, OutOfMemory>
+    requires ready { IsReady job.now }
+    requires body { strict body.now ≡ Some message.now }
+    requires taken { takes (role_for job.now) message.now.kind ≡ true }
+    ensures given { IfOk result (λ g. g ≡ job_gives job.now queues.now _since.0 message.now.fields) }
+    ensures lawful { IfOk result (λ g. are_lawful g ≡ true) }
+{
+    let fields = &message.fields;
+    match job {
+        Job::Csv(rule) => csv_gives(alloc, rule, queues, fields),
+        Job::Json(rule) => json_gives(alloc, rule, queues, fields),
+        Job::Dedup(rule) => dedup_gives(alloc, rule, queues, body, fields),
+        Job::Prefix(table) => prefix_gives(alloc, table, queues, fields),
+        Job::Taxonomy => taxonomy_gives(alloc, queues, fields),
+        Job::Output => Ok(written(alloc)),
+    }
+}
+
+/// What is made of a body that was taken at a moment.
+#[tactic(auto, unfolding(crate::specs::Gives::body_gives))]
+pub fn body_gives(
+    alloc: Global,
+    job: &Job,
+    queues: &QueueList,
+    body: &Blob,
+    since: Moment,
+) -> Result<Given, OutOfMemory>
+    requires { IsReady job.now }
+    ensures { IfOk result (λ g. g ≡ body_gives job.now queues.now since.0 body.now) }
+{
+    let Some(message) = message_of(alloc, body)? else {
+        return wrong_kind(alloc);
+    };
+    if !takes(role_for(job), message.kind) {
+        return wrong_kind(alloc);
+    }
+    job_gives(alloc, job, queues, body, since, &message)
+}

@@ -1,0 +1,4 @@
+-- what public contracts cite
+pub mod Fetch
+-- what private contracts cite
+pub mod Front

@@ -1,0 +1,149 @@
+-- The steps that a call makes, and what they leave of a store's history.
+use Rattle.std.proofs.Common.{◌≡◌, ◌≢◌, ◌≤◌, ◌-◌, ◌++◌, [], ℕ, List, length, take, Option, Some, None, Ok, Err, inl, inr, refl, sym, ap, subst, ◌∙◌, arith, length-append}
+use Rattle.std.proofs.lemmas.List.{append-nil}
+use Rattle.edge_traits.specs.Disk.{DiskView, Image}
+use Rattle.edge_traits.specs.Sink.{SinkView}
+use Rattle.edge_traits.proofs.Outputs.{Took-nothing}
+use Rattle.step_code.specs.declared.base.Base.{Base}
+use Rattle.step_code.specs.declared.output.Output.{Output}
+use Rattle.step_code.specs.declared.step.Step.{Step}
+use Rattle.step_code.specs.History.{replay}
+use Rattle.step_code.specs.Rules.{Meaning}
+use Rattle.store_image.specs.Opens.{Opens}
+use Rattle.store_image.specs.Stands.{IsSealOf}
+use Rattle.journal_book.specs.Book.{BookView}
+use Rattle.journal_book.specs.Opening.{IsReopenFault, StandsNow}
+use Rattle.journal_book.specs.Outputs.{AreCompleted}
+use Rattle.journal_book.specs.declared.book_fault.BookFault.{BookFault}
+use Rattle.journal_book.specs.declared.book_fault.BookFault.TheVariants as fault
+use Rattle.book_runs.specs.GoesOn.{GoesOn}
+use Rattle.book_runs.proofs.Going.{goes_further}
+use Rattle.store_calls.specs.Calls.{IsOpened as IsOpenedCall}
+use Rattle.store_calls.proofs.Called.{called, count_called, sealed_state}
+use Rattle.drain_turns.specs.Drained.{Drains, Place}
+use Rattle.drain_turns.specs.Turn.{Outside}
+use Rattle.drain_turns.specs.declared.end.TurnsEnd.{TurnsEnd}
+use Rattle.drain_loop.specs.Calls.{opening_of, place_with, IsDrained, IsOpened}
+use Rattle.drain_command.specs.Drained.{start, Drained, IsCallIn, IsDrainCall, IsStill}
+use Rattle.drain_command.specs.Finished.{end_of, AreCompletedAt, IsFinished, IsTurned}
+use Rattle.drain_command.specs.declared.draining.Asked.{Asked}
+use Rattle.drain_command.specs.declared.end.DrainEnd.{DrainEnd}
+use Rattle.drain_command.specs.declared.end.DrainEnd.TheVariants as end
+
+module _ {D R : Type 0} {disk : D → DiskView} {may_leave : D → ℕ → List ℕ → Type 0} {left_since : D → ℕ → Image → Type 0} where
+  -- the opening, and then the turns
+  pub turned_on : (o : Outside) (asked : Asked) (old mid new : BookView D R) (left : Option ℕ) (why : TurnsEnd)
+      → IsOpened disk may_leave left_since o (place_with (opening_of o.meaning old.state asked.opening.bundle asked.opening.rounds) old asked.left) [] old mid (Ok left)
+      → IsDrained disk may_leave left_since o left mid new why → IsTurned disk may_leave left_since o asked old new why
+  turned_on o asked old mid new left why opened drained = record {
+    made = opened.made ++ drained.made;
+    drains = opened.opens drained.made why drained.drains;
+    run = goes_further old mid new opened.made drained.made opened.goes_on drained.goes_on;
+  }
+
+  -- the opening alone
+  pub turned_off : (o : Outside) (asked : Asked) (old new : BookView D R) (why : TurnsEnd)
+      → IsOpened disk may_leave left_since o (place_with (opening_of o.meaning old.state asked.opening.bundle asked.opening.rounds) old asked.left) [] old new (Err why)
+      → IsTurned disk may_leave left_since o asked old new why
+  turned_off o asked old new why opened = record { made = opened.made; drains = opened.opens; run = opened.goes_on }
+
+  -- a run that makes no more steps behind another
+  pub still_runs : (m : Meaning) (old mid new : BookView D R) (made : List Step) → GoesOn disk may_leave left_since m old mid made → GoesOn disk may_leave left_since m mid new [] → GoesOn disk may_leave left_since m old new made
+  still_runs m old mid new made front rest = subst (λ (ss : List Step). GoesOn disk may_leave left_since m old new ss) (append-nil made) (goes_further old mid new made [] front rest)
+
+-- what reopening a store tells, by which a call on it is known
+pub record Reopened {D R : Type 0} (disk : D → DiskView) (may_leave : D → ℕ → List ℕ → Type 0) (left_since : D → ℕ → Image → Type 0) (m : Meaning) (files : Image) (old : D) (book : BookView D R) : Type 0 where
+  pub all : book.kept ≡ length book.steps
+  pub state : book.state ≡ replay m book.base book.steps
+  pub opens : Opens m files book.generation book.base book.steps
+  pub call : (first : Base) (steps more : List Step) → StandsNow disk may_leave m first steps more old → IsOpenedCall disk may_leave left_since m first steps more old book
+
+module _ {D R : Type 0} {disk : D → DiskView} {may_leave : D → ℕ → List ℕ → Type 0} {left_since : D → ℕ → Image → Type 0} (o : Outside) (files : Image) (asked : Asked) (old : D) (opened mid later : BookView D R)
+    (is : Reopened disk may_leave left_since o.meaning files old opened) (why : TurnsEnd) (turned : IsTurned disk may_leave left_since o asked opened mid why) (behind : GoesOn disk may_leave left_since o.meaning mid later []) where
+  run : GoesOn disk may_leave left_since o.meaning opened later turned.made
+  run = still_runs o.meaning opened mid later turned.made turned.run behind
+
+  place_is : place_with (opening_of o.meaning opened.state asked.opening.bundle asked.opening.rounds) opened asked.left ≡ start o.meaning opened.base opened.steps asked
+  place_is = ap (λ (s : Base). record { opening = opening_of o.meaning s asked.opening.bundle asked.opening.rounds; left = asked.left; steps = opened.steps; state = s }) is.state
+
+  state_now : mid.state ≡ replay o.meaning (replay o.meaning opened.base opened.steps) turned.made
+  state_now = ap (λ (b : BookView D R). b.state) turned.run.book ∙ ap (λ (s : Base). replay o.meaning s turned.made) is.state
+
+  call_in : (durable : ℕ) (first : Base) (steps more : List Step) → (was : IsOpenedCall disk may_leave left_since o.meaning first steps more old opened)
+      → later.kept - opened.kept ≡ durable → IsCallIn disk may_leave left_since o.meaning first steps more old later.disk (replay o.meaning opened.base opened.steps) turned.made durable
+  call_in durable first steps more was number =
+      subst (λ (n : ℕ). IsCallIn disk may_leave left_since o.meaning first steps more old later.disk (replay o.meaning opened.base opened.steps) turned.made n) number
+      (record { call = called first steps more turned.made old opened later was run; reads = seals_read })
+    where
+      seals_read : IsSealOf (replay o.meaning first (steps ++ take (called first steps more turned.made old opened later was run).count more)) (replay o.meaning opened.base opened.steps)
+      seals_read =
+          subst (λ (n : ℕ). IsSealOf (replay o.meaning first (steps ++ take n more)) (replay o.meaning opened.base opened.steps)) (sym (count_called first steps more turned.made old opened later was run))
+          (subst (λ (s : Base). IsSealOf (replay o.meaning first (steps ++ take was.reopened.count more)) s) is.state (sealed_state first steps more turned.made old opened later was run))
+
+  -- what the call drained
+  pub drained : (durable : ℕ) → later.kept - opened.kept ≡ durable → Drained disk may_leave left_since o files asked old later.disk why
+  drained durable number = record {
+    generation = opened.generation;
+    base = opened.base;
+    read = opened.steps;
+    opens = is.opens;
+    made = turned.made;
+    drains = subst (λ (p : Place). Drains o p turned.made why) place_is turned.drains;
+    state = mid.state;
+    state_is = state_now;
+    durable = durable;
+    call = λ first steps more was. call_in durable first steps more (is.call first steps more was) number;
+  }
+
+  -- all of it is durable where all steps of the book are
+  pub all_number : later.kept ≡ length later.steps → later.kept - opened.kept ≡ length turned.made
+  all_number all = number (ap length steps_now) all is.all
+    where
+      steps_now : later.steps ≡ opened.steps ++ turned.made
+      steps_now = ap (λ (b : BookView D R). b.steps) run.book
+
+      number : length later.steps ≡ length (opened.steps ++ turned.made) → later.kept ≡ length later.steps → opened.kept ≡ length opened.steps → later.kept - opened.kept ≡ length turned.made
+      number same now was = omega (arith, same, now, was, length-append opened.steps turned.made)
+
+  -- behind the call a told disk still tells what it holds
+  late : (first : Base) (steps more : List Step) → StandsNow disk may_leave o.meaning first steps more old → (now : Image) × ((disk mid.disk).told ≡ Some now)
+  late first steps more was = let kept = turned.run.kept first (is.call first steps more was).reopened.past (is.call first steps more was).reopened.kept in (kept.files, kept.tells)
+
+  -- each output is whole where the outputs were completed
+  whole : (told : Option Image) (after : Image) (completes : Image → Type 0) → (told ≡ None → (disk later.disk).told ≡ None) → (disk later.disk).told ≡ Some after → ((before : Image) → told ≡ Some before → completes before) → (before : Image) × completes before
+  whole None after completes untold tells each = absurd (cc (untold refl, tells))
+  whole (Some before) after completes untold tells each = (before, each before refl)
+
+  -- by how it ended
+  pub drain_called : (e : DrainEnd) (a b : SinkView) → IsFinished mid.state why (disk mid.disk).told e a b → (e ≢ end.Disk → later.kept ≡ length later.steps)
+      → ((before after : Image) → (disk mid.disk).told ≡ Some before → (disk later.disk).told ≡ Some after → AreCompletedAt e (may_leave later.disk) mid.state.outs before after)
+      → ((disk mid.disk).told ≡ None → (disk later.disk).told ≡ None) → IsDrainCall disk may_leave left_since o files asked old later.disk e a b
+  unfolding drained
+  drain_called (end.Turns told) a b finished all completed untold =
+      subst (λ (w : TurnsEnd). IsDrainCall disk may_leave left_since o files asked old later.disk (end.Turns w) a b) (sym finished.0)
+      (finished.1, drained (length turned.made) (all_number (all (λ same. cc (same)))), refl, (λ after tells. whole (disk mid.disk).told after _ untold tells (λ before was. completed before after was tells)), finished.2)
+  drain_called end.Sink a b finished all completed untold =
+      (why, finished.0, drained (length turned.made) (all_number (all (λ same. cc (same)))), refl, (λ after tells. whole (disk mid.disk).told after _ untold tells (λ before was. completed before after was tells)), finished.1)
+  drain_called end.Memory a b finished all completed untold = (finished, inr (why, drained (length turned.made) (all_number (all (λ same. cc (same)))), refl))
+  drain_called end.Disk a b finished all completed untold = (finished, inr (why, drained (later.kept - opened.kept) refl))
+  drain_called (end.Store have) a b finished all completed untold = absurd finished
+  drain_called (end.Damaged file at) a b finished all completed untold =
+      (finished.0, inr (why, drained (length turned.made) (all_number (all (λ same. cc (same)))), refl, λ first steps more was. let told = late first steps more was in (told.0, finished.1 told.0 told.1)))
+
+-- outputs that are complete are so at each end
+pub completed_at : (e : DrainEnd) (may_leave : ℕ → List ℕ → Type 0) (outs : List Output) (before after : Image) → AreCompleted may_leave outs before after → AreCompletedAt e may_leave outs before after
+completed_at (end.Turns why) may_leave outs before after is = is
+completed_at end.Memory may_leave outs before after is = tt
+completed_at end.Disk may_leave outs before after is = tt
+completed_at end.Sink may_leave outs before after is = is
+completed_at (end.Store have) may_leave outs before after is = tt
+completed_at (end.Damaged file at) may_leave outs before after is = tt
+
+-- a store that couldn't be opened
+pub drain_closed : {D : Type 0} {disk : D → DiskView} {may_leave : D → ℕ → List ℕ → Type 0} {left_since : D → ℕ → Image → Type 0} (o : Outside) (files : Image) (asked : Asked) (old new : D) (told : Option Image) (f : BookFault) (sink : SinkView)
+    → told ≡ Some files → IsReopenFault o.meaning told f → IsStill disk may_leave left_since o.meaning old new → IsDrainCall disk may_leave left_since o files asked old new (end_of f) sink sink
+drain_closed o files asked old new told fault.Disk sink tells bad still = (Took-nothing sink, inl still)
+drain_closed o files asked old new told (fault.Damaged file at) sink tells bad still = (Took-nothing sink, inl ((bad files tells).0, (bad files tells).1, still))
+drain_closed o files asked old new told (fault.Store have) sink tells bad still = (bad.0, bad.1 files tells, Took-nothing sink, still)
+drain_closed o files asked old new told fault.Refused sink tells bad still = absurd bad
+drain_closed o files asked old new told fault.OutOfMemory sink tells bad still = (Took-nothing sink, inl still)

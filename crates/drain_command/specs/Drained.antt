@@ -1,0 +1,91 @@
+-- What `drain` makes of a store.
+use Rattle.std.specs.Prelude.{◌≡◌, ◌≢◌, ◌⊎◌, ◌<◌, ℕ, List, [], ◌++◌, length, take, Some}
+use Rattle.edge_traits.specs.Disk.{DiskView, Image}
+use Rattle.edge_traits.specs.Output.{TookFront}
+use Rattle.edge_traits.specs.Sink.{SinkView, Took}
+use Rattle.step_code.specs.declared.base.Base.{Base}
+use Rattle.step_code.specs.declared.output.Output.{Output}
+use Rattle.step_code.specs.declared.step.Step.{Step}
+use Rattle.step_code.specs.History.{replay}
+use Rattle.step_code.specs.Rules.{Meaning}
+use Rattle.state_texts.specs.Texts.{summary}
+use Rattle.store_image.specs.Damage.{IsDamagedStore}
+use Rattle.store_image.specs.Files.{root_file}
+use Rattle.store_image.specs.Opens.{Opens}
+use Rattle.store_image.specs.Stands.{IsSealOf}
+use Rattle.journal_book.specs.Opening.{StandsNow}
+use Rattle.journal_book.specs.Outputs.{AreCompleted, IsFirstShort}
+use Rattle.store_calls.specs.Calls.{IsCall, StandsOn}
+use Rattle.drain_turns.specs.Drained.{Drains, Place}
+use Rattle.drain_turns.specs.Turn.{Outside}
+use Rattle.drain_turns.specs.declared.end.TurnsEnd.{TurnsEnd}
+use Rattle.drain_turns.specs.declared.end.TurnsEnd.TheVariants as last
+use Rattle.drain_loop.specs.Calls.{opening_of}
+use Rattle.drain_command.specs.declared.draining.Asked.{Asked}
+use Rattle.drain_command.specs.declared.end.DrainEnd.{DrainEnd}
+use Rattle.drain_command.specs.declared.end.DrainEnd.TheVariants as end
+
+-- the codes of a generation's steps have at most so many bytes together
+abbrev pub most_step_bytes : ℕ
+most_step_bytes = 67_108_864
+
+-- where a call begins on a store that opens with this state and with these steps behind it
+abbrev pub start : Meaning → Base → List Step → Asked → Place
+start m base read asked = record { opening = opening_of m (replay m base read) asked.opening.bundle asked.opening.rounds; left = asked.left; steps = read; state = replay m base read }
+
+-- a call on a disk that stood for these steps of the store whose first state is `first`, and a front of those behind them, read
+-- this state of it, up to lines that are sealed, and made these steps, of which so many are durable
+pub record IsCallIn {D : Type 0} (disk : D → DiskView) (may_leave : D → ℕ → List ℕ → Type 0) (left_since : D → ℕ → Image → Type 0) (m : Meaning) (first : Base) (steps more : List Step) (old new : D) (state : Base) (made : List Step) (durable : ℕ) : Type 0 where
+  pub call : IsCall disk may_leave left_since m first steps more old new made durable
+  pub reads : IsSealOf (replay m first (steps ++ take call.count more)) state
+
+-- the store opens; the steps that were made, one by one as they were due, and why there are no more; the state behind them; and
+-- what the disk stands for, at any moment of the call and behind it
+pub record Drained {D : Type 0} (disk : D → DiskView) (may_leave : D → ℕ → List ℕ → Type 0) (left_since : D → ℕ → Image → Type 0) (o : Outside) (files : Image) (asked : Asked) (old new : D) (why : TurnsEnd) : Type 0 where
+  pub generation : ℕ
+  pub base : Base
+  pub read : List Step
+  pub opens : Opens o.meaning files generation base read
+  pub made : List Step
+  pub drains : Drains o (start o.meaning base read asked) made why
+  pub state : Base
+  pub state_is : state ≡ replay o.meaning (replay o.meaning base read) made
+  pub durable : ℕ
+  pub call : (first : Base) (steps more : List Step) → StandsNow disk may_leave o.meaning first steps more old → IsCallIn disk may_leave left_since o.meaning first steps more old new (replay o.meaning base read) made durable
+
+-- all steps that were made are durable
+abbrev pub IsDurable : {D : Type 0} {disk : D → DiskView} {may_leave : D → ℕ → List ℕ → Type 0} {left_since : D → ℕ → Image → Type 0} {o : Outside} {files : Image} {asked : Asked} {old new : D} {why : TurnsEnd}
+    → Drained disk may_leave left_since o files asked old new why → Type 0
+IsDurable d = d.durable ≡ length d.made
+
+-- the file of each output is its sealed front and each line behind it
+abbrev pub AreWhole : {D : Type 0} → (D → DiskView) → (D → ℕ → List ℕ → Type 0) → D → List Output → Type 0
+AreWhole disk may_leave new outs = (after : Image) → (disk new).told ≡ Some after → (before : Image) × AreCompleted (may_leave new) outs before after
+
+-- no step was made: at any moment of the call and behind it the disk stands for the same history
+abbrev pub IsStill : {D : Type 0} → (D → DiskView) → (D → ℕ → List ℕ → Type 0) → (D → ℕ → Image → Type 0) → Meaning → D → D → Type 0
+IsStill disk may_leave left_since m old new = (first : Base) (steps more : List Step) → StandsNow disk may_leave m first steps more old → StandsOn disk may_leave left_since m first steps more old new
+
+-- an end that is told: neither the disk nor memory ended the turns
+abbrev pub IsToldEnd : TurnsEnd → Type 0
+IsToldEnd why = (why ≢ last.Disk) × (why ≢ last.Memory)
+
+-- the turns ended by a cause of theirs: all steps are durable, the outputs are whole, and the summary is printed, or a front of
+-- it where the sink failed. Where memory ran out or the disk failed nothing is printed; behind want of memory the steps are
+-- durable. Or there is no store, or it is damaged, which of outputs may show when they are completed
+abbrev pub IsDrainCall : {D : Type 0} → (D → DiskView) → (D → ℕ → List ℕ → Type 0) → (D → ℕ → Image → Type 0) → Outside → Image → Asked → D → D → DrainEnd → SinkView → SinkView → Type 0
+IsDrainCall disk may_leave left_since o files asked old new (end.Turns why) before after =
+    IsToldEnd why × (d : Drained disk may_leave left_since o files asked old new why) × IsDurable d × AreWhole disk may_leave new d.state.outs × Took before after (summary d.state)
+IsDrainCall disk may_leave left_since o files asked old new end.Sink before after =
+    (why : TurnsEnd) × IsToldEnd why × (d : Drained disk may_leave left_since o files asked old new why) × IsDurable d × AreWhole disk may_leave new d.state.outs × TookFront before after (summary d.state)
+IsDrainCall disk may_leave left_since o files asked old new end.Memory before after =
+    Took before after [] × (IsStill disk may_leave left_since o.meaning old new ⊎ ((why : TurnsEnd) × (d : Drained disk may_leave left_since o files asked old new why) × IsDurable d))
+IsDrainCall disk may_leave left_since o files asked old new end.Disk before after =
+    Took before after [] × (IsStill disk may_leave left_since o.meaning old new ⊎ ((why : TurnsEnd) × Drained disk may_leave left_since o files asked old new why))
+IsDrainCall disk may_leave left_since o files asked old new (end.Store have) before after =
+    (have ≡ 0) × (files root_file ≡ []) × Took before after [] × IsStill disk may_leave left_since o.meaning old new
+IsDrainCall disk may_leave left_since o files asked old new (end.Damaged file at) before after =
+    Took before after []
+    × (((0 < length (files root_file)) × IsDamagedStore o.meaning files file at × IsStill disk may_leave left_since o.meaning old new)
+    ⊎ ((why : TurnsEnd) × (d : Drained disk may_leave left_since o files asked old new why) × IsDurable d
+    × ((first : Base) (steps more : List Step) → StandsNow disk may_leave o.meaning first steps more old → (now : Image) × IsFirstShort d.state.outs now file at)))

@@ -1,0 +1,10 @@
+//! The command that drains a store: it is opened, turns are made until nothing is left to do, and what came of it is printed.
+#![tactic(auto)]
+
+mod draining;
+mod end;
+mod finishing;
+mod turning;
+
+pub use draining::{Asked, drain};
+pub use end::DrainEnd;

@@ -1,0 +1,5 @@
+mod Begun
+mod Looked
+mod Looking
+mod Moving
+mod Turning

@@ -1,0 +1,157 @@
+-- What the program does for each command.
+use Rattle.std.specs.Prelude.{◌≡◌, ◌≢◌, ◌⊎◌, ◌<◌, ◌++◌, ℕ, Bool, true, false, List, [], length, codes, decimal, Option, Some, None, Result, MatchResult}
+use Rattle.edge_traits.specs.Disk.{DiskView, Image}
+use Rattle.edge_traits.specs.Output.{TookFront}
+use Rattle.edge_traits.specs.Shelf.{ShelfView, content_of, lacks}
+use Rattle.edge_traits.specs.Sink.{SinkView, Took}
+use Rattle.config_bundle.specs.declared.bundle.Bundle.{Bundle}
+use Rattle.config_bundle.specs.Bundle.{bundle_code}
+use Rattle.runtime_config.specs.declared.plan.Plan.{Plan}
+use Rattle.bot_rules.specs.Intel.{intel}
+use Rattle.step_code.specs.declared.base.Base.{Base}
+use Rattle.step_code.specs.declared.step.Step.{Step}
+use Rattle.store_image.specs.Files.{root_file}
+use Rattle.journal_book.specs.Opening.{StandsNow}
+use Rattle.store_calls.specs.Calls.{StandsOn}
+use Rattle.store_commands.specs.Begun.{IsBegun, IsMade, IsMadeWhole}
+use Rattle.store_commands.specs.Completed.{IsCompleted}
+use Rattle.store_commands.specs.Ends.{IsPrinted, IsShown}
+use Rattle.store_commands.specs.Redone.{IsRedoCall, IsRedone, RedoesStep}
+use Rattle.store_commands.specs.declared.end.StoreEnd.{StoreEnd}
+use Rattle.store_commands.specs.declared.printing.Shown.{Shown}
+use Rattle.store_commands.specs.declared.printing.Shown.TheVariants as shown
+use Rattle.drain_loop.specs.Calls.{outside}
+use Rattle.drain_command.specs.Drained.{most_step_bytes, IsDrainCall}
+use Rattle.drain_command.specs.declared.end.DrainEnd.{DrainEnd}
+use Rattle.command_words.specs.Command as asked
+use Rattle.pipeline_top.specs.Convert.{conversion, convert_bot, end_of, IsOutside, Wrote}
+use Rattle.pipeline_top.specs.Outside.{Brings, Names, Seen}
+use Rattle.pipeline_top.specs.Statuses.{behind_store, drain_status, is_said, store_status, unbrought_status}
+use Rattle.pipeline_top.specs.declared.bringing.Unbrought.{Unbrought}
+use Rattle.status_texts.specs.declared.status.FeedWhy.TheVariants.{Absent}
+use Rattle.status_texts.specs.declared.status.Status.{Status}
+use Rattle.status_texts.specs.declared.status.Status.TheVariants as status
+
+-- ---- commands without a store
+
+-- a feed is converted: where it is told, how that ends, and what is written; or the shelf lacks it
+pub record IsConverted (name : List ℕ) (seen : Seen) (end : Status) : Type 0 where
+  pub absent : (other : List ℕ) → end ≡ status.Feed other Absent → (other ≡ name) × (lacks seen.shelf name ≡ true)
+  pub lacking : lacks seen.shelf name ≡ true → ((end ≡ status.Feed name Absent) ⊎ (end ≡ status.Memory)) × Took seen.sink seen.sink_now []
+  pub long_line : (bot : List ℕ) (at : ℕ) → end ≡ status.LongLine bot at → bot ≡ convert_bot
+  pub long_feed : (bot : List ℕ) → end ≡ status.LongFeed bot → bot ≡ convert_bot
+  pub ends : (content : List ℕ) → content_of seen.shelf name ≡ Some content → IsOutside end ⊎ (end ≡ end_of content)
+  pub written : (content : List ℕ) → content_of seen.shelf name ≡ Some content → Wrote end seen.sink seen.sink_now (conversion content)
+
+-- how many bots a bundle has
+abbrev pub bots_text : ℕ → List ℕ
+bots_text bots = codes "ok " ++ decimal bots ++ codes " bots\n"
+
+abbrev pub IsCounted : Seen → Status → Bundle × Plan → Type 0
+IsCounted seen end found = (done : StoreEnd) × (end ≡ store_status done) × IsPrinted (bots_text (length found.1.bots)) done seen.sink seen.sink_now
+
+abbrev pub IsUnbrought : Seen → Status → Unbrought → Type 0
+IsUnbrought seen end why = (end ≡ unbrought_status why) × Took seen.sink seen.sink_now []
+
+-- a bundle is brought, and the number of its bots is printed; or it isn't brought
+pub record IsChecked (name : List ℕ) (seen : Seen) (end : Status) : Type 0 where
+  pub brought : Result (Bundle × Plan) Unbrought
+  pub brings : Brings seen.shelf name brought
+  pub done : MatchResult brought (IsCounted seen end) (IsUnbrought seen end)
+
+-- ---- commands on a store, on a disk as it was and as it comes back
+
+-- nothing of a history changes, at any moment of the call and behind it
+abbrev pub IsStill : {D : Type 0} → (D → DiskView) → (D → ℕ → List ℕ → Type 0) → (D → ℕ → Image → Type 0) → D → D → Type 0
+IsStill disk may_leave left_since old new = (first : Base) (steps more : List Step) → StandsNow disk may_leave intel first steps more old → StandsOn disk may_leave left_since intel first steps more old new
+
+-- where the disk tells what it holds
+abbrev pub WhereTold : {D : Type 0} → (D → DiskView) → D → (Image → Type 0) → Type 0
+WhereTold disk old passes = (files : Image) → (disk old).told ≡ Some files → passes files
+
+-- a store of this bundle was made, or one was there, which is left alone
+pub record IsMadeOf {D : Type 0} (disk : D → DiskView) (may_leave : D → ℕ → List ℕ → Type 0) (left_since : D → ℕ → Image → Type 0) (seen : Seen) (end : Status) (old new : D) (found : Bundle × Plan) : Type 0 where
+  pub done : StoreEnd
+  pub end_is : end ≡ store_status done
+  pub made : WhereTold disk old (λ files. IsMade intel files (bundle_code found.0) done seen.sink seen.sink_now)
+  pub begun : WhereTold disk old (λ files. IsMadeWhole done → IsBegun disk may_leave intel (bundle_code found.0) new)
+  pub left_alone : IsStill disk may_leave left_since old new
+
+-- the bundle wasn't brought: that is told where there is no store
+abbrev pub IsUnmadeEnd : {D : Type 0} → (D → DiskView) → D → Unbrought → Status → Type 0
+IsUnmadeEnd disk old why end =
+    (end ≡ status.Disk) ⊎ ((have : ℕ) × (0 < have) × (end ≡ status.Store have) × WhereTold disk old (λ files. have ≡ length (files root_file)))
+    ⊎ ((end ≡ unbrought_status why) × WhereTold disk old (λ files. files root_file ≡ []))
+
+pub record IsUnmade {D : Type 0} (disk : D → DiskView) (may_leave : D → ℕ → List ℕ → Type 0) (left_since : D → ℕ → Image → Type 0) (seen : Seen) (end : Status) (old new : D) (why : Unbrought) : Type 0 where
+  pub ends : IsUnmadeEnd disk old why end
+  pub nothing : Took seen.sink seen.sink_now []
+  pub still : IsStill disk may_leave left_since old new
+
+pub record IsInit {D : Type 0} (disk : D → DiskView) (may_leave : D → ℕ → List ℕ → Type 0) (left_since : D → ℕ → Image → Type 0) (name : List ℕ) (seen : Seen) (old new : D) (end : Status) : Type 0 where
+  pub brought : Result (Bundle × Plan) Unbrought
+  pub brings : Brings seen.shelf name brought
+  pub done : MatchResult brought (IsMadeOf disk may_leave left_since seen end old new) (IsUnmade disk may_leave left_since seen end old new)
+
+-- the store was drained: with the bundle of this code put in force, if one is named
+pub record IsDrainedBy {D : Type 0} (disk : D → DiskView) (may_leave : D → ℕ → List ℕ → Type 0) (left_since : D → ℕ → Image → Type 0) (ask : asked.Ask) (seen : Seen) (end : Status) (old new : D) (bundle : Option (List ℕ)) : Type 0 where
+  pub done : DrainEnd
+  pub end_is : end ≡ drain_status ask.steps done
+  pub shelf : ShelfView
+  pub same_shelf : shelf.told ≡ seen.shelf.told
+  pub drained : WhereTold disk old (λ files. IsDrainCall disk may_leave left_since (outside intel shelf seen.clock most_step_bytes) files (record { opening = record { bundle = bundle; rounds = ask.round }; left = ask.steps }) old new done seen.sink seen.sink_now)
+
+-- the bundle wasn't brought: that is told behind what opening the store comes to, and no step is made
+pub record IsUndrained {D : Type 0} (disk : D → DiskView) (may_leave : D → ℕ → List ℕ → Type 0) (left_since : D → ℕ → Image → Type 0) (seen : Seen) (end : Status) (old new : D) (why : Unbrought) : Type 0 where
+  pub done : StoreEnd
+  pub end_is : end ≡ behind_store done (unbrought_status why)
+  pub completed : WhereTold disk old (λ files. IsCompleted intel files (is_said why) done seen.sink seen.sink_now)
+  pub still : IsStill disk may_leave left_since old new
+
+pub record IsDrained {D : Type 0} (disk : D → DiskView) (may_leave : D → ℕ → List ℕ → Type 0) (left_since : D → ℕ → Image → Type 0) (ask : asked.Ask) (seen : Seen) (old new : D) (end : Status) : Type 0 where
+  pub named : Result (Option (List ℕ)) Unbrought
+  pub names : Names seen.shelf ask.reload named
+  pub done : MatchResult named (IsDrainedBy disk may_leave left_since ask seen end old new) (IsUndrained disk may_leave left_since seen end old new)
+
+-- what is asked for of a store's state is printed
+pub record IsShownBy {D : Type 0} (disk : D → DiskView) (may_leave : D → ℕ → List ℕ → Type 0) (left_since : D → ℕ → Image → Type 0) (what : Shown) (seen : Seen) (old new : D) (end : Status) : Type 0 where
+  pub done : StoreEnd
+  pub end_is : end ≡ store_status done
+  pub shown : WhereTold disk old (λ files. IsShown intel files what done seen.sink seen.sink_now)
+  pub still : IsStill disk may_leave left_since old new
+
+-- a dump is redone, when the clock may show this moment
+pub record IsRedoneBy {D : Type 0} (disk : D → DiskView) (may_leave : D → ℕ → List ℕ → Type 0) (left_since : D → ℕ → Image → Type 0) (dump : ℕ) (seen : Seen) (old new : D) (end : Status) : Type 0 where
+  pub done : StoreEnd
+  pub end_is : end ≡ store_status done
+  pub now : ℕ
+  pub shows : (told : ℕ) → seen.clock ≡ Some told → now ≡ told
+  pub redone : WhereTold disk old (λ files. IsRedone intel files dump now done seen.sink seen.sink_now)
+  pub stands : (first : Base) (steps more : List Step) → StandsNow disk may_leave intel first steps more old
+      → IsRedoCall done (StandsOn disk may_leave left_since intel first steps more old new) (RedoesStep disk may_leave left_since intel first steps more old new dump now)
+
+-- ---- all
+
+-- the command is done; words that are none do nothing. A drill isn't made yet: its words are no command
+abbrev pub IsTool : {D : Type 0} → (D → DiskView) → (D → ℕ → List ℕ → Type 0) → (D → ℕ → Image → Type 0) → Option asked.Command → Seen → D → D → Status → Type 0
+IsTool disk may_leave left_since None seen old new end = (end ≡ status.Words) × (seen.sink_now ≡ seen.sink) × (new ≡ old)
+IsTool disk may_leave left_since (Some (asked.Convert feed)) seen old new end = IsConverted feed seen end × (new ≡ old)
+IsTool disk may_leave left_since (Some (asked.Check bundle)) seen old new end = IsChecked bundle seen end × (new ≡ old)
+IsTool disk may_leave left_since (Some (asked.Init bundle)) seen old new end = IsInit disk may_leave left_since bundle seen old new end
+IsTool disk may_leave left_since (Some (asked.Drain ask)) seen old new end = IsDrained disk may_leave left_since ask seen old new end
+IsTool disk may_leave left_since (Some asked.Status) seen old new end = IsShownBy disk may_leave left_since shown.State seen old new end
+IsTool disk may_leave left_since (Some asked.Dumps) seen old new end = IsShownBy disk may_leave left_since shown.Dumps seen old new end
+IsTool disk may_leave left_since (Some (asked.Redo dump)) seen old new end = IsRedoneBy disk may_leave left_since dump seen old new end
+IsTool disk may_leave left_since (Some (asked.Drill lines number)) seen old new end = (end ≡ status.Words) × (seen.sink_now ≡ seen.sink) × (new ≡ old)
+
+-- the words are a command that the program has
+abbrev pub is_command : Option asked.Command → Bool
+is_command None = false
+is_command (Some (asked.Convert feed)) = true
+is_command (Some (asked.Check bundle)) = true
+is_command (Some (asked.Init bundle)) = true
+is_command (Some (asked.Drain ask)) = true
+is_command (Some asked.Status) = true
+is_command (Some asked.Dumps) = true
+is_command (Some (asked.Redo dump)) = true
+is_command (Some (asked.Drill lines number)) = false

@@ -1,0 +1,94 @@
+//! `init`: a store is made.
+ghost use Rattle.std.specs.Prelude.{◌≡◌, ◌≢◌, ◌≤◌, ℕ, List, None, Option};
+ghost use Rattle.edge_traits.specs.Count.{Rose};
+ghost use Rattle.edge_traits.specs.Shelf.{count_on};
+ghost use Rattle.edge_traits.specs.Sink.{SinkView};
+ghost use Rattle.config_bundle.specs.Bundle.{IsBundle};
+ghost use Rattle.runtime_config.specs.Load.{load as loaded};
+ghost use Rattle.status_texts.specs.declared.status.FeedWhy.TheVariants.{Failed as FailedWhy};
+ghost use Rattle.pipeline_top.specs.Commands.{IsInit, IsMadeOf, IsUnmade};
+ghost use Rattle.pipeline_top.specs.Outside.{Seen};
+ghost use Rattle.pipeline_top.specs.Statuses.{unbrought_status};
+
+use crate::Status;
+use crate::bringing::{Unbrought, bring, code_of};
+use crate::statuses::{store_status, unbrought_status};
+use base_types::{OutOfMemory, Text};
+use bot_rules::IntelRules;
+use config_bundle::Bundle;
+use edge_traits::{Disk, Failed, Shelf, Sink};
+use runtime_config::Plan;
+use std::alloc::Global;
+use store_commands::find_store;
+
+/// Makes a store for the bundle of this name, and prints the summary of its first state. The disk comes back.
+pub fn init<H: Shelf, D: Disk, S: Sink>(
+    alloc: Global,
+    name: &Text,
+    shelf: &mut H,
+    disk: D,
+    out: &mut S,
+) -> (Status, D)
+    ensures begun { (clock : Option ℕ) → IsInit D.disk D.may_leave D.left_since name.now (record { shelf = H.shelf shelf.old; sink = S.sink out.old; sink_now = S.sink out.new; clock = clock }) disk result.1 result.0 }
+    ensures words { result.0 ≢ Status.Words }
+    ensures disk { result.0 ≡ Status.Disk → Rose (D.disk disk).faults (D.disk result.1).faults }
+    ensures sink { result.0 ≡ Status.Sink → Rose (S.sink out.old).faults (S.sink out.new).faults }
+    ensures failed { (other : List ℕ) → result.0 ≡ Status.Feed other FailedWhy → Rose (count_on (H.shelf shelf.old) other) (count_on (H.shelf shelf.new) other) }
+    ensures told { (H.shelf shelf.new).told ≡ (H.shelf shelf.old).told }
+    ensures counts { (other : List ℕ) → count_on (H.shelf shelf.old) other ≤ count_on (H.shelf shelf.new) other }
+    ensures disk_count { (D.disk disk).faults ≤ (D.disk result.1).faults }
+    ensures sink_count { (S.sink out.old).faults ≤ (S.sink out.new).faults }
+{
+    match bring(alloc, shelf, name) {
+        Ok((bundle, plan)) => make(alloc, &bundle, &plan, disk, out),
+        Err(why) => unmade(disk, why),
+    }
+}
+
+// Makes the store for this bundle.
+fn make<D: Disk, S: Sink>(
+    alloc: Global,
+    bundle: &Bundle,
+    plan: &Plan,
+    disk: D,
+    out: &mut S,
+) -> (Status, D)
+    requires coded { IsBundle bundle.now }
+    requires loads { loaded bundle.now ≡ Ok plan.now }
+    ensures made { (seen : Seen) → seen.sink ≡ S.sink out.old → seen.sink_now ≡ S.sink out.new
+        → IsMadeOf D.disk D.may_leave D.left_since seen result.0 disk result.1 (bundle.now, plan.now) }
+    ensures words { result.0 ≢ Status.Words }
+    ensures feed { (other : List ℕ) → result.0 ≡ Status.Feed other FailedWhy → ⊥ }
+    ensures disk { result.0 ≡ Status.Disk → Rose (D.disk disk).faults (D.disk result.1).faults }
+    ensures sink { result.0 ≡ Status.Sink → Rose (S.sink out.old).faults (S.sink out.new).faults }
+    ensures disk_count { (D.disk disk).faults ≤ (D.disk result.1).faults }
+    ensures sink_count { (S.sink out.old).faults ≤ (S.sink out.new).faults }
+{
+    match code_of(alloc, bundle, plan) {
+        Ok(code) => {
+            let (end, disk) = store_commands::init(alloc, disk, IntelRules::new(), &code, out);
+            (store_status(end), disk)
+        }
+        Err(OutOfMemory) => (Status::Memory, disk),
+    }
+}
+
+// A store that is there is told ahead of what is wrong with the bundle.
+fn unmade<D: Disk>(disk: D, why: Unbrought) -> (Status, D)
+    ensures unmade { (seen : Seen) → seen.sink_now ≡ seen.sink → IsUnmade D.disk D.may_leave D.left_since seen result.0 disk result.1 why }
+    ensures words { result.0 ≢ Status.Words }
+    ensures feed { (other : List ℕ) → result.0 ≡ Status.Feed other FailedWhy → unbrought_status why ≡ Status.Feed other FailedWhy }
+    ensures disk { result.0 ≡ Status.Disk → Rose (D.disk disk).faults (D.disk result.1).faults }
+    ensures sink { result.0 ≢ Status.Sink }
+    ensures disk_count { (D.disk disk).faults ≤ (D.disk result.1).faults }
+{
+    let mut disk = disk;
+    let have = match find_store(&mut disk) {
+        Ok(have) => have,
+        Err(Failed) => return (Status::Disk, disk),
+    };
+    if have > 0 {
+        return (Status::Store { have }, disk);
+    }
+    (unbrought_status(why), disk)
+}

@@ -1,0 +1,107 @@
+//! The statuses of commands, by what they came to.
+ghost use Rattle.std.specs.Prelude.{◌≡◌};
+ghost use Rattle.pipeline_top.specs.Statuses.{behind_store, drain_status, is_said, store_status, turns_status, unbrought_status};
+
+use crate::bringing::Unbrought;
+use crate::{FeedWhy, Status};
+use drain_command::DrainEnd;
+use drain_turns::TurnsEnd;
+use store_commands::StoreEnd;
+
+/// Of a command on a store.
+pub fn store_status(end: StoreEnd) -> Status
+    ensures { result ≡ store_status end }
+{
+    match end {
+        StoreEnd::Done => Status::Done,
+        StoreEnd::Memory => Status::Memory,
+        StoreEnd::Disk => Status::Disk,
+        StoreEnd::Sink => Status::Sink,
+        StoreEnd::Store { have } => Status::Store { have },
+        StoreEnd::Damaged { file, at } => Status::Damaged { file, at },
+        StoreEnd::Refused => Status::Memory,
+        StoreEnd::NoDump { no } => Status::NoDump { no },
+        StoreEnd::Spent { next } => Status::Spent { next },
+        StoreEnd::Full { bytes } => Status::Full { bytes },
+    }
+}
+
+// Of turns that ended so, where so many steps might be made.
+fn turns_status(steps: Option<u64>, last: TurnsEnd) -> Status
+    ensures { result ≡ turns_status steps last }
+{
+    match last {
+        TurnsEnd::Idle => Status::Done,
+        TurnsEnd::Left => Status::Stopped {
+            steps: steps.unwrap_or(0),
+        },
+        TurnsEnd::Absent { name } => Status::Feed {
+            name,
+            why: FeedWhy::Absent,
+        },
+        TurnsEnd::Failed { name } => Status::Feed {
+            name,
+            why: FeedWhy::Failed,
+        },
+        TurnsEnd::Short { have, need } => Status::Short { have, need },
+        TurnsEnd::LongLine { bot, at } => Status::LongLine { bot, at },
+        TurnsEnd::LongFeed { bot } => Status::LongFeed { bot },
+        TurnsEnd::Halted { bot } => Status::Halted { bot },
+        TurnsEnd::Spent { next } => Status::Spent { next },
+        TurnsEnd::Full { bytes } => Status::Full { bytes },
+        TurnsEnd::Disk => Status::Disk,
+        TurnsEnd::Memory => Status::Memory,
+    }
+}
+
+/// Of a drain that might make so many steps.
+pub fn drain_status(steps: Option<u64>, end: DrainEnd) -> Status
+    ensures { result ≡ drain_status steps end }
+{
+    match end {
+        DrainEnd::Turns(last) => turns_status(steps, last),
+        DrainEnd::Memory => Status::Memory,
+        DrainEnd::Disk => Status::Disk,
+        DrainEnd::Sink => Status::Sink,
+        DrainEnd::Store { have } => Status::Store { have },
+        DrainEnd::Damaged { file, at } => Status::Damaged { file, at },
+    }
+}
+
+/// Of a bundle that isn't brought.
+pub fn unbrought_status(why: Unbrought) -> Status
+    ensures { result ≡ unbrought_status why }
+{
+    match why {
+        Unbrought::Absent { name } => Status::Feed {
+            name,
+            why: FeedWhy::Absent,
+        },
+        Unbrought::Failed { name } => Status::Feed {
+            name,
+            why: FeedWhy::Failed,
+        },
+        Unbrought::Config(fault) => Status::Config(fault),
+        Unbrought::OutOfMemory => Status::Memory,
+    }
+}
+
+/// Whether a drain whose bundle isn't brought still prints the summary.
+pub fn is_said(why: &Unbrought) -> bool
+    ensures { result ≡ is_said why.now }
+{
+    match why {
+        Unbrought::Absent { .. } | Unbrought::Failed { .. } => true,
+        Unbrought::Config(_) | Unbrought::OutOfMemory => false,
+    }
+}
+
+/// What opening a store came to is told ahead of the bundle.
+pub fn behind_store(end: StoreEnd, later: Status) -> Status
+    ensures { result ≡ behind_store end later }
+{
+    match end {
+        StoreEnd::Done => later,
+        other => store_status(other),
+    }
+}

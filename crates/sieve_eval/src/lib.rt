@@ -1,0 +1,18 @@
+//! What a sieve makes of an event.
+#![tactic(auto)]
+
+mod amount;
+mod automaton;
+mod fault;
+mod holding;
+mod pattern;
+mod prepared;
+mod putting;
+mod running;
+mod saying;
+mod state;
+mod verdict;
+
+pub use fault::EvalFault;
+pub use prepared::Prepared;
+pub use verdict::{Fate, Verdict};

@@ -1,0 +1,7 @@
+//! How a command ended: the statuses of the program, their numbers and their printed texts.
+#![tactic(auto)]
+
+mod fault;
+mod status;
+
+pub use status::{FeedWhy, Status, status_text};

@@ -1,0 +1,29 @@
+ghost use Rattle.std.specs.Prelude.{◌≡◌, ◌≢◌, ◌≤◌, [], false, length, None, Some, Err, IfErr, IsErrOf, OnOk};
+ghost use Rattle.edge_traits.specs.Count.{Rose};
+ghost use Rattle.edge_traits.specs.Disk.{Image};
+ghost use Rattle.journal_book.specs.Outputs.{AreCompleted, IsBringUpFault};
+ghost use Rattle.book_runs.specs.GoesOn.{GoesOn};
+
+use edge_traits::Disk;
+use journal_book::{Book, BookFault};
+use step_code::Rules;
+
+/// Makes the steps of a book durable, and then completes the files of its outputs: a run of the book's calls that makes no step.
+///
+/// # Errors
+///
+/// `Disk` where the disk failed: the book is broken then. `Damaged` at the first output whose file is shorter than what is
+/// sealed of it. `OutOfMemory`.
+pub fn complete_outputs<D: Disk, R: Rules>(book: &mut Book<D, R>) -> Result<(), BookFault>
+    requires whole { book.old.broken ≡ false }
+    ensures goes_on { GoesOn D.disk D.may_leave D.left_since R.meaning book.old book.new [] }
+    ensures durable { (result ≢ Err BookFault.Disk) → book.new.kept ≡ length book.new.steps }
+    ensures completed { (files after : Image) → (D.disk book.old.disk).told ≡ Some files → (D.disk book.new.disk).told ≡ Some after
+        → OnOk result (AreCompleted (D.may_leave book.new.disk) book.old.state.outs files after) }
+    ensures fault { IfErr result (IsBringUpFault book.old.state.outs (D.disk book.old.disk).told) }
+    ensures failed { IsErrOf result BookFault.Disk → Rose (D.disk book.old.disk).faults (D.disk book.new.disk).faults }
+    ensures untold { (D.disk book.old.disk).told ≡ None → (D.disk book.new.disk).told ≡ None }
+    ensures count { (D.disk book.old.disk).faults ≤ (D.disk book.new.disk).faults }
+{
+    book.bring_up()
+}

@@ -1,0 +1,71 @@
+use Rattle.std.proofs.Common.{◌≡◌, [], refl, sym, ap, subst, ◌∙◌}
+use Rattle.edge_traits.specs.Disk.{Image}
+use Rattle.step_code.specs.declared.base.Base.{Base}
+use Rattle.journal_book.specs.Book.{BookView}
+use Rattle.store_calls.specs.Calls.{IsOpened, StandsOn}
+use Rattle.store_calls.proofs.Called.{still_stands}
+use Rattle.store_commands.specs.Completed.{said, IsCompleted}
+use Rattle.store_commands.specs.Ends.{IsOpenIn, IsPrinted}
+use Rattle.store_commands.specs.declared.end.StoreEnd.{StoreEnd}
+use Rattle.store_commands.proofs.Completed.{completed_closed, completed_open, not_completed}
+use Rattle.store_commands.proofs.completing.complete.Goals as goal
+
+pub returns-in-Ok-complete_outputs-clause-completed : goal.returns-in-Ok-complete_outputs-clause-completed
+returns-in-Ok-complete_outputs-clause-completed g c = λ files told.
+    let m = g.R.Rules.meaning in
+    let opened = c.in-Ok.book in let later = c.complete_outputs.new.book in
+    let open_in : IsOpenIn m files opened.state = record {
+      generation = opened.generation;
+      base = opened.base;
+      steps = opened.steps;
+      opens = c.in-Ok.ensures.opens files told;
+      state = ap (λ (b : BookView _ _). b.state) c.in-Ok.ensures.book;
+    } in
+    let same : later.state ≡ opened.state = ap (λ (b : BookView _ _). b.state) c.complete_outputs.ensures.goes_on.book in
+    let core : c.state.result.now.state ≡ opened.state = (λ i. (c.state.ensures.core i).state) ∙ same in
+    completed_open m files c.args.is_said opened.state c.say-end.result (g.S.Sink.sink c.args.out.now) (g.S.Sink.sink c.say-end.new.out) open_in
+    (subst (λ (b : Base). IsPrinted (said c.args.is_said b) c.say-end.result (g.S.Sink.sink c.args.out.now) (g.S.Sink.sink c.say-end.new.out)) core c.say-end.ensures.printed)
+
+pub returns-in-Ok-complete_outputs-clause-stands : goal.returns-in-Ok-complete_outputs-clause-stands
+returns-in-Ok-complete_outputs-clause-stands g c = λ first steps more was.
+    let m = g.R.Rules.meaning in
+    let opened = c.in-Ok.book in let later = c.complete_outputs.new.book in
+    let is : IsOpened g.D.Disk.disk g.D.Disk.may_leave g.D.Disk.left_since m first steps more c.args.disk opened = record {
+      all = ap (λ (b : BookView _ _). b.kept) c.in-Ok.ensures.book;
+      state = ap (λ (b : BookView _ _). b.state) c.in-Ok.ensures.book;
+      reopened = c.in-Ok.ensures.kept first steps more was;
+      any_moment = c.in-Ok.ensures.any_moment first steps more was;
+    } in
+    subst (λ d. StandsOn g.D.Disk.disk g.D.Disk.may_leave g.D.Disk.left_since m first steps more c.args.disk d) (sym c.into_disk.ensures)
+    (still_stands first steps more [] c.args.disk opened later is c.complete_outputs.ensures.goes_on refl)
+
+pub returns-in-Err-complete_outputs-clause-completed : goal.returns-in-Err-complete_outputs-clause-completed
+returns-in-Err-complete_outputs-clause-completed g c = λ files told.
+    let m = g.R.Rules.meaning in
+    let opened = c.in-Ok.book in
+    let sink = g.S.Sink.sink c.args.out.now in
+    subst (λ (e : StoreEnd). IsCompleted m files c.args.is_said e sink sink) (sym c.end_of.ensures)
+    (not_completed m files c.args.is_said opened.state (g.D.Disk.disk opened.disk).told c.in-Err-complete_outputs.fault sink (c.in-Ok.ensures.long files told) c.in-Err-complete_outputs.ensures.fault)
+
+pub returns-in-Err-complete_outputs-clause-stands : goal.returns-in-Err-complete_outputs-clause-stands
+returns-in-Err-complete_outputs-clause-stands g c = λ first steps more was.
+    let m = g.R.Rules.meaning in
+    let opened = c.in-Ok.book in let later = c.complete_outputs.new.book in
+    let is : IsOpened g.D.Disk.disk g.D.Disk.may_leave g.D.Disk.left_since m first steps more c.args.disk opened = record {
+      all = ap (λ (b : BookView _ _). b.kept) c.in-Ok.ensures.book;
+      state = ap (λ (b : BookView _ _). b.state) c.in-Ok.ensures.book;
+      reopened = c.in-Ok.ensures.kept first steps more was;
+      any_moment = c.in-Ok.ensures.any_moment first steps more was;
+    } in
+    subst (λ d. StandsOn g.D.Disk.disk g.D.Disk.may_leave g.D.Disk.left_since m first steps more c.args.disk d) (sym c.into_disk-in-Err-complete_outputs.ensures)
+    (still_stands first steps more [] c.args.disk opened later is c.complete_outputs.ensures.goes_on refl)
+
+pub returns-in-Err-clause-completed : goal.returns-in-Err-clause-completed
+returns-in-Err-clause-completed g c = λ files told.
+    let m = g.R.Rules.meaning in
+    let sink = g.S.Sink.sink c.args.out.now in
+    subst (λ (e : StoreEnd). IsCompleted m files c.args.is_said e sink sink) (sym c.end_of-in-Err.ensures)
+    (completed_closed m files c.args.is_said (g.D.Disk.disk c.args.disk).told c.in-Err.fault sink told c.in-Err.ensures.fault)
+
+pub returns-in-Err-clause-stands : goal.returns-in-Err-clause-stands
+returns-in-Err-clause-stands g c = λ first steps more was. record { any_moment = c.in-Err.ensures.any_moment_err first steps more was; now = c.in-Err.ensures.still_err first steps more was }

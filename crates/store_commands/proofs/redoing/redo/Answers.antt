@@ -1,0 +1,69 @@
+use Rattle.std.proofs.Common.{◌≡◌, ◌-◌, ℕ, List, length, refl, sym, ap, subst, ◌∙◌}
+use Rattle.step_code.specs.declared.base.Base.{Base}
+use Rattle.step_code.specs.declared.step.Step.{Step}
+use Rattle.step_code.specs.History.{replay}
+use Rattle.journal_book.specs.Book.{BookView}
+use Rattle.journal_book.specs.Staged.{step_cause}
+use Rattle.store_calls.specs.Calls.{IsOpened, StandsOn}
+use Rattle.store_commands.specs.Redone.{redo_step, IsAsked, IsRedoCall, IsRedone, RedoesStep}
+use Rattle.store_commands.specs.declared.end.StoreEnd.{StoreEnd}
+use Rattle.store_commands.proofs.RedoEnds.{call_closed, call_open, call_told, no_damage, redone_closed, redone_open}
+use Rattle.store_commands.proofs.Redone.{makes, makes_durably, stands, state_behind}
+use Rattle.store_commands.proofs.redoing.redo.Goals as goal
+
+pub returns-in-Ok-clause-redone : goal.returns-in-Ok-clause-redone
+returns-in-Ok-clause-redone g c = λ files told.
+    let m = g.R.Rules.meaning in
+    let opened = c.in-Ok.book in
+    let later = c.redo_dump-end.new.book in
+    let step = redo_step opened.state c.args.dump c.args.now in
+    let cause = step_cause m opened.state opened.steps opened.limit step in
+    let limit : opened.limit ≡ 67_108_864 = ap (λ (b : BookView _ _). b.limit) c.in-Ok.ensures.book in
+    let asked : IsAsked m files c.args.dump c.args.now opened.state cause = record {
+      generation = opened.generation;
+      base = opened.base;
+      steps = opened.steps;
+      opens = c.in-Ok.ensures.opens files told;
+      state = ap (λ (b : BookView _ _). b.state) c.in-Ok.ensures.book;
+      cause_is = ap (λ (n : ℕ). step_cause m opened.state opened.steps n step) (sym limit);
+    } in
+    redone_open m files c.args.dump c.args.now opened.state c.state.result.now.state cause (g.D.Disk.disk opened.disk).told c.redo_dump-end.result c.report-end.result (g.S.Sink.sink c.args.out.now) (g.S.Sink.sink c.report-end.new.out) asked c.redo_dump-end.ensures.end (c.in-Ok.ensures.long files told)
+    (λ done. (λ i. (c.state.ensures.core i).state) ∙ state_behind opened later step c.redo_dump-end.result c.redo_dump-end.ensures.run done) c.report-end.ensures.printed c.report-end.ensures.kept c.report-end.ensures.nothing
+
+pub returns-in-Ok-clause-stands : goal.returns-in-Ok-clause-stands
+returns-in-Ok-clause-stands g c = λ first steps more was.
+    let m = g.R.Rules.meaning in
+    let opened = c.in-Ok.book in
+    let later = c.redo_dump-end.new.book in
+    let step = redo_step opened.state c.args.dump c.args.now in
+    let run = c.redo_dump-end.ensures.run in
+    let is : IsOpened g.D.Disk.disk g.D.Disk.may_leave g.D.Disk.left_since m first steps more c.args.disk opened = record {
+      all = ap (λ (b : BookView _ _). b.kept) c.in-Ok.ensures.book;
+      state = ap (λ (b : BookView _ _). b.state) c.in-Ok.ensures.book;
+      reopened = c.in-Ok.ensures.kept first steps more was;
+      any_moment = c.in-Ok.ensures.any_moment first steps more was;
+    } in
+    let e = c.redo_dump-end.result in
+    let call = call_open step run.made e _ _ (no_damage opened.state _ (g.D.Disk.disk opened.disk).told c.args.dump e c.redo_dump-end.ensures.end (c.in-Ok.ensures.long was.files was.tells)) run.made_is
+    (stands first steps more c.args.disk opened later is c.args.dump c.args.now e run) (λ one. (later.kept - opened.kept, makes first steps more c.args.disk opened later is c.args.dump c.args.now e run one))
+    (λ other one. makes_durably first steps more c.args.disk opened later is c.args.dump c.args.now e run (c.redo_dump-end.ensures.durable other) one) in
+    subst (λ d. IsRedoCall c.report-end.result (StandsOn g.D.Disk.disk g.D.Disk.may_leave g.D.Disk.left_since m first steps more c.args.disk d)
+    (RedoesStep g.D.Disk.disk g.D.Disk.may_leave g.D.Disk.left_since m first steps more c.args.disk d c.args.dump c.args.now))
+    (sym c.into_disk.ensures)
+    (call_told e c.report-end.result _ _ _ _ _ c.report-end.ensures.printed c.report-end.ensures.kept call)
+
+pub returns-in-Err-clause-redone : goal.returns-in-Err-clause-redone
+returns-in-Err-clause-redone g c = λ files told.
+    let m = g.R.Rules.meaning in
+    let sink = g.S.Sink.sink c.args.out.now in
+    subst (λ (e : StoreEnd). IsRedone m files c.args.dump c.args.now e sink sink) (sym c.end_of.ensures)
+    (redone_closed m files c.args.dump c.args.now (g.D.Disk.disk c.args.disk).told c.in-Err.fault sink told c.in-Err.ensures.fault)
+
+pub returns-in-Err-clause-stands : goal.returns-in-Err-clause-stands
+returns-in-Err-clause-stands g c = λ first steps more was.
+    let m = g.R.Rules.meaning in
+    let disk = c.in-Err.disk in
+    subst (λ (e : StoreEnd). IsRedoCall e (StandsOn g.D.Disk.disk g.D.Disk.may_leave g.D.Disk.left_since m first steps more c.args.disk disk)
+    (RedoesStep g.D.Disk.disk g.D.Disk.may_leave g.D.Disk.left_since m first steps more c.args.disk disk c.args.dump c.args.now))
+    (sym c.end_of.ensures)
+    (call_closed c.in-Err.fault _ _ (record { any_moment = c.in-Err.ensures.any_moment_err first steps more was; now = c.in-Err.ensures.still_err first steps more was }))

@@ -1,0 +1,67 @@
+ghost use Rattle.std.specs.Prelude.{◌≡◌, ◌≤◌, List, Some};
+ghost use Rattle.edge_traits.specs.Count.{Rose};
+ghost use Rattle.edge_traits.specs.Disk.{Image};
+ghost use Rattle.step_code.specs.declared.base.Base.{Base};
+ghost use Rattle.step_code.specs.declared.step.Step.{Step};
+ghost use Rattle.journal_book.specs.Opening.{StandsNow};
+ghost use Rattle.store_calls.specs.Calls.{StandsOn};
+ghost use Rattle.store_commands.specs.Ends.{IsPrinted};
+ghost use Rattle.store_commands.specs.Completed.{said, IsCompleted};
+
+use crate::end::end_of;
+use crate::printing::print_summary;
+use crate::{STEP_BYTES, StoreEnd};
+use ack_steps::Core;
+use edge_traits::{Disk, Sink};
+use journal_book::Book;
+use std::alloc::Global;
+use step_code::Rules;
+use store_calls::complete_outputs;
+
+/// Opens a store, completes its outputs, and prints its summary where that is asked for. No step is made. The disk comes back.
+pub fn complete<D: Disk, R: Rules, S: Sink>(
+    alloc: Global,
+    disk: D,
+    rules: R,
+    is_said: bool,
+    out: &mut S,
+) -> (StoreEnd, D)
+    // Where the disk tells what it holds: what is printed, or what the store is refused for.
+    ensures completed { (files : Image) → (D.disk disk).told ≡ Some files
+        → IsCompleted R.meaning files is_said result.0 (S.sink out.old) (S.sink out.new) }
+
+    // At any moment of the call, and behind it, the disk stands for the history that it stood for.
+    ensures stands { (first : Base) (steps more : List Step) → StandsNow D.disk D.may_leave R.meaning first steps more disk
+        → StandsOn D.disk D.may_leave D.left_since R.meaning first steps more disk result.1 }
+
+    // The outside failed, as its counts show.
+    ensures disk { result.0 ≡ StoreEnd.Disk → Rose (D.disk disk).faults (D.disk result.1).faults }
+    ensures sink { result.0 ≡ StoreEnd.Sink → Rose (S.sink out.old).faults (S.sink out.new).faults }
+    ensures disk_count { (D.disk disk).faults ≤ (D.disk result.1).faults }
+    ensures sink_count { (S.sink out.old).faults ≤ (S.sink out.new).faults }
+{
+    match Book::reopen(alloc, disk, rules, STEP_BYTES) {
+        Ok(book) => {
+            let mut book = book;
+            match complete_outputs(&mut book) {
+                Ok(()) => {
+                    let end = say(alloc, book.state(), is_said, out);
+                    (end, book.into_disk())
+                }
+                Err(fault) => (end_of(fault), book.into_disk()),
+            }
+        }
+        Err((fault, disk)) => (end_of(fault), disk),
+    }
+}
+
+fn say<R: Rules, S: Sink>(alloc: Global, core: &Core<R>, is_said: bool, out: &mut S) -> StoreEnd
+    ensures printed { IsPrinted (said is_said core.now.state) result (S.sink out.old) (S.sink out.new) }
+    ensures count { (S.sink out.old).faults ≤ (S.sink out.new).faults }
+{
+    if is_said {
+        print_summary(alloc, core, out)
+    } else {
+        StoreEnd::Done
+    }
+}

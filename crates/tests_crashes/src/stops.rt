@@ -1,0 +1,103 @@
+//! Disks that stop, and disks that fail, at each call of a drain.
+
+use crate::calls::{How, OUT, call};
+use crate::checks::{Case, check_faults, check_stops};
+use crate::stores::{drained_store, drill_store, feed_shelf, new_store};
+use drain_fixtures::{DUMP, Ended, OUTPUT};
+use drill_feed::DrillShelf;
+use edge_memory::MemDisk;
+use edge_traits::Disk;
+use std::alloc::Global;
+use std::process::Abort;
+use std::test::Fail;
+
+#[test]
+fn a_drain_completes_the_file_of_its_output(rt: HostRuntime) -> Result<(), Fail> {
+    let alloc = rt.alloc();
+    let mut shelf = feed_shelf(alloc)?;
+    let case = Case::new(alloc, new_store(alloc)?, &mut shelf, How::Start)?;
+    assert!(rt; case.steps.is_empty());
+    assert_eq!(rt; case.output.as_slice(), OUTPUT);
+    assert_eq!(rt; case.dumps.bytes(), DUMP);
+    Ok(())
+}
+
+#[test]
+fn stop_at_each_call(rt: HostRuntime) -> Result<(), Fail> {
+    let alloc = rt.alloc();
+    let mut shelf = feed_shelf(alloc)?;
+    let case = Case::new(alloc, new_store(alloc)?, &mut shelf, How::Start)?;
+
+    // One flush makes all steps durable. Behind it the output's file is looked at, written, cut and synced.
+    assert_eq!(rt; check_stops(&rt, &case, &mut shelf, 0)?, 4);
+    Ok(())
+}
+
+#[test]
+fn fail_at_each_call(rt: HostRuntime) -> Result<(), Fail> {
+    let alloc = rt.alloc();
+    let mut shelf = feed_shelf(alloc)?;
+    let case = Case::new(alloc, new_store(alloc)?, &mut shelf, How::Start)?;
+    check_faults(&rt, &case, &mut shelf)
+}
+
+// The feed is read anew into a store that has its lines already.
+#[test]
+fn stop_at_each_call_of_new_rounds(rt: HostRuntime) -> Result<(), Fail> {
+    let alloc = rt.alloc();
+    let mut shelf = feed_shelf(alloc)?;
+    let case = Case::new(alloc, drained_store(alloc)?, &mut shelf, How::Rounds)?;
+    assert!(rt; case.output.starts_with(OUTPUT));
+    assert!(rt; case.output.ends_with(OUTPUT));
+    assert_eq!(rt; case.output.len() / 2, OUTPUT.len());
+    assert_eq!(rt; check_stops(&rt, &case, &mut shelf, 0)?, 4);
+    Ok(())
+}
+
+// A call on a store with nothing left to do makes one step.
+#[test]
+fn stop_at_each_call_of_an_idle_store(rt: HostRuntime) -> Result<(), Fail> {
+    let alloc = rt.alloc();
+    let mut shelf = feed_shelf(alloc)?;
+    let case = Case::new(alloc, drained_store(alloc)?, &mut shelf, How::Start)?;
+    assert_eq!(rt; case.output.as_slice(), OUTPUT);
+    assert_eq!(rt; check_stops(&rt, &case, &mut shelf, 0)?, 4);
+    Ok(())
+}
+
+// A drill of so many lines makes 69 steps, in two flushes of four calls each. Then the output's file is completed in four.
+const LINES: u32 = 16;
+
+#[test]
+fn stop_at_each_call_of_the_flushes_of_a_drill(rt: HostRuntime) -> Result<(), Fail> {
+    let alloc = rt.alloc();
+    let mut shelf = DrillShelf::new(alloc, LINES, 7)?;
+    let case = Case::new(alloc, drill_store(alloc)?, &mut shelf, How::Start)?;
+    let opening = case.calls.saturating_sub(12);
+    assert_eq!(rt; check_stops(&rt, &case, &mut shelf, opening)?, 8);
+    Ok(())
+}
+
+// A new store whose output's file has so many other bytes.
+fn torn_store(alloc: Global, bytes: usize) -> Result<MemDisk, Fail> {
+    if bytes > 1_000_000 {
+        return Err(Fail::from("more than a million bytes"));
+    }
+    let mut disk = new_store(alloc)?;
+    disk.write_at(OUT, 0, &vec![in alloc; b'x'; bytes]?)?;
+    Ok(disk)
+}
+
+// As many bytes as are written, or more, or fewer.
+#[test]
+fn a_torn_output_is_completed(rt: HostRuntime) -> Result<(), Fail> {
+    let alloc = rt.alloc();
+    let mut shelf = feed_shelf(alloc)?;
+    for bytes in [1, OUTPUT.len(), OUTPUT.len() + 1, 100_000] {
+        let disk = torn_store(alloc, bytes)?;
+        let (run, disk) = call(alloc, disk, &mut shelf, How::Start, &[]);
+        assert_eq!(rt; run?.ended, Ended::Idle);
+        assert_eq!(rt; disk.file(alloc, OUT)?.as_slice(), OUTPUT, "{bytes} bytes");
+    }
+    Ok(())
+}
