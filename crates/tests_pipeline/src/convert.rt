@@ -165,7 +165,7 @@ const NO_COMMANDS: [&[&str]; 12] = [
     &["convert", "--Feed", "feed.json"],
     &["Convert", "--feed", "feed.json"],
     &["convert", "--feed", "feed.json", "--feed", "feed.json"],
-    &["drain"],
+    &["drain", "--feed", "feed.json"],
     &["run", "--feed", "feed.json"],
 ];
 
