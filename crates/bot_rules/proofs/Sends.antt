@@ -1,5 +1,5 @@
 -- Bodies that are sent and put aside.
-use Rattle.std.proofs.Common.{◌≡◌, ℕ, List, [], ◌∷◌, ◌++◌, Bool, true, Some, Result, Ok, Err, IfOk, OnOk, refl, sym, ap, ◌∙◌}
+use Rattle.std.proofs.Common.{◌≡◌, ℕ, List, [], ◌∷◌, ◌++◌, Bool, true, Some, Result, Ok, Err, IfOk, OnOk, refl, sym, ap, ◌∙◌, append_assoc}
 use Rattle.std.specs.Prelude.{is_some}
 use Rattle.std.specs.List.{list_all}
 use Rattle.std.proofs.lemmas.Bool.{and_from}
@@ -17,7 +17,9 @@ use Rattle.event_json.specs.Text.{message_text}
 use Rattle.event_json.proofs.Exact.{strict-only, strict-reads}
 use Rattle.expert_rules.specs.declared.chosen.DedupRule.{DedupRule}
 use Rattle.step_code.specs.declared.rules.Role.TheVariants as role
-use Rattle.bot_rules.specs.Gives.{body_of, is_lawful, takes, to_all, to_each}
+use Rattle.runtime_config.specs.declared.plan.Route.{Route}
+use Rattle.bot_rules.specs.Facts.{queues_on}
+use Rattle.bot_rules.specs.Gives.{body_of, is_lawful, takes, to_all, to_each, to_paths}
 use Rattle.bot_rules.specs.Jobs.{role_for}
 use Rattle.bot_rules.specs.declared.job.Job.{Job}
 use Rattle.bot_rules.specs.declared.job.Job.TheVariants as job
@@ -60,6 +62,30 @@ next_event queues before event old new so_far is lawful = (
       ∙ sym (flat_map-append (λ (e : FieldMap). to_each queues (body_of Event e)) before (event ∷ [])),
   all_more (λ (send : Send). is_lawful send.1) old (to_each queues (body_of Event event)) new is so_far.1 (each_is_lawful queues (body_of Event event) lawful),
 )
+
+-- a body that goes on each of the paths is one each time
+pub paths_are_lawful : (routes : List Route) (paths : List (List ℕ)) (body : List ℕ) → is_lawful body ≡ true → list_all (λ (send : Send). is_lawful send.1) (to_paths routes paths body) ≡ true
+paths_are_lawful routes [] body is = refl
+paths_are_lawful routes (path ∷ paths) body is =
+    list_all-append (λ (send : Send). is_lawful send.1) (to_each (queues_on path routes) body) (to_paths routes paths body)
+    ∙ and_from _ _ (each_is_lawful (queues_on path routes) body is) (paths_are_lawful routes paths body is)
+
+-- a path more
+pub next_path : (routes : List Route) (paths more : List (List ℕ)) (path body : List ℕ) (first old new : List Send) → old ≡ first ++ to_paths routes paths body
+    → new ≡ old ++ to_each (queues_on path routes) body → paths ++ path ∷ [] ≡ more → new ≡ first ++ to_paths routes more body
+next_path routes paths more path body first old new so_far is next =
+    let on : List ℕ → List Send = λ p. to_each (queues_on p routes) body in
+    is ∙ ap (λ (t : List Send). t ++ on path) so_far
+    ∙ append_assoc first (to_paths routes paths body) (on path)
+    ∙ ap (λ (t : List Send). first ++ (to_paths routes paths body ++ t)) (sym (append-nil (on path)))
+    ∙ ap (λ (t : List Send). first ++ t) (sym (flat_map-append on paths (path ∷ [])))
+    ∙ ap (λ (ps : List (List ℕ)). first ++ to_paths routes ps body) next
+
+-- the last path behind the others
+pub all_paths : (routes : List Route) (paths others : List (List ℕ)) (last body : List ℕ) (first second third : List Send) → paths ≡ others ++ last ∷ [] → first ≡ []
+    → second ≡ first ++ to_paths routes others body → third ≡ second ++ to_each (queues_on last routes) body → third ≡ to_paths routes paths body
+all_paths routes paths others last body first second third are none before is =
+    next_path routes others paths last body [] second third (before ∙ ap (λ (t : List Send). t ++ to_paths routes others body) none) is (sym are)
 
 -- experts take events alone
 event_alone : (kind : Kind) → takes role.Expert kind ≡ true → kind ≡ Event

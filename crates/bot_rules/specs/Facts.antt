@@ -33,6 +33,7 @@ abbrev pub role_of : Module → Role
 role_of (modules.Collector file name provider chunk_size replicate) = role.Collector
 role_of (modules.Csv columns delimiter skip_header defaults stamp) = role.Parser
 role_of (modules.Json style defaults) = role.Parser
+role_of (modules.Sieve sieve) = role.Expert
 role_of (modules.Dedup keys keep ttl cache_max) = role.Expert
 role_of (modules.Prefix networks sets overwrite) = role.Expert
 role_of modules.Taxonomy = role.Expert

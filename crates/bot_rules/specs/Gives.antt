@@ -8,7 +8,7 @@ use Rattle.event_model.specs.declared.message.Kind.TheVariants.{Report, Event}
 use Rattle.event_model.specs.declared.message.Message.{Message}
 use Rattle.event_json.specs.Exact.{strict}
 use Rattle.event_json.specs.Text.{message_text}
-use Rattle.feed_rows.specs.Notes.{kind_note}
+use Rattle.feed_rows.specs.Notes.{kind_note, sieve_note}
 use Rattle.feed_rows.specs.declared.parsed.Bad.{Bad}
 use Rattle.feed_rows.specs.declared.parsed.Parsed.{Parsed}
 use Rattle.feed_csv.specs.Rows.{csv_parsed}
@@ -16,10 +16,16 @@ use Rattle.feed_json.specs.Rows.{json_parsed}
 use Rattle.expert_rules.specs.Chosen.{chosen}
 use Rattle.expert_rules.specs.Enrich.{enriched}
 use Rattle.expert_rules.specs.Taxonomy.{with_taxonomy}
+use Rattle.runtime_config.specs.declared.plan.Route.{Route}
+use Rattle.sieve_eval.specs.Verdicts.{verdict}
+use Rattle.sieve_eval.specs.declared.verdict.Fate.{Fate}
+use Rattle.sieve_eval.specs.declared.verdict.Fate.TheVariants as fate
+use Rattle.sieve_eval.specs.declared.verdict.Verdict.{Verdict}
 use Rattle.step_code.specs.declared.rules.Given.{Given}
 use Rattle.step_code.specs.declared.rules.Given.TheVariants as given
 use Rattle.step_code.specs.declared.rules.Role.{Role}
 use Rattle.step_code.specs.declared.rules.Role.TheVariants as role
+use Rattle.bot_rules.specs.Facts.{queues_on}
 use Rattle.bot_rules.specs.Jobs.{role_for}
 use Rattle.bot_rules.specs.declared.job.Job.{Job}
 use Rattle.bot_rules.specs.declared.job.Job.TheVariants as job
@@ -61,10 +67,25 @@ expert_gives queues fields = given.Pass (to_each queues (body_of Event fields)) 
 abbrev pub dedup_gives : List (List ℕ) → (key fields : FieldMap) → Given
 dedup_gives queues key fields = given.Pass (to_each queues (body_of Event fields)) [] (Some (body_of Event key)) false
 
--- What is made of the fields of a message of the right kind that was taken at a moment. No module looks at that yet.
+-- path by path, a body goes to each queue of the path
+abbrev pub to_paths : List Route → List (List ℕ) → List ℕ → List (List ℕ × List ℕ)
+to_paths routes paths body = flat_map (λ path. to_each (queues_on path routes) body) paths
+
+-- an event that a sieve has made goes on these paths, or nowhere
+abbrev pub fate_gives : List Route → FieldMap → Fate → Given
+fate_gives routes fields (fate.Forward paths) = given.Pass (to_paths routes paths (body_of Event fields)) [] None false
+fate_gives routes fields fate.Dropped = given.Pass [] [] None false
+
+-- a sieve sends what it makes of the event; or a value that it copies has no form that the field takes
+abbrev pub sieve_gives : List Route → Result Verdict ℕ → Given
+sieve_gives routes (Ok v) = fate_gives routes v.fields v.fate
+sieve_gives routes (Err at) = given.Fault (sieve_note at)
+
+-- What is made of the fields of a message of the right kind that was taken at a moment. A sieve alone looks at the moment.
 unfoldable pub job_gives : Job → List (List ℕ) → (since : ℕ) → FieldMap → Given
 job_gives (job.Csv rule) queues since fields = parser_gives queues (csv_parsed rule fields)
 job_gives (job.Json rule) queues since fields = parser_gives queues (json_parsed rule fields)
+job_gives (job.Sieve work) queues since fields = sieve_gives work.routes (verdict work.sieve fields since)
 job_gives (job.Dedup rule) queues since fields = dedup_gives queues (chosen rule fields) fields
 job_gives (job.Prefix table) queues since fields = expert_gives queues (enriched table.networks table.sets table.overwrite fields)
 job_gives job.Taxonomy queues since fields = expert_gives queues (with_taxonomy fields)

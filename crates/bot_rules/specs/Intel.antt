@@ -68,7 +68,7 @@ work_gives (Some work) queues since body = body_gives work queues since body
 
 abbrev pub bot_gives : Option Planned → (since : ℕ) → List ℕ → Given
 bot_gives None since body = given.Fault kind_note
-bot_gives (Some p) since body = work_gives (job_of p.«module») (queues_on default_path p.paths) since body
+bot_gives (Some p) since body = work_gives (job_of p.paths p.«module») (queues_on default_path p.paths) since body
 
 -- ---- the meaning of the rules
 

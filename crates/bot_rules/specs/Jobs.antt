@@ -10,6 +10,7 @@ use Rattle.feed_json.specs.declared.rule.Style.TheVariants as style
 use Rattle.expert_rules.specs.declared.chosen.DedupRule.{DedupRule}
 use Rattle.runtime_config.specs.declared.plan.Module.{Module}
 use Rattle.runtime_config.specs.declared.plan.Module.TheVariants as modules
+use Rattle.runtime_config.specs.declared.plan.Route.{Route}
 use Rattle.step_code.specs.declared.rules.Role.{Role}
 use Rattle.step_code.specs.declared.rules.Role.TheVariants as role
 use Rattle.bot_rules.specs.declared.job.Job.{Job}
@@ -33,20 +34,22 @@ json_rule word defaults = record { style = style_of word; defaults = defaults }
 abbrev pub dedup_rule : List (List ℕ) → Bool → ℕ → ℕ → DedupRule
 dedup_rule keys keep ttl cache_max = record { keys = keys; keep = keep; ttl = ttl; cache_max = cache_max }
 
--- what a module does with messages; a collector gets none
-abbrev pub job_of : Module → Option Job
-job_of (modules.Collector file name provider chunk_size replicate) = None
-job_of (modules.Csv columns delimiter skip_header defaults stamp) = Some (job.Csv (csv_rule columns delimiter skip_header defaults stamp))
-job_of (modules.Json word defaults) = Some (job.Json (json_rule word defaults))
-job_of (modules.Dedup keys keep ttl cache_max) = Some (job.Dedup (dedup_rule keys keep ttl cache_max))
-job_of (modules.Prefix networks sets overwrite) = Some (job.Prefix (record { networks = networks; sets = sets; overwrite = overwrite }))
-job_of modules.Taxonomy = Some job.Taxonomy
-job_of modules.Output = Some job.Output
+-- what a bot with these paths and this module does with messages; a collector gets none
+abbrev pub job_of : List Route → Module → Option Job
+job_of routes (modules.Collector file name provider chunk_size replicate) = None
+job_of routes (modules.Csv columns delimiter skip_header defaults stamp) = Some (job.Csv (csv_rule columns delimiter skip_header defaults stamp))
+job_of routes (modules.Json word defaults) = Some (job.Json (json_rule word defaults))
+job_of routes (modules.Sieve sieve) = Some (job.Sieve (record { sieve = sieve; routes = routes }))
+job_of routes (modules.Dedup keys keep ttl cache_max) = Some (job.Dedup (dedup_rule keys keep ttl cache_max))
+job_of routes (modules.Prefix networks sets overwrite) = Some (job.Prefix (record { networks = networks; sets = sets; overwrite = overwrite }))
+job_of routes modules.Taxonomy = Some job.Taxonomy
+job_of routes modules.Output = Some job.Output
 
 -- what a bot with this work is for
 abbrev pub role_for : Job → Role
 role_for (job.Csv rule) = role.Parser
 role_for (job.Json rule) = role.Parser
+role_for (job.Sieve work) = role.Expert
 role_for (job.Dedup rule) = role.Expert
 role_for (job.Prefix table) = role.Expert
 role_for job.Taxonomy = role.Expert

@@ -29,13 +29,18 @@ use Rattle.runtime_config.specs.declared.plan.Module.{Module}
 use Rattle.runtime_config.specs.declared.plan.Module.TheVariants as modules
 use Rattle.runtime_config.specs.declared.plan.Plan.{Plan}
 use Rattle.runtime_config.specs.declared.plan.Planned.{Planned}
+use Rattle.runtime_config.specs.declared.plan.Route.{Route}
 use Rattle.runtime_config.proofs.Ordered.{plans_are_within}
+use Rattle.sieve_eval.specs.Verdicts.{verdict}
+use Rattle.sieve_eval.specs.declared.verdict.Fate.{Fate}
+use Rattle.sieve_eval.specs.declared.verdict.Fate.TheVariants as fate
+use Rattle.sieve_eval.specs.declared.verdict.Verdict.{Verdict}
 use Rattle.step_code.specs.declared.rules.Facts.{Facts}
 use Rattle.step_code.specs.declared.rules.Given.{Given}
 use Rattle.step_code.specs.declared.rules.Given.TheVariants as given
 use Rattle.step_code.specs.Rules.{AreSound, FitsBot, IsLawful, IsSoundBot, Task, bot_named, collects, writes}
 use Rattle.bot_rules.specs.Facts.{default_path, facts_of, queues_on}
-use Rattle.bot_rules.specs.Gives.{are_lawful, body_gives, is_lawful, job_gives, message_gives, parser_gives, takes}
+use Rattle.bot_rules.specs.Gives.{are_lawful, body_gives, fate_gives, is_lawful, job_gives, message_gives, parser_gives, sieve_gives, takes}
 use Rattle.bot_rules.specs.Intel.{bare_report, bot_gives, bot_reports, facts_in, intel, module_reports, plan_in, planned_in, planned_named, work_gives}
 use Rattle.bot_rules.specs.Jobs.{csv_rule, dedup_rule, job_of, json_rule, role_for}
 use Rattle.bot_rules.specs.Report.{report_text}
@@ -58,6 +63,7 @@ module_is_lawful (modules.Collector file name provider chunk_size replicate) pie
     or_bare_is_lawful (report_text name provider piece now) (is_lawful (report_text name provider piece now)) refl
 module_is_lawful (modules.Csv columns delimiter skip_header defaults stamp) piece now = bare_is_lawful
 module_is_lawful (modules.Json style defaults) piece now = bare_is_lawful
+module_is_lawful (modules.Sieve sieve) piece now = bare_is_lawful
 module_is_lawful (modules.Dedup keys keep ttl cache_max) piece now = bare_is_lawful
 module_is_lawful (modules.Prefix networks sets overwrite) piece now = bare_is_lawful
 module_is_lawful modules.Taxonomy piece now = bare_is_lawful
@@ -82,6 +88,7 @@ unfolding facts_of
 sound_as p (modules.Collector file name provider chunk_size replicate) is within = sound_with _ is.some_instance is.instances is.retries is.delay refl within.0 within.1 tt
 sound_as p (modules.Csv columns delimiter skip_header defaults stamp) is within = sound_with _ is.some_instance is.instances is.retries is.delay refl tt tt tt
 sound_as p (modules.Json style defaults) is within = sound_with _ is.some_instance is.instances is.retries is.delay refl tt tt tt
+sound_as p (modules.Sieve sieve) is within = sound_with _ is.some_instance is.instances is.retries is.delay refl tt tt tt
 sound_as p (modules.Dedup keys keep ttl cache_max) is within = sound_with _ is.some_instance is.instances is.retries is.delay refl tt tt within
 sound_as p (modules.Prefix networks sets overwrite) is within = sound_with _ is.some_instance is.instances is.retries is.delay refl tt tt tt
 sound_as p modules.Taxonomy is within = sound_with _ is.some_instance is.instances is.retries is.delay refl tt tt tt
@@ -162,6 +169,14 @@ parser_right : (f : Facts) (queues : List (List ℕ)) (r : Result Parsed FaultNo
 parser_right f queues (Ok all) = plain f
 parser_right f queues (Err note) = tt
 
+fate_right : (f : Facts) (routes : List Route) (fields : FieldMap) (goes : Fate) → IsRight f (fate_gives routes fields goes)
+fate_right f routes fields (fate.Forward paths) = plain f
+fate_right f routes fields fate.Dropped = plain f
+
+sieve_right : (f : Facts) (routes : List Route) (r : Result Verdict ℕ) → IsRight f (sieve_gives routes r)
+sieve_right f routes (Ok v) = fate_right f routes v.fields v.fate
+sieve_right f routes (Err at) = tt
+
 message_fits : (f : Facts) (work : Job) (queues : List (List ℕ)) (since : ℕ) (m : Option Message) → ((fields : FieldMap) → IsRight f (job_gives work queues since fields)) → FitsBot intel f (message_gives work queues since m)
 message_fits f work queues since None right = tt
 message_fits f work queues since (Some m) right = by_kind (takes (role_for work) m.kind)
@@ -178,7 +193,7 @@ body_fits f work queues since body right = message_fits f work queues since (str
 abbrev facts_as : Planned → Module → Facts
 facts_as p m = facts_of (record p { «module» = m })
 
-module_fits : (p : Planned) (m : Module) (since : ℕ) (body : List ℕ) → FitsBot intel (facts_as p m) (work_gives (job_of m) (queues_on default_path p.paths) since body)
+module_fits : (p : Planned) (m : Module) (since : ℕ) (body : List ℕ) → FitsBot intel (facts_as p m) (work_gives (job_of p.paths m) (queues_on default_path p.paths) since body)
 unfolding facts_of job_gives
 module_fits p (modules.Collector file name provider chunk_size replicate) since body = tt
 module_fits p (modules.Csv columns delimiter skip_header defaults stamp) since body =
@@ -191,6 +206,9 @@ module_fits p (modules.Json style defaults) since body =
     let rule = json_rule style defaults in
     let queues = queues_on default_path p.paths in
     body_fits f (job.Json rule) queues since body (λ fields. parser_right f queues (json_parsed rule fields))
+module_fits p (modules.Sieve sieve) since body =
+    let f = facts_as p (modules.Sieve sieve) in
+    body_fits f (job.Sieve (record { sieve = sieve; routes = p.paths })) (queues_on default_path p.paths) since body (λ fields. sieve_right f p.paths (verdict sieve fields since))
 module_fits p (modules.Dedup keys keep ttl cache_max) since body =
     body_fits (facts_as p (modules.Dedup keys keep ttl cache_max)) (job.Dedup (dedup_rule keys keep ttl cache_max)) (queues_on default_path p.paths) since body
     (λ fields. (λ some. refl, λ line. absurd (cc (line))))

@@ -23,6 +23,7 @@ pub record IsPlanning (bundle : List ℕ) (bots : List Planned) (facts : List Fa
 abbrev pub IsReady : Job → Type 0
 IsReady (job.Csv rule) = Unit {0}
 IsReady (job.Json rule) = Unit {0}
+IsReady (job.Sieve work) = Unit {0}
 IsReady (job.Dedup rule) = Unit {0}
 IsReady (job.Prefix table) = length table.sets ≡ length table.networks
 IsReady job.Taxonomy = Unit {0}
@@ -33,5 +34,5 @@ pub record IsWorkOf (task : Task) (queues : List (List ℕ)) (work : Job) : Type
   pub bot : Planned
   pub planned : planned_in task ≡ Some bot
   pub queues_are : queues ≡ queues_on default_path bot.paths
-  pub work_is : job_of bot.«module» ≡ Some work
+  pub work_is : job_of bot.paths bot.«module» ≡ Some work
   pub ready : IsReady work

@@ -33,8 +33,8 @@ fn send(sends: &mut SendList, queue: QueueName, body: Blob) -> Result<(), OutOfM
     }
 }
 
-// Sends copies of a body to queues.
-fn send_copies(
+/// Sends copies of a body to queues.
+pub fn send_copies(
     alloc: Global,
     sends: &mut SendList,
     queues: &[QueueName],

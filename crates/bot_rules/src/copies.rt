@@ -2,10 +2,11 @@
 ghost use Rattle.std.specs.Prelude.{◌≡◌, map, IfOk};
 ghost use Rattle.bot_rules.specs.Jobs.{column_of};
 
-use base_types::{OutOfMemory, Text, TextList};
+use base_types::{OutOfMemory, QueueList, Text, TextList};
 use event_model::Fields;
 use expert_rules::FieldsList;
 use feed_csv::{Column, ColumnList};
+use runtime_config::{Route, RouteList};
 use std::alloc::Global;
 
 pub fn copy_texts(alloc: Global, texts: &[Text]) -> Result<TextList, OutOfMemory>
@@ -26,6 +27,25 @@ pub fn copy_sets(alloc: Global, sets: &[Fields]) -> Result<FieldsList, OutOfMemo
         copied.push(set.copy(alloc)?)?;
     }
     Ok(FieldsList::from(copied))
+}
+
+fn copy_route(alloc: Global, route: &Route) -> Result<Route, OutOfMemory>
+    ensures { IfOk result (λ copied. copied ≡ route.now) }
+{
+    Ok(Route {
+        path: route.path.copy(alloc)?,
+        queues: QueueList::from(route.queues.as_slice().to_vec(alloc)?),
+    })
+}
+
+pub fn copy_routes(alloc: Global, routes: &[Route]) -> Result<RouteList, OutOfMemory>
+    ensures { IfOk result (λ copied. copied ≡ routes.now) }
+{
+    let mut copied = Vec::with_capacity(alloc, routes.len())?;
+    'routes: for route in routes {
+        copied.push(copy_route(alloc, route)?)?;
+    }
+    Ok(RouteList::from(copied))
 }
 
 fn column_of(alloc: Global, stamp: bool, names: &TextList) -> Result<Column, OutOfMemory>

@@ -28,7 +28,9 @@ fn role_of(module: &Module) -> Role
     match module {
         Module::Collector { .. } => Role::Collector,
         Module::Csv { .. } | Module::Json { .. } => Role::Parser,
-        Module::Dedup { .. } | Module::Prefix { .. } | Module::Taxonomy => Role::Expert,
+        Module::Sieve(_) | Module::Dedup { .. } | Module::Prefix { .. } | Module::Taxonomy => {
+            Role::Expert
+        }
         Module::Output => Role::Output,
     }
 }

@@ -11,6 +11,7 @@ use crate::Job;
 use crate::body::message_of;
 use crate::experts::{dedup_gives, prefix_gives, taxonomy_gives};
 use crate::parsers::{csv_gives, json_gives};
+use crate::sieves::sieve_gives;
 use base_types::{Blob, Moment, NoteList, OutOfMemory, QueueList, SendList};
 use event_model::{Kind, Message};
 use feed_rows::kind_note;
@@ -22,7 +23,7 @@ fn role_for(job: &Job) -> Role
 {
     match job {
         Job::Csv(_) | Job::Json(_) => Role::Parser,
-        Job::Dedup(_) | Job::Prefix(_) | Job::Taxonomy => Role::Expert,
+        Job::Sieve(_) | Job::Dedup(_) | Job::Prefix(_) | Job::Taxonomy => Role::Expert,
         Job::Output => Role::Output,
     }
 }
@@ -61,22 +62,24 @@ fn written(alloc: Global) -> Given
 #[tactic(auto, unfolding(crate::specs::Gives::job_gives))]
 fn job_gives(
     alloc: Global,
-    job: &Job,
+    job: &mut Job,
     queues: &QueueList,
     body: &Blob,
-    _since: Moment,
+    since: Moment,
     message: &Message,
 ) -> Result<Given, OutOfMemory>
-    requires ready { IsReady job.now }
+    requires ready { IsReady job.old }
     requires body { strict body.now ≡ Some message.now }
-    requires taken { takes (role_for job.now) message.now.kind ≡ true }
-    ensures given { IfOk result (λ g. g ≡ job_gives job.now queues.now _since.0 message.now.fields) }
+    requires taken { takes (role_for job.old) message.now.kind ≡ true }
+    ensures given { IfOk result (λ g. g ≡ job_gives job.old queues.now since.0 message.now.fields) }
     ensures lawful { IfOk result (λ g. are_lawful g ≡ true) }
+    ensures same { job.new ≡ job.old }
 {
     let fields = &message.fields;
     match job {
         Job::Csv(rule) => csv_gives(alloc, rule, queues, fields),
         Job::Json(rule) => json_gives(alloc, rule, queues, fields),
+        Job::Sieve(work) => sieve_gives(alloc, work, fields, since),
         Job::Dedup(rule) => dedup_gives(alloc, rule, queues, body, fields),
         Job::Prefix(table) => prefix_gives(alloc, table, queues, fields),
         Job::Taxonomy => taxonomy_gives(alloc, queues, fields),
@@ -88,13 +91,14 @@ fn job_gives(
 #[tactic(auto, unfolding(crate::specs::Gives::body_gives))]
 pub fn body_gives(
     alloc: Global,
-    job: &Job,
+    job: &mut Job,
     queues: &QueueList,
     body: &Blob,
     since: Moment,
 ) -> Result<Given, OutOfMemory>
-    requires { IsReady job.now }
-    ensures { IfOk result (λ g. g ≡ body_gives job.now queues.now since.0 body.now) }
+    requires { IsReady job.old }
+    ensures given { IfOk result (λ g. g ≡ body_gives job.old queues.now since.0 body.now) }
+    ensures same { job.new ≡ job.old }
 {
     let Some(message) = message_of(alloc, body)? else {
         return wrong_kind(alloc);

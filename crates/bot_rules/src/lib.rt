@@ -12,9 +12,10 @@ mod plan;
 mod planned;
 mod report;
 mod rules;
+mod sieves;
 mod work;
 
-pub use job::{Job, Table};
+pub use job::{Job, SieveJob, Table};
 pub use plan::IntelPlan;
 pub use rules::IntelRules;
 pub use work::IntelWork;

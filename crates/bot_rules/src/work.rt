@@ -4,23 +4,25 @@ ghost use Rattle.bot_rules.specs.Jobs.{csv_rule, dedup_rule, job_of, json_rule, 
 ghost use Rattle.bot_rules.specs.Intel.{bot_gives, planned_in};
 ghost use Rattle.bot_rules.specs.Ready.{IsReady};
 
-use crate::copies::{columns_of, copy_sets, copy_texts};
+use crate::copies::{columns_of, copy_routes, copy_sets, copy_texts};
 use crate::facts::{DEFAULT_PATH, queues_on};
 use crate::give::body_gives;
-use crate::{Job, Table};
+use crate::{Job, SieveJob, Table};
 use base_types::{Blob, BotName, Moment, OutOfMemory, QueueList, Text, TextList};
 use event_model::Fields;
 use expert_rules::DedupRule;
 use feed_csv::CsvRule;
 use feed_json::{JsonRule, Style};
 use prefix_table::PrefixTable;
-use runtime_config::{FieldsList, Module, NamesList, NetworkList, Planned};
+use runtime_config::{FieldsList, Module, NamesList, NetworkList, Planned, Route};
+use sieve_eval::Prepared;
+use sieve_reader::Sieve;
 use std::alloc::Global;
 use std::marker::Model;
 use step_code::Given;
 
 /// A bot of a bundle that is ready for work. Contracts see the bundle's bytes and the bot's name.
-#[derive(Debug, Drop)]
+#[derive(Drop)]
 pub struct IntelWork {
     bundle: Blob,
     bot: BotName,
@@ -78,6 +80,16 @@ fn json(alloc: Global, style: &Text, defaults: &Fields) -> Result<Job, OutOfMemo
     }))
 }
 
+// A sieve's patterns are built here, once for all messages.
+fn sieve_job(alloc: Global, sieve: &Sieve, routes: &[Route]) -> Result<SieveJob, OutOfMemory>
+    ensures { IfOk result (λ job. job ≡ record { sieve = sieve.now; routes = routes.now }) }
+{
+    Ok(SieveJob {
+        sieve: Prepared::new(alloc, sieve)?,
+        routes: copy_routes(alloc, routes)?,
+    })
+}
+
 fn dedup(
     alloc: Global,
     keys: &TextList,
@@ -118,9 +130,9 @@ fn table(
     })
 }
 
-// What a module does with messages. A collector gets none.
-fn job_of(alloc: Global, module: &Module) -> Result<Job, OutOfMemory>
-    ensures job { IfOk result (λ job. job_of module.now ≡ Some job) }
+// What a bot with these paths and this module does with messages. A collector gets none.
+fn job_of(alloc: Global, routes: &[Route], module: &Module) -> Result<Job, OutOfMemory>
+    ensures job { IfOk result (λ job. job_of routes.now module.now ≡ Some job) }
     ensures ready { IfOk result IsReady }
 {
     match module {
@@ -133,6 +145,7 @@ fn job_of(alloc: Global, module: &Module) -> Result<Job, OutOfMemory>
             stamp,
         } => csv(alloc, columns, *delimiter, *skip_header, defaults, *stamp),
         Module::Json { style, defaults } => json(alloc, style, defaults),
+        Module::Sieve(sieve) => Ok(Job::Sieve(sieve_job(alloc, sieve, routes)?)),
         Module::Dedup {
             keys,
             keep,
@@ -164,19 +177,20 @@ impl IntelWork {
             bundle: bundle.copy(alloc)?,
             bot: *bot,
             queues: queues_on(alloc, DEFAULT_PATH, planned.paths.as_slice())?,
-            job: job_of(alloc, &planned.module)?,
+            job: job_of(alloc, planned.paths.as_slice(), &planned.module)?,
         })
     }
 
     /// What the bot makes of a body that it took at a moment.
     pub(crate) fn give(
-        &self,
+        &mut self,
         alloc: Global,
         body: &Blob,
         since: Moment,
     ) -> Result<Given, OutOfMemory>
-        ensures { IfOk result (λ g. g ≡ bot_gives (planned_in self.now) since.0 body.now) }
+        ensures given { IfOk result (λ g. g ≡ bot_gives (planned_in self.old) since.0 body.now) }
+        ensures same { self.new ≡ self.old }
     {
-        body_gives(alloc, &self.job, &self.queues, body, since)
+        body_gives(alloc, &mut self.job, &self.queues, body, since)
     }
 }

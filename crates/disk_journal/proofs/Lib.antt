@@ -1,4 +1,5 @@
 pub mod Appends
+pub mod Either
 pub mod GateFiles
 pub mod Reopening
 pub mod Resting

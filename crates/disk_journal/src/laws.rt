@@ -15,3 +15,8 @@ pub fn damaged_has_no_bodies()
 pub fn damage_is_at_one_place()
     ensures { (heading : Heading) (at other : ℕ) (file : List ℕ) → IsDamagedAt heading file at → IsDamagedAt heading file other → at ≡ other }
 {}
+
+/// A file stands for a list of bodies or is damaged: none does neither.
+pub fn a_file_has_bodies_or_damage()
+    ensures { (heading : Heading) (file : List ℕ) → ((bodies : List (List ℕ)) → HasBodies heading bodies file → ⊥) → ((at : ℕ) → IsDamagedAt heading file at → ⊥) → ⊥ }
+{}

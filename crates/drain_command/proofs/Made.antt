@@ -11,9 +11,9 @@ use Rattle.step_code.specs.History.{replay}
 use Rattle.step_code.specs.Rules.{Meaning}
 use Rattle.store_image.specs.Opens.{Opens}
 use Rattle.store_image.specs.Stands.{IsSealOf}
-use Rattle.journal_book.specs.Book.{BookView}
+use Rattle.journal_book.specs.Book.{BookView, IsKept}
 use Rattle.journal_book.specs.Opening.{IsReopenFault, StandsNow}
-use Rattle.journal_book.specs.Outputs.{AreCompleted}
+use Rattle.journal_book.specs.Outputs.{AreCompleted, AreWritten, HaveNoneSealed, IsNoDamage}
 use Rattle.journal_book.specs.declared.book_fault.BookFault.{BookFault}
 use Rattle.journal_book.specs.declared.book_fault.BookFault.TheVariants as fault
 use Rattle.book_runs.specs.GoesOn.{GoesOn}
@@ -25,7 +25,7 @@ use Rattle.drain_turns.specs.Turn.{Outside}
 use Rattle.drain_turns.specs.declared.end.TurnsEnd.{TurnsEnd}
 use Rattle.drain_loop.specs.Calls.{opening_of, place_with, IsDrained, IsOpened}
 use Rattle.drain_command.specs.Drained.{start, Drained, IsCallIn, IsDrainCall, IsStill}
-use Rattle.drain_command.specs.Finished.{end_of, AreCompletedAt, IsFinished, IsTurned}
+use Rattle.drain_command.specs.Finished.{end_of, AreCompletedAt, AreWrittenAt, IsFinished, IsTurned}
 use Rattle.drain_command.specs.declared.draining.Asked.{Asked}
 use Rattle.drain_command.specs.declared.end.DrainEnd.{DrainEnd}
 use Rattle.drain_command.specs.declared.end.DrainEnd.TheVariants as end
@@ -105,30 +105,36 @@ module _ {D R : Type 0} {disk : D → DiskView} {may_leave : D → ℕ → List 
       number : length later.steps ≡ length (opened.steps ++ turned.made) → later.kept ≡ length later.steps → opened.kept ≡ length opened.steps → later.kept - opened.kept ≡ length turned.made
       number same now was = omega (arith, same, now, was, length-append opened.steps turned.made)
 
-  -- behind the call a told disk still tells what it holds
-  late : (first : Base) (steps more : List Step) → StandsNow disk may_leave o.meaning first steps more old → (now : Image) × ((disk mid.disk).told ≡ Some now)
-  late first steps more was = let kept = turned.run.kept first (is.call first steps more was).reopened.past (is.call first steps more was).reopened.kept in (kept.files, kept.tells)
-
   -- each output is whole where the outputs were completed
   whole : (told : Option Image) (after : Image) (completes : Image → Type 0) → (told ≡ None → (disk later.disk).told ≡ None) → (disk later.disk).told ≡ Some after → ((before : Image) → told ≡ Some before → completes before) → (before : Image) × completes before
   whole None after completes untold tells each = absurd (cc (untold refl, tells))
   whole (Some before) after completes untold tells each = (before, each before refl)
 
   -- by how it ended
-  pub drain_called : (e : DrainEnd) (a b : SinkView) → IsFinished mid.state why (disk mid.disk).told e a b → (e ≢ end.Disk → later.kept ≡ length later.steps)
+  pub drain_called : (e : DrainEnd) (a b : SinkView) → IsFinished mid.state why e a b → (e ≢ end.Disk → later.kept ≡ length later.steps)
       → ((before after : Image) → (disk mid.disk).told ≡ Some before → (disk later.disk).told ≡ Some after → AreCompletedAt e (may_leave later.disk) mid.state.outs before after)
+      → ((first : Base) (history : List Step) → StandsNow disk may_leave o.meaning first history [] later.disk → HaveNoneSealed first.outs → AreWrittenAt e (AreWritten disk may_leave o.meaning first history later.disk))
+      → ((first : Base) (past : List Step) (file at : ℕ) → IsKept disk may_leave o.meaning first past mid → e ≢ end.Damaged file at)
       → ((disk mid.disk).told ≡ None → (disk later.disk).told ≡ None) → IsDrainCall disk may_leave left_since o files asked old later.disk e a b
   unfolding drained
-  drain_called (end.Turns told) a b finished all completed untold =
+  drain_called (end.Turns told) a b finished all completed written sound untold =
       subst (λ (w : TurnsEnd). IsDrainCall disk may_leave left_since o files asked old later.disk (end.Turns w) a b) (sym finished.0)
-      (finished.1, drained (length turned.made) (all_number (all (λ same. cc (same)))), refl, (λ after tells. whole (disk mid.disk).told after _ untold tells (λ before was. completed before after was tells)), finished.2)
-  drain_called end.Sink a b finished all completed untold =
-      (why, finished.0, drained (length turned.made) (all_number (all (λ same. cc (same)))), refl, (λ after tells. whole (disk mid.disk).told after _ untold tells (λ before was. completed before after was tells)), finished.1)
-  drain_called end.Memory a b finished all completed untold = (finished, inr (why, drained (length turned.made) (all_number (all (λ same. cc (same)))), refl))
-  drain_called end.Disk a b finished all completed untold = (finished, inr (why, drained (later.kept - opened.kept) refl))
-  drain_called (end.Store have) a b finished all completed untold = absurd finished
-  drain_called (end.Damaged file at) a b finished all completed untold =
-      (finished.0, inr (why, drained (length turned.made) (all_number (all (λ same. cc (same)))), refl, λ first steps more was. let told = late first steps more was in (told.0, finished.1 told.0 told.1)))
+      (finished.1, drained (length turned.made) (all_number (all (λ same. cc (same)))), refl, record { completed = λ after tells. whole (disk mid.disk).told after _ untold tells (λ before was. completed before after was tells); written = written }, finished.2)
+  drain_called end.Sink a b finished all completed written sound untold =
+      (why, finished.0, drained (length turned.made) (all_number (all (λ same. cc (same)))), refl, record { completed = λ after tells. whole (disk mid.disk).told after _ untold tells (λ before was. completed before after was tells); written = written }, finished.1)
+  drain_called end.Memory a b finished all completed written sound untold = (finished, inr (why, drained (length turned.made) (all_number (all (λ same. cc (same)))), refl))
+  drain_called end.Disk a b finished all completed written sound untold = (finished, inr (why, drained (later.kept - opened.kept) refl))
+  drain_called (end.Store have) a b finished all completed written sound untold = absurd finished
+  drain_called (end.Damaged file at) a b finished all completed written sound untold = (
+    finished,
+    inr (
+      why,
+      drained (length turned.made) (all_number (all (λ same. cc (same)))),
+      refl,
+      λ first steps more was.
+          let opened_on = (is.call first steps more was).reopened in sound first opened_on.past file at (turned.run.kept first opened_on.past opened_on.kept) refl,
+    ),
+  )
 
 -- outputs that are complete are so at each end
 pub completed_at : (e : DrainEnd) (may_leave : ℕ → List ℕ → Type 0) (outs : List Output) (before after : Image) → AreCompleted may_leave outs before after → AreCompletedAt e may_leave outs before after
@@ -138,6 +144,22 @@ completed_at end.Disk may_leave outs before after is = tt
 completed_at end.Sink may_leave outs before after is = is
 completed_at (end.Store have) may_leave outs before after is = tt
 completed_at (end.Damaged file at) may_leave outs before after is = tt
+
+pub written_at : (e : DrainEnd) (written : Type 0) → written → AreWrittenAt e written
+written_at (end.Turns why) written is = is
+written_at end.Memory written is = tt
+written_at end.Disk written is = tt
+written_at end.Sink written is = is
+written_at (end.Store have) written is = tt
+written_at (end.Damaged file at) written is = tt
+
+-- a fault that is no damage ends so
+pub ends_undamaged : (f : BookFault) (file at : ℕ) → IsNoDamage f → end_of f ≢ end.Damaged file at
+ends_undamaged fault.Disk file at none = λ same. cc (same)
+ends_undamaged (fault.Damaged other place) file at none = absurd none
+ends_undamaged (fault.Store have) file at none = λ same. cc (same)
+ends_undamaged fault.Refused file at none = λ same. cc (same)
+ends_undamaged fault.OutOfMemory file at none = λ same. cc (same)
 
 -- a store that couldn't be opened
 pub drain_closed : {D : Type 0} {disk : D → DiskView} {may_leave : D → ℕ → List ℕ → Type 0} {left_since : D → ℕ → Image → Type 0} (o : Outside) (files : Image) (asked : Asked) (old new : D) (told : Option Image) (f : BookFault) (sink : SinkView)

@@ -14,7 +14,7 @@ use Rattle.store_image.specs.Files.{root_file}
 use Rattle.store_image.specs.Opens.{Opens}
 use Rattle.store_image.specs.Stands.{IsSealOf}
 use Rattle.journal_book.specs.Opening.{StandsNow}
-use Rattle.journal_book.specs.Outputs.{AreCompleted, IsFirstShort}
+use Rattle.journal_book.specs.Outputs.{AreCompleted, AreWritten, HaveNoneSealed}
 use Rattle.store_calls.specs.Calls.{IsCall, StandsOn}
 use Rattle.drain_turns.specs.Drained.{Drains, Place}
 use Rattle.drain_turns.specs.Turn.{Outside}
@@ -58,9 +58,11 @@ abbrev pub IsDurable : {D : Type 0} {disk : D → DiskView} {may_leave : D → �
     → Drained disk may_leave left_since o files asked old new why → Type 0
 IsDurable d = d.durable ≡ length d.made
 
--- the file of each output is its sealed front and each line behind it
-abbrev pub AreWhole : {D : Type 0} → (D → DiskView) → (D → ℕ → List ℕ → Type 0) → D → List Output → Type 0
-AreWhole disk may_leave new outs = (after : Image) → (disk new).told ≡ Some after → (before : Image) × AreCompleted (may_leave new) outs before after
+-- the file of each output is its sealed front and each line behind it; and it is all lines of each history that the disk stands
+-- for, of a store that began with nothing sealed
+pub record HasOutputs {D : Type 0} (disk : D → DiskView) (may_leave : D → ℕ → List ℕ → Type 0) (m : Meaning) (new : D) (outs : List Output) : Type 0 where
+  pub completed : (after : Image) → (disk new).told ≡ Some after → (before : Image) × AreCompleted (may_leave new) outs before after
+  pub written : (first : Base) (history : List Step) → StandsNow disk may_leave m first history [] new → HaveNoneSealed first.outs → AreWritten disk may_leave m first history new
 
 -- no step was made: at any moment of the call and behind it the disk stands for the same history
 abbrev pub IsStill : {D : Type 0} → (D → DiskView) → (D → ℕ → List ℕ → Type 0) → (D → ℕ → Image → Type 0) → Meaning → D → D → Type 0
@@ -72,12 +74,13 @@ IsToldEnd why = (why ≢ last.Disk) × (why ≢ last.Memory)
 
 -- the turns ended by a cause of theirs: all steps are durable, the outputs are whole, and the summary is printed, or a front of
 -- it where the sink failed. Where memory ran out or the disk failed nothing is printed; behind want of memory the steps are
--- durable. Or there is no store, or it is damaged, which of outputs may show when they are completed
+-- durable. Or there is no store, or it is damaged; that an output is too short when it is completed never
+-- comes on a disk that stands for a history
 abbrev pub IsDrainCall : {D : Type 0} → (D → DiskView) → (D → ℕ → List ℕ → Type 0) → (D → ℕ → Image → Type 0) → Outside → Image → Asked → D → D → DrainEnd → SinkView → SinkView → Type 0
 IsDrainCall disk may_leave left_since o files asked old new (end.Turns why) before after =
-    IsToldEnd why × (d : Drained disk may_leave left_since o files asked old new why) × IsDurable d × AreWhole disk may_leave new d.state.outs × Took before after (summary d.state)
+    IsToldEnd why × (d : Drained disk may_leave left_since o files asked old new why) × IsDurable d × HasOutputs disk may_leave o.meaning new d.state.outs × Took before after (summary d.state)
 IsDrainCall disk may_leave left_since o files asked old new end.Sink before after =
-    (why : TurnsEnd) × IsToldEnd why × (d : Drained disk may_leave left_since o files asked old new why) × IsDurable d × AreWhole disk may_leave new d.state.outs × TookFront before after (summary d.state)
+    (why : TurnsEnd) × IsToldEnd why × (d : Drained disk may_leave left_since o files asked old new why) × IsDurable d × HasOutputs disk may_leave o.meaning new d.state.outs × TookFront before after (summary d.state)
 IsDrainCall disk may_leave left_since o files asked old new end.Memory before after =
     Took before after [] × (IsStill disk may_leave left_since o.meaning old new ⊎ ((why : TurnsEnd) × (d : Drained disk may_leave left_since o files asked old new why) × IsDurable d))
 IsDrainCall disk may_leave left_since o files asked old new end.Disk before after =
@@ -88,4 +91,4 @@ IsDrainCall disk may_leave left_since o files asked old new (end.Damaged file at
     Took before after []
     × (((0 < length (files root_file)) × IsDamagedStore o.meaning files file at × IsStill disk may_leave left_since o.meaning old new)
     ⊎ ((why : TurnsEnd) × (d : Drained disk may_leave left_since o files asked old new why) × IsDurable d
-    × ((first : Base) (steps more : List Step) → StandsNow disk may_leave o.meaning first steps more old → (now : Image) × IsFirstShort d.state.outs now file at)))
+    × ((first : Base) (steps more : List Step) → StandsNow disk may_leave o.meaning first steps more old → ⊥)))

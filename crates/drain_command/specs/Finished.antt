@@ -1,5 +1,5 @@
 -- A book that is drained and finished.
-use Rattle.std.specs.Prelude.{◌≡◌, ℕ, List, [], Option, Some}
+use Rattle.std.specs.Prelude.{◌≡◌, ℕ, List, []}
 use Rattle.edge_traits.specs.Disk.{DiskView, Image}
 use Rattle.edge_traits.specs.Output.{TookFront}
 use Rattle.edge_traits.specs.Sink.{SinkView, Took}
@@ -8,7 +8,7 @@ use Rattle.step_code.specs.declared.output.Output.{Output}
 use Rattle.step_code.specs.declared.step.Step.{Step}
 use Rattle.state_texts.specs.Texts.{summary}
 use Rattle.journal_book.specs.Book.{BookView}
-use Rattle.journal_book.specs.Outputs.{AreCompleted, IsFirstShort}
+use Rattle.journal_book.specs.Outputs.{AreCompleted}
 use Rattle.journal_book.specs.declared.book_fault.BookFault.{BookFault}
 use Rattle.journal_book.specs.declared.book_fault.BookFault.TheVariants as fault
 use Rattle.book_runs.specs.GoesOn.{GoesOn}
@@ -45,13 +45,13 @@ IsReported s why (end.Store have) old new = ⊥
 IsReported s why (end.Damaged file at) old new = ⊥
 
 -- so it is behind the turns, unless the disk failed or an output is too short
-abbrev pub IsFinished : Base → TurnsEnd → Option Image → DrainEnd → SinkView → SinkView → Type 0
-IsFinished s why told (end.Turns other) old new = (other ≡ why) × IsToldEnd why × Took old new (summary s)
-IsFinished s why told end.Sink old new = IsToldEnd why × TookFront old new (summary s)
-IsFinished s why told end.Memory old new = Took old new []
-IsFinished s why told end.Disk old new = Took old new []
-IsFinished s why told (end.Store have) old new = ⊥
-IsFinished s why told (end.Damaged file at) old new = Took old new [] × ((files : Image) → told ≡ Some files → IsFirstShort s.outs files file at)
+abbrev pub IsFinished : Base → TurnsEnd → DrainEnd → SinkView → SinkView → Type 0
+IsFinished s why (end.Turns other) old new = (other ≡ why) × IsToldEnd why × Took old new (summary s)
+IsFinished s why end.Sink old new = IsToldEnd why × TookFront old new (summary s)
+IsFinished s why end.Memory old new = Took old new []
+IsFinished s why end.Disk old new = Took old new []
+IsFinished s why (end.Store have) old new = ⊥
+IsFinished s why (end.Damaged file at) old new = Took old new []
 
 -- where the summary is printed, the outputs are complete
 abbrev pub AreCompletedAt : DrainEnd → (ℕ → List ℕ → Type 0) → List Output → Image → Image → Type 0
@@ -61,3 +61,12 @@ AreCompletedAt end.Memory may_leave outs before after = Unit {0}
 AreCompletedAt end.Disk may_leave outs before after = Unit {0}
 AreCompletedAt (end.Store have) may_leave outs before after = Unit {0}
 AreCompletedAt (end.Damaged file at) may_leave outs before after = Unit {0}
+
+-- there each output's file is all lines of the history, too
+abbrev pub AreWrittenAt : DrainEnd → Type 0 → Type 0
+AreWrittenAt (end.Turns why) written = written
+AreWrittenAt end.Sink written = written
+AreWrittenAt end.Memory written = Unit {0}
+AreWrittenAt end.Disk written = Unit {0}
+AreWrittenAt (end.Store have) written = Unit {0}
+AreWrittenAt (end.Damaged file at) written = Unit {0}

@@ -1,4 +1,5 @@
 -- what public contracts cite
 pub mod Drained
+pub mod Laws
 -- what only private contracts cite
 pub mod Finished

@@ -4,7 +4,9 @@
 mod draining;
 mod end;
 mod finishing;
+mod laws;
 mod turning;
 
 pub use draining::{Asked, drain};
 pub use end::DrainEnd;
+pub use laws::free_drains_end_idle;

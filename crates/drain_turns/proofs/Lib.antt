@@ -1,3 +1,6 @@
+mod AllAsked
+pub mod Free
+mod ReadOn
 pub mod Moving
 pub mod Nobody
 mod One

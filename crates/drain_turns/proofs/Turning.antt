@@ -25,7 +25,7 @@ all_kept P Q p (x ∷ xs) gives all = go (p x) refl (all_kept P Q p xs gives all
     go true is later = rw (is) (gives x all.0 is, later)
     go false is later = rw (is) later
 
-not_true : (b : Bool) → not b ≡ true → b ≡ false
+pub not_true : (b : Bool) → not b ≡ true → b ≡ false
 not_true true is = absurd (cc)
 not_true false is = refl
 

@@ -29,6 +29,11 @@ pub record Place : Type 0 where
 abbrev pub behind : Meaning → Place → Step → Place
 behind m p step = record { opening = drop 1 p.opening; left = option_map (λ n. n - 1) p.left; steps = p.steps ++ step ∷ []; state = after m p.state step }
 
+-- the place behind these steps
+abbrev pub behind_all : Meaning → Place → List Step → Place
+behind_all m p [] = p
+behind_all m p (step ∷ steps) = behind_all m (behind m p step) steps
+
 -- something is left to do: while a step of the opening is missing the state counts as not idle
 abbrev pub IsBusy : Meaning → Place → Type 0
 IsBusy m p = p.opening ≡ [] → is_idle m p.state ≡ false

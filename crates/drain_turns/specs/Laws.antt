@@ -1,16 +1,22 @@
 -- What holds of turns, whatever the outside answers.
-use Rattle.std.specs.Prelude.{◌≡◌, ◌≢◌, ◌≤◌, ℕ, false, List, [], Some}
+use Rattle.std.specs.Prelude.{◌≡◌, ◌≢◌, ◌≤◌, ℕ, false, List, [], length, drop, Some, None, IsSomeAnd}
+use Rattle.std.specs.List.{AllByRecursion}
+use Rattle.base_types.specs.Lines.{first_line}
+use Rattle.edge_traits.specs.Named.{find_named}
+use Rattle.report_cut.specs.Pieces.{longest_line}
 use Rattle.step_code.specs.declared.base.Base.{Base}
 use Rattle.step_code.specs.declared.step.Step.{Step}
-use Rattle.step_code.specs.Content.{May}
+use Rattle.step_code.specs.declared.rules.Facts.{Facts}
+use Rattle.step_code.specs.Content.{longest_feed, May}
 use Rattle.step_code.specs.Rules.{AreSound, Meaning, last_moment}
-use Rattle.step_code.specs.State.{bots_in_force}
+use Rattle.step_code.specs.Spent.{StaysSmall}
+use Rattle.step_code.specs.State.{bots_in_force, has_finished, position_of}
 use Rattle.ack_steps.specs.Core.{HasSoundHands}
-use Rattle.turn_order.specs.Turn.{is_idle}
-use Rattle.journal_book.specs.Staged.{stamp}
+use Rattle.turn_order.specs.Turn.{collectors, is_idle}
+use Rattle.journal_book.specs.Staged.{bytes_with, stamp}
 use Rattle.collector_feeds.specs.declared.found.Found.{Found}
 use Rattle.collector_feeds.specs.declared.found.Found.TheVariants as found
-use Rattle.drain_turns.specs.Drained.{Drains, Place}
+use Rattle.drain_turns.specs.Drained.{behind_all, Drains, IsDue, Place}
 use Rattle.drain_turns.specs.Turn.{Outside, IsStepOf, IsTurn}
 use Rattle.drain_turns.specs.declared.end.TurnsEnd.{TurnsEnd}
 use Rattle.drain_turns.specs.declared.end.TurnsEnd.TheVariants as end
@@ -75,3 +81,41 @@ IsShown end.Memory = ⊥
 abbrev pub OneDrain : Type 0
 OneDrain = (o : Outside) (p : Place) (files : List (List ℕ × List ℕ)) (now : ℕ) (a b : List Step) (x y : TurnsEnd) → o.shelf.told ≡ Some files → o.clock ≡ Some now →
     IsShown x → IsShown y → Drains o p a x → Drains o p b y → (a ≡ b) × (x ≡ y)
+
+-- a call that ends since it may make no more steps has made as many as it might
+abbrev pub AllAskedAreMade : Type 0
+AllAskedAreMade = (o : Outside) (p : Place) (made : List Step) → Drains o p made end.Left → p.left ≡ Some (length made)
+
+-- ---- when a call makes all steps that there are to make
+
+-- a feed may be read on from this offset: it isn't shorter, it isn't longer than a feed may be, and no line of it is
+pub record IsReadable (feed : List ℕ) (at : ℕ) : Type 0 where
+  pub there : at ≤ length feed
+  pub short : length feed ≤ longest_feed
+  pub lines : (n : ℕ) → length (first_line (drop n feed)) ≤ longest_line
+
+-- where a collector hasn't read its feed to the end, the shelf has it, and it may be read on from where the collector stands
+abbrev pub HasFeed : List (List ℕ × List ℕ) → Base → Facts → Type 0
+HasFeed files s f = has_finished f.bot s ≡ false → IsSomeAnd f.feed (λ facts. IsSomeAnd (find_named facts.file files) (λ feed. IsReadable feed (position_of f.bot s)))
+
+-- so it is with each collector
+abbrev pub HasFeeds : List (List ℕ × List ℕ) → Meaning → Base → Type 0
+HasFeeds files m s = AllByRecursion (HasFeed files s) (collectors m s)
+
+-- nothing hinders a call at this place: the shelf has the feeds, no bot is halted, and a step that is due spends no number and
+-- fits in the generation
+pub record IsFree (o : Outside) (files : List (List ℕ × List ℕ)) (p : Place) : Type 0 where
+  pub feeds : HasFeeds files o.meaning p.state
+  pub halted : p.state.halted ≡ []
+  pub small : (step : Step) → IsDue o p step → StaysSmall o.meaning p.state step
+  pub fits : (step : Step) → IsDue o p step → bytes_with p.steps step ≤ o.limit
+
+-- a call that may make any number of steps ends only where nothing is left to do, if nothing hinders it there
+abbrev pub FreeCallsEndIdle : Type 0
+FreeCallsEndIdle = (o : Outside) (p : Place) (files : List (List ℕ × List ℕ)) (made : List Step) (last : TurnsEnd) → o.shelf.told ≡ Some files → p.left ≡ None → IsFree o files (behind_all o.meaning p made) →
+    IsShown last → Drains o p made last → last ≡ end.Idle
+
+-- along turns the feeds stay readable
+abbrev pub FeedsStayReadable : Type 0
+FeedsStayReadable = (o : Outside) (p : Place) (files : List (List ℕ × List ℕ)) (made : List Step) (last : TurnsEnd) → o.shelf.told ≡ Some files → p.opening ≡ [] → AreSound (bots_in_force o.meaning p.state) →
+    HasFeeds files o.meaning p.state → Drains o p made last → HasFeeds files o.meaning (behind_all o.meaning p made).state

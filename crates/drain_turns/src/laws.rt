@@ -1,4 +1,4 @@
-ghost use Rattle.drain_turns.specs.Laws.{NobodyOnlyIfHalted, OneDrain, OneStep, OneTurn, SomeStep};
+ghost use Rattle.drain_turns.specs.Laws.{AllAskedAreMade, FeedsStayReadable, FreeCallsEndIdle, NobodyOnlyIfHalted, OneDrain, OneStep, OneTurn, SomeStep};
 
 /// A turn that has a step has one that may be taken, at whatever moment the clock shows.
 pub fn some_step()
@@ -24,4 +24,20 @@ pub fn nobody_only_if_halted()
 /// same way.
 pub fn one_drain()
     ensures { OneDrain }
+{}
+
+/// A call that ends since it may make no more steps has made as many as it might.
+pub fn all_asked_are_made()
+    ensures { AllAskedAreMade }
+{}
+
+/// A call that may make any number of steps ends only where nothing is left to do, unless something hinders it there, or the
+/// outside or memory fails.
+pub fn free_calls_end_idle()
+    ensures { FreeCallsEndIdle }
+{}
+
+/// Along turns the feeds of collectors stay readable.
+pub fn feeds_stay_readable()
+    ensures { FeedsStayReadable }
 {}

@@ -8,7 +8,10 @@ mod turn;
 mod works;
 
 pub use end::TurnsEnd;
-pub use laws::{nobody_only_if_halted, one_drain, one_step, one_turn, some_step};
+pub use laws::{
+    all_asked_are_made, feeds_stay_readable, free_calls_end_idle, nobody_only_if_halted, one_drain,
+    one_step, one_turn, some_step,
+};
 pub use moves::{actor_move, found_move};
 pub use turn::Turn;
 pub use works::Ready;

@@ -1,13 +1,12 @@
 -- Compact texts of items and members, one after the other.
 use Rattle.std.proofs.Common.{◌≡◌, ◌<◌, ◌+◌, ℕ, subst, drop, get_or, length, add-one, List, [], ◌∷◌, ◌++◌, Bool, true, false, string_bytes, Option, Some, None, option_map, refl, sym, ap, ◌∙◌, append_assoc}
-use Rattle.std.proofs.Math.Seq.{drop-cons, drop-length}
+use Rattle.std.proofs.Math.Seq.{drop-cons}
 use Rattle.std.specs.List.{join_with_byte}
 use Rattle.std.proofs.lemmas.List.{append-nil}
 use Rattle.serde_json.specs.View.{view, items_view, members_view}
 use Rattle.serde_json.specs.declared.value.Value.{Value}
 use Rattle.field_types.specs.Writing.{quoted}
-use Rattle.field_types.specs.declared.value.Item.{Item}
-use Rattle.event_model.specs.Trees.{items_of, item_of, both, comma, compact, compact_items, compact_members, Appends, AppendsBetween}
+use Rattle.event_model.specs.Trees.{both, comma, compact, compact_items, compact_members, Appends, AppendsBetween}
 use Rattle.event_model.proofs.TreeLemmas.{Entry}
 
 abbrev Texts : Type 0

@@ -99,14 +99,14 @@ fn settle(pairs: &mut Vec<(FieldName, Value)>) -> Result<(), OutOfMemory>
 impl FieldsBuilder {
     ghost use Rattle.std.specs.FinMap.{empty, insert};
 
-    /// No fields. It takes no memory.
-    pub fn new(alloc: Global) -> Self
-        ensures { result ≡ empty }
+    /// No fields, and room for so many.
+    pub fn with_capacity(alloc: Global, fields: usize) -> Result<Self, OutOfMemory>
+        ensures { IfOk result (λ none. none ≡ empty) }
     {
-        FieldsBuilder {
-            pairs: Vec::new(alloc),
+        Ok(FieldsBuilder {
+            pairs: Vec::with_capacity(alloc, fields)?,
             rises: true,
-        }
+        })
     }
 
     /// Sets a field to a value that is canonical for it. Without memory, nothing changes.

@@ -67,7 +67,8 @@ fn gather_all(alloc: Global, members: &Map<String, Tree>) -> Result<Found, OutOf
     ensures bad { IfOk result (λ found. found.names.1 ≡ least (bad_names (leaves_of (members_view members.now.entries)))) }
 {
     let mut found = Found {
-        fields: FieldsBuilder::new(alloc),
+        // A field a member, in most objects, and the content that parsers add.
+        fields: FieldsBuilder::with_capacity(alloc, members.len().saturating_add(1))?,
         names: Names::new(alloc),
     };
     'members: for (key, tree) in members.iter() {

@@ -56,13 +56,15 @@ fn copy_pair(alloc: Global, pair: &(FieldName, Value)) -> Result<(FieldName, Val
     Ok((pair.0.copy(alloc)?, pair.1.copy(alloc)?))
 }
 
+// Copies of the pairs, and room for so many more.
 fn copied_pairs(
     alloc: Global,
     pairs: &[(FieldName, Value)],
+    more: usize,
 ) -> Result<Vec<(FieldName, Value)>, OutOfMemory>
     ensures { IfOk result (λ copied. copied.items ≡ pairs.now) }
 {
-    let mut copied = Vec::with_capacity(alloc, pairs.len())?;
+    let mut copied = Vec::with_capacity(alloc, pairs.len().saturating_add(more))?;
     'pairs: for pair in pairs {
         copied.push(copy_pair(alloc, pair)?)?;
     }
@@ -161,6 +163,16 @@ impl Fields {
         Fields { pairs }
     }
 
+    /// The value of a field, by its name.
+    pub fn get_named(&self, key: &FieldName) -> Option<&Value>
+        ensures { option_copied result ≡ get self.now key.now }
+    {
+        match place_of(&self.pairs, key.bytes()) {
+            Ok(i) => Some(&self.pairs[i].1),
+            Err(_) => None,
+        }
+    }
+
     /// The value of a field. It obeys the kind of the field.
     pub fn get(&self, key: &Text) -> Option<&Value>
         ensures value { option_copied result ≡ get self.now key.now }
@@ -172,8 +184,9 @@ impl Fields {
         }
     }
 
-    // Sets a field to a value that is canonical for it. Without memory, nothing changes.
-    fn put_named(&mut self, key: FieldName, value: Value) -> Result<(), OutOfMemory>
+    /// Sets a field, by its name, to a value that is canonical for it, without a look at its kind. Without memory, nothing
+    /// changes.
+    pub fn put_named(&mut self, key: FieldName, value: Value) -> Result<(), OutOfMemory>
         requires { IsField key value }
         ensures ok { OnOk result (self.new ≡ insert self.old key value) }
         ensures err { OnErr result (self.new ≡ self.old) }
@@ -272,8 +285,15 @@ impl Fields {
     pub fn copy(&self, alloc: Global) -> Result<Fields, OutOfMemory>
         ensures { IfOk result (λ fields. fields ≡ self.now) }
     {
+        self.copy_with_room(alloc, 0)
+    }
+
+    /// A copy with room for so many more fields.
+    pub fn copy_with_room(&self, alloc: Global, more: usize) -> Result<Fields, OutOfMemory>
+        ensures { IfOk result (λ fields. fields ≡ self.now) }
+    {
         Ok(Fields {
-            pairs: copied_pairs(alloc, &self.pairs)?,
+            pairs: copied_pairs(alloc, &self.pairs, more)?,
         })
     }
 

@@ -83,6 +83,16 @@ pub fn name_of(alloc: Global, key: &[u8]) -> Result<Text, OutOfMemory>
     }
 }
 
+// The name of a field, as a name. One of the table of fields takes no memory.
+fn field_name(alloc: Global, key: &[u8]) -> Result<FieldName, OutOfMemory>
+    ensures { IfOk result (λ name. name ≡ key.now) }
+{
+    match FieldName::known(key) {
+        Some(name) => Ok(name),
+        None => Ok(FieldName::from(name_of(alloc, key)?)),
+    }
+}
+
 // Adds what the leaf of the name at hand adds.
 fn add(alloc: Global, found: &mut Found, part: Part) -> Result<(), OutOfMemory>
     requires { IsPart found.old.names.0 part }
@@ -93,8 +103,8 @@ fn add(alloc: Global, found: &mut Found, part: Part) -> Result<(), OutOfMemory>
     match part {
         Part::Nothing => Ok(()),
         Part::Set(value) => {
-            let name = name_of(alloc, found.names.name())?;
-            found.fields.put(FieldName::from(name), value)
+            let name = field_name(alloc, found.names.name())?;
+            found.fields.put(name, value)
         }
         Part::Bad => found.names.note(alloc),
     }

@@ -1,3 +1,4 @@
 mod Canonical
 mod Cellwise
 mod Lines
+mod Parts

@@ -1,9 +1,11 @@
 -- A line as a row.
-use Rattle.std.proofs.Common.{◌≡◌, ℕ, ◌==◌, List, [], ◌∷◌, ◌++◌, length, Bool, true, false, Result, Ok, Err, Some, if◌then◌else◌, refl, sym, ap, ◌∙◌, arith}
-use Rattle.std.specs.List.{flat_map}
+use Rattle.std.proofs.Common.{◌≡◌, ℕ, ◌==◌, ◌&&◌, ◌+◌, ◌%◌, List, [], ◌∷◌, ◌++◌, length, Bool, true, false, not, cond, Result, Ok, Err, Some, if◌then◌else◌, refl, sym, ap, ◌∙◌, arith}
+use Rattle.std.specs.List.{count_by, flat_map, list_all}
 use Rattle.std.specs.Str.{is_utf8}
-use Rattle.std.proofs.lemmas.Bool.{eqb-true}
+use Rattle.std.proofs.lemmas.Bool.{and_parts, eqb-true}
+use Rattle.std.proofs.lemmas.List.Sums.{sum_by-cons}
 use Rattle.csv_line.specs.Line.{one_record}
+use Rattle.csv_line.specs.Plain.{is_plain, is_plain_byte}
 use Rattle.base_types.specs.Lists.{AreBytes}
 use Rattle.base_types.specs.declared.message.FaultNote.{FaultNote}
 use Rattle.event_model.specs.Fields.{FieldMap}
@@ -34,6 +36,27 @@ odd_quotes delimiter line text odd = rw (text, odd) refl
 pub even_quotes : (delimiter : ℕ) (line : List ℕ) → is_utf8 line ≡ true → has_odd_quotes line ≡ false → cells_in delimiter line ≡ of_record (one_record delimiter line)
 unfolding cells_in
 even_quotes delimiter line text odd = rw (text, odd) refl
+
+not_true : (b : Bool) → not b ≡ true → b ≡ false
+not_true true is = absurd (cc)
+not_true false is = refl
+
+no_quotes : (bytes : List ℕ) → list_all is_plain_byte bytes ≡ true → count_by (λ b. b == 34) bytes ≡ 0
+no_quotes [] is = refl
+no_quotes (b ∷ bs) is =
+    let parts = and_parts (is_plain_byte b) (list_all is_plain_byte bs) is in
+    let last = and_parts (not (b == 34) && not (b == 10)) (not (b == 13)) parts.0 in
+    let first = and_parts (not (b == 34)) (not (b == 10)) last.0 in
+    let rest = no_quotes bs parts.1 in
+    sum_by-cons (λ (b : ℕ). cond (b == 34) 1 0) b bs ∙ ap (λ t. cond t 1 0 + count_by (λ b. b == 34) bs) (not_true (b == 34) first.0) ∙ omega (arith, rest)
+
+plain_even : (line : List ℕ) → is_plain line ≡ true → has_odd_quotes line ≡ false
+plain_even [] is = absurd (cc)
+plain_even (b ∷ bs) is = ap (λ n. n % 2 == 1) (no_quotes (b ∷ bs) (and_parts (not (b == 239)) (list_all is_plain_byte (b ∷ bs)) is).1)
+
+-- a plain line has no quotes, so they aren't odd
+pub plain_cells : (delimiter : ℕ) (line : List ℕ) → is_utf8 line ≡ true → is_plain line ≡ true → cells_in delimiter line ≡ of_record (one_record delimiter line)
+plain_cells delimiter line text plain = even_quotes delimiter line text (plain_even line plain)
 
 -- ---- skipped lines
 

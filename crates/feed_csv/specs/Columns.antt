@@ -6,7 +6,7 @@ use Rattle.std.specs.Str.{bytes_eq, is_utf8}
 use Rattle.base_types.specs.Digits.{digits_in}
 use Rattle.base_types.specs.declared.message.FaultNote.{FaultNote}
 use Rattle.scalar_text.specs.Time.{time_text}
-use Rattle.field_types.specs.Cleaning.{clean}
+use Rattle.field_types.specs.Cleaning.{clean, of_text}
 use Rattle.field_types.specs.Field.{type_of}
 use Rattle.field_types.specs.Strip.{strip}
 use Rattle.field_types.specs.declared.kind.FieldType.{FieldType}
@@ -93,3 +93,23 @@ abbrev pub put_cells : ℕ → List Column → List (List ℕ) → FieldMap → 
 put_cells before [] cells event = Ok event
 put_cells before (column ∷ columns) [] event = Ok event
 put_cells before (column ∷ columns) (cell ∷ cells) event = go_on (put_cells (before + 1) columns cells) (put_cell (before + 1) column cell event)
+
+-- ---- how private calls answer: what becomes of a cell that is UTF-8, by its text without the blanks at its ends
+
+-- the canonical value of a kind for such a text, which may be a stamp
+abbrev pub text_under : Bool → List ℕ → FieldType → Option Value
+text_under stamp text kind = option_or (of_text kind text) (if stamp then stamp_in kind text else None)
+
+-- the value of the field of this name for it, if there is such a field and it takes the text
+abbrev pub text_for : Bool → List ℕ → List ℕ → Option Value
+text_for stamp text name = option_and_then (text_under stamp text) (type_of name)
+
+-- what the first of these names does that is ignored or takes the text
+abbrev pub attempt_text : Bool → List ℕ → List (List ℕ) → Taken
+attempt_text stamp text [] = Untaken
+attempt_text stamp text (name ∷ names) = if is_ignored name then Ends else set_or name (text_for stamp text name) (attempt_text stamp text names)
+
+-- the event with what it sets by the column with this number
+unfoldable pub put_stripped : ℕ → Column → List ℕ → FieldMap → Result FieldMap FaultNote
+put_stripped number column text event =
+    if is_dropped_text text then Ok event else after_taken number column.names event (attempt_text column.stamp text column.names)

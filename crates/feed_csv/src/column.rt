@@ -1,12 +1,16 @@
 //! What the cells of a line set.
-ghost use Rattle.std.specs.Prelude.{◌≡◌, Ok, IfOk, MatchResult, map};
+ghost use Rattle.std.specs.Prelude.{◌≡◌, ◌<◌, ◌==◌, ◌∷◌, [], Ok, IfOk, IfSome, MatchOption, MatchResult, length, map};
+ghost use Rattle.std.specs.List.{list_any, slice_split};
+ghost use Rattle.field_types.specs.Cleaning.{of_text};
+ghost use Rattle.field_types.specs.Strip.{strip};
+ghost use Rattle.field_types.specs.declared.value.Value.TheVariants as value;
 ghost use Rattle.feed_rows.specs.Rows.{IsFaultOf};
-ghost use Rattle.feed_csv.specs.Columns.{attempt, is_dropped, is_ignored, moment_in, moment_text, put_cell, put_cells, stamp_in, value_for, value_under};
+ghost use Rattle.feed_csv.specs.Columns.{attempt_text, is_ignored, moment_in, moment_text, put_cell, put_cells, put_stripped, stamp_in, text_for, text_under};
 
 use base_types::{ListOf, OutOfMemory, Text, TextList, read_digits};
 use event_model::{Fields, is_dropped_text};
 use feed_rows::{ParseFault, column_note};
-use field_types::{FieldFault, FieldType, Value, sanitise_text, strip, type_of};
+use field_types::{FieldFault, FieldName, FieldType, Kept, Value, keep, strip};
 use scalar_text::print_time;
 use std::alloc::Global;
 use std::str;
@@ -32,7 +36,7 @@ pub(crate) enum Taken {
     /// An ignored name ends the trying.
     Ends,
     /// The field takes the cell.
-    Sets(Text, Value),
+    Sets(FieldName, Value),
     /// No name takes the cell.
     Untaken,
 }
@@ -70,39 +74,52 @@ fn stamp_in(alloc: Global, kind: FieldType, text: &str) -> Result<Option<Value>,
     }
 }
 
-// The canonical value of a kind for a cell that is UTF-8.
-#[tactic(auto, unfolding(crate::specs::Columns::value_under))]
-fn text_under(
-    alloc: Global,
-    stamp: bool,
-    cell: &str,
-    kind: FieldType,
-) -> Result<Option<Value>, OutOfMemory>
-    ensures { IfOk result (λ value. value ≡ value_under stamp cell.now kind) }
+fn copy_of(alloc: Global, text: &str) -> Result<Value, OutOfMemory>
+    ensures { IfOk result (λ copied. copied ≡ value.Text text.now) }
 {
-    match sanitise_text(alloc, kind, cell) {
-        Ok(value) => Ok(Some(value)),
-        Err(FieldFault::OutOfMemory) => Err(OutOfMemory),
-        Err(FieldFault::BadValue) if stamp => stamp_in(alloc, kind, strip(cell)),
+    Ok(Value::Text(Text::from(String::from_str(alloc, text)?)))
+}
+
+// The canonical value of a kind for a stripped text, if the kind takes it.
+fn kept_of(alloc: Global, kind: FieldType, text: &str) -> Result<Option<Value>, OutOfMemory>
+    ensures { IfOk result (λ kept. kept ≡ of_text kind text.now) }
+{
+    match keep(alloc, kind, text) {
+        Ok(Kept::Same) => Ok(Some(copy_of(alloc, text)?)),
+        Ok(Kept::Other(kept)) => Ok(Some(kept)),
         Err(FieldFault::BadValue) => Ok(None),
+        Err(FieldFault::OutOfMemory) => Err(OutOfMemory),
     }
 }
 
-// The value of the field of this name for a cell, if it takes the cell.
-fn value_for(
+// The same for a text that may be a stamp.
+fn text_under(
     alloc: Global,
     stamp: bool,
-    cell: &[u8],
-    name: &Text,
+    text: &str,
+    kind: FieldType,
 ) -> Result<Option<Value>, OutOfMemory>
-    ensures { IfOk result (λ value. value ≡ value_for stamp cell.now name.now) }
+    ensures { IfOk result (λ kept. kept ≡ text_under stamp text.now kind) }
 {
-    let Some(kind) = type_of(name) else {
-        return Ok(None);
-    };
-    match str::from_utf8(cell) {
-        Ok(text) => text_under(alloc, stamp, text, kind),
-        Err(_) => Ok(None),
+    match kept_of(alloc, kind, text)? {
+        Some(kept) => Ok(Some(kept)),
+        None if stamp => stamp_in(alloc, kind, text),
+        None => Ok(None),
+    }
+}
+
+// The value of the field of this name for a stripped text, if there is such a field and it takes the text.
+fn text_for(
+    alloc: Global,
+    stamp: bool,
+    text: &str,
+    name: &FieldName,
+) -> Result<Option<Value>, OutOfMemory>
+    ensures { IfOk result (λ kept. kept ≡ text_for stamp text.now name.now) }
+{
+    match name.kind() {
+        Some(kind) => text_under(alloc, stamp, text, kind),
+        None => Ok(None),
     }
 }
 
@@ -112,33 +129,65 @@ fn is_ignored(name: &Text) -> bool
     name.as_str().is_empty() || name.as_str() == "__IGNORE__"
 }
 
-// What the first name does that is ignored or takes the cell.
-fn attempt(alloc: Global, column: &Column, cell: &[u8]) -> Result<Taken, OutOfMemory>
-    ensures { IfOk result (λ what. what ≡ attempt column.now.stamp cell.now column.now.names) }
+// What the first name does that is ignored or takes the stripped text.
+fn attempt(alloc: Global, column: &Column, text: &str) -> Result<Taken, OutOfMemory>
+    ensures { IfOk result (λ what. what ≡ attempt_text column.now.stamp text.now column.now.names) }
 {
     'names: for name in column.names.as_slice() {
         if is_ignored(name) {
             return Ok(Taken::Ends);
         }
-        if let Some(value) = value_for(alloc, column.stamp, cell, name)? {
-            return Ok(Taken::Sets(name.copy(alloc)?, value));
+        let field = FieldName::new(alloc, name.as_str())?;
+        if let Some(kept) = text_for(alloc, column.stamp, text, &field)? {
+            return Ok(Taken::Sets(field, kept));
         }
     }
     Ok(Taken::Untaken)
 }
 
-// Whether a cell sets nothing, whatever its column.
-fn is_dropped(cell: &[u8]) -> bool
-    ensures { result ≡ is_dropped cell.now }
+// Whether an ignored name is among them.
+fn has_ignored(names: &[Text]) -> bool
+    ensures { result ≡ list_any is_ignored names.now }
 {
-    match str::from_utf8(cell) {
-        Ok(text) => is_dropped_text(strip(text)),
-        Err(_) => false,
+    names.iter().any(|name| is_ignored(name))
+}
+
+// Sets what a cell with this stripped text sets by the column with this number, from 1.
+#[tactic(auto, unfolding(crate::specs::Columns::put_stripped))]
+fn put_stripped(
+    alloc: Global,
+    number: u64,
+    column: &Column,
+    text: &str,
+    event: &mut Fields,
+) -> Result<(), ParseFault>
+    requires { strip text.now ≡ text.now }
+    ensures { MatchResult result (λ _. put_stripped number column.now text.now event.old ≡ Ok event.new) (IsFaultOf (put_stripped number column.now text.now event.old)) }
+{
+    if is_dropped_text(text) {
+        return Ok(());
+    }
+    match attempt(alloc, column, text)? {
+        Taken::Ends => Ok(()),
+        Taken::Sets(name, kept) => Ok(event.put_named(name, kept)?),
+        Taken::Untaken => Err(ParseFault::Fault(column_note(alloc, number, &column.names)?)),
     }
 }
 
-// Sets what a cell sets by the column with this number, from 1.
-#[tactic(auto, unfolding(crate::specs::Columns::put_cell))]
+// Sets what a cell that is UTF-8 sets.
+fn put_text(
+    alloc: Global,
+    number: u64,
+    column: &Column,
+    cell: &str,
+    event: &mut Fields,
+) -> Result<(), ParseFault>
+    ensures { MatchResult result (λ _. put_cell number column.now cell.now event.old ≡ Ok event.new) (IsFaultOf (put_cell number column.now cell.now event.old)) }
+{
+    put_stripped(alloc, number, column, strip(cell), event)
+}
+
+// Sets what a cell sets. No field takes one that isn't UTF-8.
 fn put_cell(
     alloc: Global,
     number: u64,
@@ -148,13 +197,10 @@ fn put_cell(
 ) -> Result<(), ParseFault>
     ensures { MatchResult result (λ _. put_cell number column.now cell.now event.old ≡ Ok event.new) (IsFaultOf (put_cell number column.now cell.now event.old)) }
 {
-    if is_dropped(cell) {
-        return Ok(());
-    }
-    match attempt(alloc, column, cell)? {
-        Taken::Ends => Ok(()),
-        Taken::Sets(name, value) => Ok(event.put(name, value)?),
-        Taken::Untaken => Err(ParseFault::Fault(column_note(alloc, number, &column.names)?)),
+    match str::from_utf8(cell) {
+        Ok(text) => put_text(alloc, number, column, text, event),
+        Err(_) if has_ignored(column.names.as_slice()) => Ok(()),
+        Err(_) => Err(ParseFault::Fault(column_note(alloc, number, &column.names)?)),
     }
 }
 
@@ -181,6 +227,48 @@ pub(crate) fn put_cells(
         put_cell(alloc, before + 1, column, cell, event)?;
         columns = more_columns;
         cells = more_cells;
+        before += 1;
+    }
+}
+
+// The first part of a text between delimiters, and what is behind its delimiter, if there is one.
+fn first_part(text: &str, delimiter: u8) -> (&str, Option<&str>)
+    requires { delimiter < 128 }
+    ensures { MatchOption result.1 (slice_split (λ b. b == delimiter) text.now ≡ result.0.now ∷ [])
+        (λ more. slice_split (λ b. b == delimiter) text.now ≡ result.0.now ∷ slice_split (λ b. b == delimiter) more.now) }
+{
+    match text.split_once(char::from(delimiter)) {
+        Some((part, more)) => (part, Some(more)),
+        None => (text, None),
+    }
+}
+
+/// Sets what the parts of a text between delimiters set, each by the column at its place, from the left.
+pub(crate) fn put_parts(
+    alloc: Global,
+    columns: &[Column],
+    delimiter: u8,
+    text: &str,
+    event: &mut Fields,
+) -> Result<(), ParseFault>
+    requires { delimiter < 128 }
+    ensures { MatchResult result (λ _. put_cells 0 columns.now (slice_split (λ b. b == delimiter) text.now) event.old ≡ Ok event.new)
+        (IsFaultOf (put_cells 0 columns.now (slice_split (λ b. b == delimiter) text.now) event.old)) }
+{
+    let mut columns = columns;
+    let mut rest = text;
+    let mut before = 0;
+    'parts: loop {
+        let [column, more_columns @ ..] = columns else {
+            return Ok(());
+        };
+        let (part, more) = first_part(rest, delimiter);
+        put_text(alloc, before + 1, column, part, event)?;
+        let Some(more) = more else {
+            return Ok(());
+        };
+        columns = more_columns;
+        rest = more;
         before += 1;
     }
 }

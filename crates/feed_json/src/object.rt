@@ -2,12 +2,13 @@
 ghost use Rattle.std.specs.Prelude.{◌≡◌, Ok, MatchResult};
 ghost use Rattle.serde_json.specs.View.{view};
 ghost use Rattle.feed_rows.specs.Notes.{json_note, key_note};
+ghost use Rattle.feed_rows.specs.Reports.{with_raw};
 ghost use Rattle.feed_rows.specs.Rows.{IsFaultOf, IsNoted};
 ghost use Rattle.feed_json.specs.Objects.{event_in, event_of, of_kind, IsRefusal};
 
 use base_types::{OutOfMemory, Text};
 use event_model::{Fields, Kind, ReadFault, clean_tree, read_tree};
-use feed_rows::{ParseFault, fill, json_note, key_note, with_raw};
+use feed_rows::{ParseFault, fill_with_raw, json_note, key_note};
 use serde_json::Value as Tree;
 use std::alloc::Global;
 
@@ -44,15 +45,22 @@ pub(crate) fn refused(alloc: Global, fault: ReadFault) -> ParseFault
     }
 }
 
-// The fields of an event over those of its base. A report is none.
-fn of_kind(alloc: Global, base: &Fields, kind: Kind, fields: Fields) -> Result<Fields, ParseFault>
-    ensures { MatchResult result (λ event. of_kind base.now kind fields ≡ Ok event) (IsFaultOf (of_kind base.now kind fields)) }
+// The fields of an event with this text, over the report's other fields. A report is none.
+fn of_kind(
+    alloc: Global,
+    others: &Fields,
+    text: &[u8],
+    kind: Kind,
+    fields: Fields,
+) -> Result<Fields, ParseFault>
+    ensures { MatchResult result (λ event. of_kind (with_raw others.now text.now) kind fields ≡ Ok event)
+        (IsFaultOf (of_kind (with_raw others.now text.now) kind fields)) }
 {
     match kind {
         Kind::Report => Err(no_json(alloc)),
         Kind::Event => {
             let mut event = fields;
-            fill(alloc, &mut event, base)?;
+            fill_with_raw(alloc, &mut event, others, text)?;
             Ok(event)
         }
     }
@@ -69,10 +77,7 @@ pub(crate) fn event_of(
     ensures { MatchResult result (λ event. event_of others.now text.now (view tree.now) ≡ Ok event) (IsFaultOf (event_of others.now text.now (view tree.now))) }
 {
     match clean_tree(alloc, tree) {
-        Ok(message) => {
-            let base = with_raw(alloc, others, text)?;
-            of_kind(alloc, &base, message.kind, message.fields)
-        }
+        Ok(message) => of_kind(alloc, others, text, message.kind, message.fields),
         Err(fault) => Err(refused(alloc, fault)),
     }
 }

@@ -1,5 +1,5 @@
 -- Fields that fill gaps among others, one after the other.
-use Rattle.std.proofs.Common.{◌≡◌, ℕ, [], ◌∷◌, ◌++◌, Bool, true, false, cond, Option, Some, None, is_some, zero, suc, ◌+◌, ◌<◌, ◌≤◌, length, take, get_or, subst, arith, add-one, append_assoc, if◌then◌else◌, Ordering, Less, Equal, Greater, refl, sym, ap, ◌∙◌}
+use Rattle.std.proofs.Common.{◌≡◌, ℕ, List, [], ◌∷◌, ◌++◌, Bool, true, false, cond, Option, Some, None, is_some, zero, suc, ◌+◌, ◌<◌, ◌≤◌, length, take, get_or, subst, arith, add-one, append_assoc, if◌then◌else◌, Ordering, Less, Equal, Greater, refl, sym, ap, ◌∙◌}
 use Rattle.std.specs.Option.{option_or}
 use Rattle.std.specs.Ordering.{is_eq}
 use Rattle.std.specs.FinMap.{find, get, insert, entries, from_entries, get-entries, get-insert, get-from_entries, same_map, slice_cmp-IsAntisymmetric, nat_cmp-IsAntisymmetric}
@@ -8,9 +8,11 @@ use Rattle.std.proofs.lemmas.Cmp.{nat_list_cmp_total}
 use Rattle.std.proofs.lemmas.Bool.{false≢true}
 use Rattle.std.proofs.Math.Seq.{take-suc}
 use Rattle.base_types.proofs.Places.{Key, order, PairsOf, same_key}
+use Rattle.scalar_text.specs.Raw.{raw_text}
 use Rattle.field_types.specs.declared.value.Value.{Value}
+use Rattle.field_types.specs.declared.value.Value.TheVariants.{Text}
 use Rattle.event_model.specs.Fields.{FieldMap, IsField, AreFields, AreFieldsInOrder}
-use Rattle.feed_rows.specs.Reports.{filled, put_absent}
+use Rattle.feed_rows.specs.Reports.{filled, put_absent, raw_key, with_raw}
 
 abbrev Pairs : Type 0
 Pairs = PairsOf Value
@@ -108,3 +110,34 @@ pub all_fill : (fields others : FieldMap) (items : Pairs) (i : ℕ) (last : Fiel
 unfolding filled
 all_fill fields others items i last is end all =
     is ∙ ap (λ (t : Pairs). from_entries (entries fields ++ t)) (take_all i items end ∙ all)
+
+-- ---- a content among the fields that fill gaps
+
+absent_gets : (key : Key) (v : Value) (fields : FieldMap) (q : Key) → get (put_absent (key, v) fields) q ≡ option_or (get fields q) (cond (is_eq (order q key)) (Some v) None)
+absent_gets key v fields q =
+    ap (λ (m : FieldMap). get (put_absent (key, v) m) q) (sym (from_all fields))
+    ∙ ap (λ (m : FieldMap). get m q) (one_more key v (entries fields))
+    ∙ get-from_entries nat_list_cmp_total (entries fields ++ (key, v) ∷ []) q
+    ∙ find_in_both q (entries fields) ((key, v) ∷ [])
+    ∙ ap (λ o. option_or o (cond (is_eq (order q key)) (Some v) None)) (sym (get-entries fields q))
+
+or_or : (o p r : Option Value) → option_or (option_or o p) r ≡ option_or o (option_or p r)
+or_or None p r = refl
+or_or (Some v) p r = refl
+
+or_cond : (b : Bool) (v : Value) (o : Option Value) → option_or (cond b (Some v) None) o ≡ cond b (Some v) o
+or_cond true v o = refl
+or_cond false v o = refl
+
+-- to set a field that is absent and then to fill the gaps is to fill them from the others with that field
+absent_fills : (others fields : FieldMap) (key : Key) (v : Value) → filled others (put_absent (key, v) fields) ≡ filled (insert others key v) fields
+absent_fills others fields key v = same_maps _ _ (λ q.
+    filled_gets others (put_absent (key, v) fields) q
+    ∙ ap (λ o. option_or o (get others q)) (absent_gets key v fields q)
+    ∙ or_or (get fields q) (cond (is_eq (order q key)) (Some v) None) (get others q)
+    ∙ ap (option_or (get fields q)) (or_cond (is_eq (order q key)) v (get others q) ∙ sym (get-insert nat_list_cmp_total others key v q))
+    ∙ sym (filled_gets (insert others key v) fields q))
+
+pub fills_with_raw : (others fields : FieldMap) (content : List ℕ) → filled others (put_absent (raw_key, Text (raw_text content)) fields) ≡ filled (with_raw others content) fields
+unfolding with_raw
+fills_with_raw others fields content = absent_fills others fields raw_key (Text (raw_text content))

@@ -11,4 +11,4 @@ pub use notes::{
     RowFault, column_note, json_note, key_note, kind_note, raw_note, row_note, sieve_note,
 };
 pub use parsed::{Bad, BadList, FieldsList, ParseFault, Parsed, Row, event_row, spoiled_row};
-pub use report::{content, fill, others, with_raw};
+pub use report::{content, fill, fill_with_raw, others, with_raw, with_raw_and_room};

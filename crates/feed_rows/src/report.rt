@@ -1,6 +1,8 @@
 ghost use Rattle.std.specs.Prelude.{◌≡◌, None, IfOk, OnOk};
 ghost use Rattle.std.specs.FinMap.{get};
 ghost use Rattle.event_model.specs.Fields.{IsField};
+ghost use Rattle.field_types.specs.declared.value.Value.TheVariants as value;
+ghost use Rattle.scalar_text.specs.Raw.{raw_text};
 ghost use Rattle.feed_rows.specs.Reports.{content_in, filled, others, put_absent, raw_bytes, raw_key, with_raw};
 
 use base_types::{Blob, OutOfMemory, ScalarFault, Text, TextList};
@@ -13,6 +15,13 @@ fn raw_key(alloc: Global) -> Result<Text, OutOfMemory>
     ensures { IfOk result (λ key. key ≡ raw_key) }
 {
     Ok(Text::from(String::from_str(alloc, "raw")?))
+}
+
+// The same as the name of a field. It takes no memory.
+fn raw_name(alloc: Global) -> Result<FieldName, OutOfMemory>
+    ensures { IfOk result (λ name. name ≡ raw_key) }
+{
+    FieldName::new(alloc, "raw")
 }
 
 // The bytes that a value writes in base64.
@@ -53,13 +62,25 @@ pub fn others(alloc: Global, report: &Fields) -> Result<Fields, OutOfMemory>
 }
 
 /// A copy of these fields with this content as their `raw`.
-#[tactic(auto, unfolding(crate::specs::Reports::with_raw))]
 pub fn with_raw(alloc: Global, fields: &Fields, content: &[u8]) -> Result<Fields, OutOfMemory>
     ensures { IfOk result (λ made. made ≡ with_raw fields.now content.now) }
 {
-    let mut made = fields.copy(alloc)?;
+    with_raw_and_room(alloc, fields, content, 0)
+}
+
+/// The same, with room for so many more fields.
+#[tactic(auto, unfolding(crate::specs::Reports::with_raw))]
+pub fn with_raw_and_room(
+    alloc: Global,
+    fields: &Fields,
+    content: &[u8],
+    more: usize,
+) -> Result<Fields, OutOfMemory>
+    ensures { IfOk result (λ made. made ≡ with_raw fields.now content.now) }
+{
+    let mut made = fields.copy_with_room(alloc, more.saturating_add(1))?;
     let text = write_raw(alloc, content)?;
-    made.put(raw_key(alloc)?, Value::Text(text))?;
+    made.put_named(raw_name(alloc)?, Value::Text(text))?;
     Ok(made)
 }
 
@@ -72,11 +93,10 @@ fn put_absent(
     requires { IsField pair.now.0 pair.now.1 }
     ensures { OnOk result (fields.new ≡ put_absent pair.now fields.old) }
 {
-    let key = Text::from(String::from_str(alloc, pair.0.as_str())?);
-    if fields.get(&key).is_some() {
+    if fields.get_named(&pair.0).is_some() {
         return Ok(());
     }
-    fields.put(key, pair.1.copy(alloc)?)
+    fields.put_named(pair.0.copy(alloc)?, pair.1.copy(alloc)?)
 }
 
 /// Sets those of the other fields that are absent.
@@ -86,5 +106,31 @@ pub fn fill(alloc: Global, fields: &mut Fields, others: &Fields) -> Result<(), O
     'pairs: for pair in others.pairs() {
         put_absent(alloc, fields, pair)?;
     }
+    Ok(())
+}
+
+// Sets `raw` to this content where it is absent.
+fn put_absent_raw(alloc: Global, fields: &mut Fields, content: &[u8]) -> Result<(), OutOfMemory>
+    ensures { OnOk result (fields.new ≡ put_absent (raw_key, value.Text (raw_text content.now)) fields.old) }
+{
+    let name = raw_name(alloc)?;
+    if fields.get_named(&name).is_some() {
+        return Ok(());
+    }
+    let text = write_raw(alloc, content)?;
+    fields.put_named(name, Value::Text(text))
+}
+
+/// Sets those of the other fields that are absent, with this content as their `raw`.
+pub fn fill_with_raw(
+    alloc: Global,
+    fields: &mut Fields,
+    others: &Fields,
+    content: &[u8],
+) -> Result<(), OutOfMemory>
+    ensures { OnOk result (fields.new ≡ filled (with_raw others.now content.now) fields.old) }
+{
+    put_absent_raw(alloc, fields, content)?;
+    fill(alloc, fields, others)?;
     Ok(())
 }

@@ -11,3 +11,4 @@ pub mod Recovering
 pub mod Reopened
 pub mod Replays
 pub mod Small
+pub mod WholeFiles

@@ -9,26 +9,20 @@ use Rattle.base_types.proofs.Everywhere.{all-append}
 use Rattle.disk_journal.specs.GateFile.{open_records}
 use Rattle.disk_journal.specs.declared.journal.JournalFault.{JournalFault}
 use Rattle.disk_journal.specs.declared.journal.JournalFault.TheVariants as fault
-use Rattle.stored_types.proofs.Readers.{one_code}
 use Rattle.step_code.specs.declared.base.Base.{Base}
 use Rattle.step_code.specs.declared.step.Step.{Step}
-use Rattle.step_code.specs.After.{after}
 use Rattle.step_code.specs.Code.{code_of_step, IsWritable}
 use Rattle.step_code.specs.History.{replay}
 use Rattle.step_code.specs.Rules.{Meaning}
-use Rattle.step_code.proofs.StepLaws.{step_law}
 use Rattle.ack_steps.specs.Core.{CoreView}
 use Rattle.store_image.specs.Damage.{BeginsWithNoStep, HoldNoSteps, IsNoStep}
-use Rattle.store_image.specs.Opens.{AreReplayable, IsReplayable}
+use Rattle.store_image.specs.Opens.{AreReplayable}
 use Rattle.store_image.specs.Stored.{codes_of, AreRecords}
 use Rattle.store_image.proofs.Standing.{records_more, replay-append}
+use Rattle.store_image.proofs.Stops.{replayable_more}
 use Rattle.store_image.proofs.Stored.{step_is_long}
 use Rattle.journal_book.specs.Reading.{BeginsWithStep, HoldsReplayable, IsBodyFault}
 use Rattle.journal_book.proofs.Bodies.{behind_more, split_there, taken_more}
-
-replayable_more : (m : Meaning) (s : Base) (front more : List Step) → AreReplayable m s front → AreReplayable m (replay m s front) more → AreReplayable m s (front ++ more)
-replayable_more m s [] more all then = then
-replayable_more m s (step ∷ front) more all then = (all.0, replayable_more m (after m s step) front more all.1 then)
 
 pub none_left : (bytes rest : List ℕ) (is : Bool) → bytes ≡ rest → is ≡ (length bytes == 0) → is ≡ true → rest ≡ []
 none_left bytes rest is same test holds = nil_from_length rest (ap length (sym same) ∙ eqb-true (length bytes) 0 (sym test ∙ holds))

@@ -81,14 +81,14 @@ sealed_after m s now (kind.Redo dump) k = go (find (is_dump dump) s.dumps)
     go (Some d) = refl
 sealed_after m s now (kind.Round bot) k = refl
 
-sealed_replay : (m : Meaning) (s : Base) (steps : List Step) (k : ℕ) → sealed_of (replay m s steps).outs k ≡ sealed_of s.outs k
+pub sealed_replay : (m : Meaning) (s : Base) (steps : List Step) (k : ℕ) → sealed_of (replay m s steps).outs k ≡ sealed_of s.outs k
 sealed_replay m s [] k = refl
 sealed_replay m s (step ∷ steps) k = sealed_replay m (after m s step) steps k ∙ sealed_after m s step.moment step.what k
 
 -- ---- the fronts of outputs as texts
 
 -- the lines of output k that are sealed
-abbrev front_of : List Output → List Output → ℕ → List ℕ
+abbrev pub front_of : List Output → List Output → ℕ → List ℕ
 front_of [] sealed k = []
 front_of (whole ∷ wholes) [] k = []
 front_of (whole ∷ wholes) (out ∷ outs) zero = lines_text (take out.sealed_lines whole.lines)
@@ -100,7 +100,7 @@ front_length n (whole ∷ wholes) [] image none stand k = absurd none
 front_length n (whole ∷ wholes) (out ∷ outs) image sealed stand zero = stand.0.size
 front_length n (whole ∷ wholes) (out ∷ outs) image sealed stand (suc k) = front_length (suc n) wholes outs image sealed.1 stand.1 k
 
-front_begins : (n : ℕ) (wholes outs : List Output) (image : Image) → AreSealedFrom wholes outs → FrontsStand n wholes outs image → (k at : ℕ) → at ≡ n + k → take (sealed_of outs k) (image (out_file at)) ≡ front_of wholes outs k
+pub front_begins : (n : ℕ) (wholes outs : List Output) (image : Image) → AreSealedFrom wholes outs → FrontsStand n wholes outs image → (k at : ℕ) → at ≡ n + k → take (sealed_of outs k) (image (out_file at)) ≡ front_of wholes outs k
 front_begins n [] outs image none stand k at same = ap (λ (os : List Output). take (sealed_of os k) (image (out_file at))) none
 front_begins n (whole ∷ wholes) [] image none stand k at same = absurd none
 front_begins n (whole ∷ wholes) (out ∷ outs) image sealed stand zero at same = subst (λ (j : ℕ). take out.sealed_bytes (image (out_file j)) ≡ lines_text (take out.sealed_lines whole.lines)) (omega (arith, same)) stand.0.begins

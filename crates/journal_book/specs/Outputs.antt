@@ -1,8 +1,13 @@
 -- What becomes of the files of outputs.
 use Rattle.std.specs.Prelude.{◌≡◌, ◌≤◌, ◌<◌, ℕ, List, length, Option, Some, slice_get}
-use Rattle.edge_traits.specs.Disk.{Image, Only}
-use Rattle.out_files.specs.Output.{completed}
+use Rattle.std.specs.List.{AllByRecursion}
+use Rattle.edge_traits.specs.Disk.{DiskView, Image, Only}
+use Rattle.out_files.specs.Output.{completed, lines_text}
+use Rattle.step_code.specs.declared.base.Base.{Base}
 use Rattle.step_code.specs.declared.output.Output.{Output}
+use Rattle.step_code.specs.declared.step.Step.{Step}
+use Rattle.step_code.specs.History.{replay}
+use Rattle.step_code.specs.Rules.{Meaning}
 use Rattle.store_image.specs.Files.{out_file}
 use Rattle.journal_book.specs.declared.book_fault.BookFault.{BookFault}
 use Rattle.journal_book.specs.declared.book_fault.BookFault.TheVariants as fault
@@ -16,6 +21,23 @@ pub record IsCompleted (may_leave : ℕ → List ℕ → Type 0) (file : ℕ) (o
 -- so is the file of each of these outputs
 abbrev pub AreCompleted : (ℕ → List ℕ → Type 0) → List Output → Image → Image → Type 0
 AreCompleted may_leave outs before after = (k : ℕ) (out : Output) → slice_get outs k ≡ Some out → IsCompleted may_leave (out_file k) out before after
+
+-- no line of these outputs is sealed
+abbrev pub HaveNoneSealed : List Output → Type 0
+HaveNoneSealed outs = AllByRecursion (λ o. o.sealed_bytes ≡ 0) outs
+
+-- an output's file is all of its lines, each with a newline, and a crash leaves just that
+pub record IsWhole (may_leave : ℕ → List ℕ → Type 0) (file : ℕ) (out : Output) (after : Image) : Type 0 where
+  pub content : after file ≡ lines_text out.lines
+  pub durable : Only (after file) (may_leave file)
+
+-- so is the file of each of these outputs
+abbrev pub AreWhole : (ℕ → List ℕ → Type 0) → List Output → Image → Type 0
+AreWhole may_leave outs after = (k : ℕ) (out : Output) → slice_get outs k ≡ Some out → IsWhole may_leave (out_file k) out after
+
+-- the disk tells what it holds, and the file of each output is all lines that this history of a store has written
+abbrev pub AreWritten : {D : Type 0} → (D → DiskView) → (D → ℕ → List ℕ → Type 0) → Meaning → Base → List Step → D → Type 0
+AreWritten disk may_leave m first history now = (files : Image) × ((disk now).told ≡ Some files) × AreWhole (may_leave now) (replay m first history).outs files
 
 -- the first of these outputs whose file is shorter than what is sealed of it has this file, of this length
 pub record IsFirstShort (outs : List Output) (files : Image) (file at : ℕ) : Type 0 where
@@ -34,6 +56,14 @@ IsBringUpFault outs told (fault.Damaged file at) = (files : Image) → told ≡ 
 IsBringUpFault outs told (fault.Store have) = ⊥
 IsBringUpFault outs told fault.Refused = ⊥
 IsBringUpFault outs told fault.OutOfMemory = Unit {0}
+
+-- another fault than damage
+abbrev pub IsNoDamage : BookFault → Type 0
+IsNoDamage fault.Disk = Unit {0}
+IsNoDamage (fault.Damaged file at) = ⊥
+IsNoDamage (fault.Store have) = Unit {0}
+IsNoDamage fault.Refused = Unit {0}
+IsNoDamage fault.OutOfMemory = Unit {0}
 
 -- in each output's file a crash leaves what it might have left before
 abbrev pub LeavesOuts : {D : Type 0} → (D → ℕ → List ℕ → Type 0) → D → Image → Type 0

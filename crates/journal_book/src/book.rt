@@ -16,7 +16,7 @@ ghost use Rattle.store_image.specs.Stands.{StandsFor};
 ghost use Rattle.store_image.specs.Stored.{codes_of};
 ghost use Rattle.journal_book.specs.Book.{created, durable_steps, waiting_steps, IsKept};
 ghost use Rattle.journal_book.specs.Faults.{IsCreateFault};
-ghost use Rattle.journal_book.specs.Outputs.{AreCompleted, IsBringUpFault, LeavesOuts};
+ghost use Rattle.journal_book.specs.Outputs.{AreCompleted, AreWritten, HaveNoneSealed, IsBringUpFault, IsNoDamage, LeavesOuts};
 ghost use Rattle.store_image.specs.Opens.{Opens};
 ghost use Rattle.journal_book.specs.Opening.{opened, IsReopened, IsReopenFault, StandsNow, TellsLong};
 ghost use Rattle.journal_book.specs.Staged.{bytes_with, cause_of, greatest_limit, most_waiting, most_waiting_bytes, staged, stamp, step_cause, IsMove, IsStageRefusal};
@@ -158,6 +158,8 @@ impl<D: Disk, R: Rules> Book<D, R> {
     /// `Store` where the root is empty. `Damaged` where the first damage shows: in the root, in the generation's file, or in
     /// the length of an output. `Disk`. `OutOfMemory`. The disk comes back; whatever a crash leaves of it stands for what it
     /// stood for before.
+    ///
+    /// What opens isn't damaged, damage is at one place, and no files do neither: these are laws of `store_image`.
     pub fn reopen(
         alloc: Global,
         disk: D,
@@ -411,8 +413,14 @@ impl<D: Disk, R: Rules> Book<D, R> {
         ensures durable { IsErrOf result BookFault.Disk → (self.new.kept ≡ self.old.kept) ⊎ (self.new.kept ≡ length self.old.steps) }
         ensures still { IfErr result (λ fault. (fault ≢ BookFault.Disk) → self.new ≡ record self.old { disk = self.new.disk; kept = length self.old.steps }) }
         ensures fault { IfErr result (IsBringUpFault self.old.state.outs (D.disk self.old.disk).told) }
+        // No file is too short where the disk stands for a history.
+        ensures sound { (first : Base) (past : List Step) → IsKept D.disk D.may_leave R.meaning first past self.old → IfErr result IsNoDamage }
         ensures completed { (files after : Image) → (D.disk self.old.disk).told ≡ Some files → (D.disk self.new.disk).told ≡ Some after
             → OnOk result (AreCompleted (D.may_leave self.new.disk) self.old.state.outs files after) }
+
+        // Each output's file is all lines of the history that the disk stands for, where that began with nothing sealed.
+        ensures written { (first : Base) (history : List Step) → StandsNow D.disk D.may_leave R.meaning first history [] self.new.disk → HaveNoneSealed first.outs
+            → OnOk result (AreWritten D.disk D.may_leave R.meaning first history self.new.disk) }
         ensures untold { (D.disk self.old.disk).told ≡ None → (D.disk self.new.disk).told ≡ None }
 
         // Whatever a crash leaves now stands for the same steps as before, and for all if the answer isn't `Disk`.
@@ -442,8 +450,11 @@ impl<D: Disk, R: Rules> Book<D, R> {
         ensures disk { IsErrOf result BookFault.Disk → self.new ≡ record self.old { disk = self.new.disk; broken = true } }
         ensures still { IfErr result (λ fault. (fault ≢ BookFault.Disk) → self.new ≡ record self.old { disk = self.new.disk }) }
         ensures fault { IfErr result (IsBringUpFault self.old.state.outs (D.disk self.old.disk).told) }
+        ensures sound { (first : Base) (past : List Step) → IsKept D.disk D.may_leave R.meaning first past self.old → IfErr result IsNoDamage }
         ensures completed { (files after : Image) → (D.disk self.old.disk).told ≡ Some files → (D.disk self.new.disk).told ≡ Some after
             → OnOk result (AreCompleted (D.may_leave self.new.disk) self.old.state.outs files after) }
+        ensures written { (first : Base) (history : List Step) → self.old.kept ≡ length self.old.steps → StandsNow D.disk D.may_leave R.meaning first history [] self.new.disk → HaveNoneSealed first.outs
+            → OnOk result (AreWritten D.disk D.may_leave R.meaning first history self.new.disk) }
         ensures untold { (D.disk self.old.disk).told ≡ None → (D.disk self.new.disk).told ≡ None }
         ensures kept { (first : Base) (past : List Step) → IsKept D.disk D.may_leave R.meaning first past self.old → IsKept D.disk D.may_leave R.meaning first past self.new }
         ensures any_moment { (first : Base) (past : List Step) → IsKept D.disk D.may_leave R.meaning first past self.old

@@ -1,8 +1,7 @@
 -- The words behind the program's name.
-use Rattle.std.specs.Prelude.{ℕ, List, [], ◌∷◌, Bool, false, ◌||◌, codes}
+use Rattle.std.specs.Prelude.{ℕ, List, [], ◌∷◌, Bool, false, ◌||◌, codes, is_some}
 use Rattle.std.specs.Str.{bytes_eq}
 use Rattle.command_words.specs.Words.{command_of}
-use Rattle.pipeline_top.specs.Commands.{is_command as is_pipeline_command}
 
 -- the words that stand alone
 abbrev pub stands_alone : List ℕ → Bool
@@ -12,4 +11,4 @@ stands_alone word = bytes_eq word (codes "--help") || bytes_eq word (codes "--ve
 abbrev pub is_command : List (List ℕ) → Bool
 is_command [] = false
 is_command (word ∷ []) = stands_alone word
-is_command (store ∷ command) = is_pipeline_command (command_of command)
+is_command (store ∷ command) = is_some (command_of command)

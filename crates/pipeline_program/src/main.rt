@@ -1,10 +1,9 @@
 //! The program: its command line, and the outside as the system gives it.
 #![tactic(auto)]
 
-ghost use Rattle.std.specs.Prelude.{◌≡◌, ◌≢◌, ◌↔◌, false};
+ghost use Rattle.std.specs.Prelude.{◌≡◌, ◌≢◌, ◌↔◌, false, is_some};
 ghost use Rattle.status_texts.specs.StatusText.{number_of};
 ghost use Rattle.command_words.specs.Words.{command_of};
-ghost use Rattle.pipeline_top.specs.Commands.{is_command as is_pipeline_command};
 ghost use Rattle.pipeline_program.specs.CommandLine.{is_command, stands_alone};
 
 mod clock;
@@ -43,6 +42,8 @@ Commands:
   dumps                  print the messages that were put aside, a line each, with their faults
   redo --dump NO         put the message of a dump back into the queue of its bot
   check --bundle NAME    print how many bots a bundle has, or its first fault
+  drill --lines N --number S
+                         make a store, and drain a made feed of so many lines into it
   convert --feed NAME    write each event of a feed, a line each, to standard output
 
 Exit status:
@@ -60,7 +61,7 @@ Exit status:
   11  a bot that is to stop at a fault has stopped
   12  a line of a feed passes 1,048,576 bytes
   13  a feed passes 1,073,741,824 bytes
-  14  there is no store; for init: there is one
+  14  there is no store; for init and drill: there is one
   15  there is no such dump
   17  a line of the feed is no event or report; those before it are written
   18  a number is used up
@@ -161,7 +162,7 @@ fn run_command<R: Files + Clock + Print + AllocGlobal + Drop>(
 ) -> Status
 where
     R::File: FileExt,
-    ensures { (result ≡ Status.Words) ↔ (is_pipeline_command (command_of words.now) ≡ false) }
+    ensures { (result ≡ Status.Words) ↔ (is_some (command_of words.now) ≡ false) }
 {
     let alloc = rt.alloc();
     let mut shelf = FileShelf::new(alloc, rt);

@@ -12,17 +12,20 @@ use Rattle.step_code.specs.declared.base.Base.{Base}
 use Rattle.step_code.specs.declared.step.Step.{Step}
 use Rattle.store_image.specs.Files.{root_file}
 use Rattle.journal_book.specs.Opening.{StandsNow}
+use Rattle.journal_book.specs.Outputs.{AreWritten, HaveNoneSealed}
 use Rattle.store_calls.specs.Calls.{StandsOn}
-use Rattle.store_commands.specs.Begun.{IsBegun, IsMade, IsMadeWhole}
+use Rattle.store_commands.specs.Begun.{IsBegun, IsMade, IsMadeWhole, IsNewStore}
 use Rattle.store_commands.specs.Completed.{IsCompleted}
-use Rattle.store_commands.specs.Ends.{IsPrinted, IsShown}
+use Rattle.store_commands.specs.Ends.{AreWrittenAt, IsPrinted, IsShown}
 use Rattle.store_commands.specs.Redone.{IsRedoCall, IsRedone, RedoesStep}
 use Rattle.store_commands.specs.declared.end.StoreEnd.{StoreEnd}
+use Rattle.store_commands.specs.declared.end.StoreEnd.TheVariants as ended
 use Rattle.store_commands.specs.declared.printing.Shown.{Shown}
 use Rattle.store_commands.specs.declared.printing.Shown.TheVariants as shown
 use Rattle.drain_loop.specs.Calls.{outside}
 use Rattle.drain_command.specs.Drained.{most_step_bytes, IsDrainCall}
 use Rattle.drain_command.specs.declared.end.DrainEnd.{DrainEnd}
+use Rattle.drill_feed.specs.Drill.{drill_bundle, drill_shelf}
 use Rattle.command_words.specs.Command as asked
 use Rattle.pipeline_top.specs.Convert.{conversion, convert_bot, end_of, IsOutside, Wrote}
 use Rattle.pipeline_top.specs.Outside.{Brings, Names, Seen}
@@ -69,6 +72,12 @@ IsStill disk may_leave left_since old new = (first : Base) (steps more : List St
 abbrev pub WhereTold : {D : Type 0} → (D → DiskView) → D → (Image → Type 0) → Type 0
 WhereTold disk old passes = (files : Image) → (disk old).told ≡ Some files → passes files
 
+-- behind a command that ended so, each output's file is all lines of the history that the disk stands for, where that began with
+-- nothing sealed
+abbrev pub HasOutputsAt : {D : Type 0} → (D → DiskView) → (D → ℕ → List ℕ → Type 0) → D → StoreEnd → Type 0
+HasOutputsAt disk may_leave new done =
+    (first : Base) (history : List Step) → StandsNow disk may_leave intel first history [] new → HaveNoneSealed first.outs → AreWrittenAt done (AreWritten disk may_leave intel first history new)
+
 -- a store of this bundle was made, or one was there, which is left alone
 pub record IsMadeOf {D : Type 0} (disk : D → DiskView) (may_leave : D → ℕ → List ℕ → Type 0) (left_since : D → ℕ → Image → Type 0) (seen : Seen) (end : Status) (old new : D) (found : Bundle × Plan) : Type 0 where
   pub done : StoreEnd
@@ -106,12 +115,44 @@ pub record IsUndrained {D : Type 0} (disk : D → DiskView) (may_leave : D → �
   pub done : StoreEnd
   pub end_is : end ≡ behind_store done (unbrought_status why)
   pub completed : WhereTold disk old (λ files. IsCompleted intel files (is_said why) done seen.sink seen.sink_now)
+  pub written : HasOutputsAt disk may_leave new done
   pub still : IsStill disk may_leave left_since old new
 
 pub record IsDrained {D : Type 0} (disk : D → DiskView) (may_leave : D → ℕ → List ℕ → Type 0) (left_since : D → ℕ → Image → Type 0) (ask : asked.Ask) (seen : Seen) (old new : D) (end : Status) : Type 0 where
   pub named : Result (Option (List ℕ)) Unbrought
   pub names : Names seen.shelf ask.reload named
   pub done : MatchResult named (IsDrainedBy disk may_leave left_since ask seen end old new) (IsUndrained disk may_leave left_since seen end old new)
+
+-- a drill is a drain of all turns
+abbrev pub no_ask : asked.Ask
+no_ask = record { steps = None; reload = None; round = false }
+
+-- no store was made: nothing more is done, and nothing is printed
+abbrev pub IsUndrilled : {D : Type 0} → Seen → D → D → Status → StoreEnd → Type 0
+IsUndrilled seen mid new end making = (end ≡ store_status making) × (new ≡ mid) × Took seen.sink seen.sink_now []
+
+-- what comes behind the making of the drill's store, which ended so: its feed is drained, or no store was made
+abbrev pub IsDrillEnd : {D : Type 0} → (D → DiskView) → (D → ℕ → List ℕ → Type 0) → (D → ℕ → Image → Type 0) → (lines number : ℕ) → Seen → D → D → Status → StoreEnd → Type 0
+IsDrillEnd disk may_leave left_since lines number seen mid new end ended.Done = IsDrainedBy disk may_leave left_since no_ask (record seen { shelf = drill_shelf lines number }) end mid new None
+IsDrillEnd disk may_leave left_since lines number seen mid new end ended.Memory = IsUndrilled seen mid new end ended.Memory
+IsDrillEnd disk may_leave left_since lines number seen mid new end ended.Disk = IsUndrilled seen mid new end ended.Disk
+IsDrillEnd disk may_leave left_since lines number seen mid new end ended.Sink = IsUndrilled seen mid new end ended.Sink
+IsDrillEnd disk may_leave left_since lines number seen mid new end (ended.Store have) = IsUndrilled seen mid new end (ended.Store have)
+IsDrillEnd disk may_leave left_since lines number seen mid new end ended.Refused = IsUndrilled seen mid new end ended.Refused
+IsDrillEnd disk may_leave left_since lines number seen mid new end (ended.Damaged file at) = IsUndrilled seen mid new end (ended.Damaged file at)
+IsDrillEnd disk may_leave left_since lines number seen mid new end (ended.NoDump n) = IsUndrilled seen mid new end (ended.NoDump n)
+IsDrillEnd disk may_leave left_since lines number seen mid new end (ended.Spent next) = IsUndrilled seen mid new end (ended.Spent next)
+IsDrillEnd disk may_leave left_since lines number seen mid new end (ended.Full bytes) = IsUndrilled seen mid new end (ended.Full bytes)
+
+-- a store of the drill's bundle was made, on a disk as it was then, and the feed of so many lines that the number gives was
+-- drained into it; or a store was there, which is left alone
+pub record IsDrilled {D : Type 0} (disk : D → DiskView) (may_leave : D → ℕ → List ℕ → Type 0) (left_since : D → ℕ → Image → Type 0) (lines number : ℕ) (seen : Seen) (old new : D) (end : Status) : Type 0 where
+  pub mid : D
+  pub making : StoreEnd
+  pub made : WhereTold disk old (λ files. IsNewStore intel files (bundle_code drill_bundle) making)
+  pub begun : WhereTold disk old (λ files. making ≡ ended.Done → IsBegun disk may_leave intel (bundle_code drill_bundle) mid)
+  pub left_alone : IsStill disk may_leave left_since old mid
+  pub done : IsDrillEnd disk may_leave left_since lines number seen mid new end making
 
 -- what is asked for of a store's state is printed
 pub record IsShownBy {D : Type 0} (disk : D → DiskView) (may_leave : D → ℕ → List ℕ → Type 0) (left_since : D → ℕ → Image → Type 0) (what : Shown) (seen : Seen) (old new : D) (end : Status) : Type 0 where
@@ -127,12 +168,13 @@ pub record IsRedoneBy {D : Type 0} (disk : D → DiskView) (may_leave : D → �
   pub now : ℕ
   pub shows : (told : ℕ) → seen.clock ≡ Some told → now ≡ told
   pub redone : WhereTold disk old (λ files. IsRedone intel files dump now done seen.sink seen.sink_now)
+  pub written : HasOutputsAt disk may_leave new done
   pub stands : (first : Base) (steps more : List Step) → StandsNow disk may_leave intel first steps more old
       → IsRedoCall done (StandsOn disk may_leave left_since intel first steps more old new) (RedoesStep disk may_leave left_since intel first steps more old new dump now)
 
 -- ---- all
 
--- the command is done; words that are none do nothing. A drill isn't made yet: its words are no command
+-- the command is done; words that are none do nothing
 abbrev pub IsTool : {D : Type 0} → (D → DiskView) → (D → ℕ → List ℕ → Type 0) → (D → ℕ → Image → Type 0) → Option asked.Command → Seen → D → D → Status → Type 0
 IsTool disk may_leave left_since None seen old new end = (end ≡ status.Words) × (seen.sink_now ≡ seen.sink) × (new ≡ old)
 IsTool disk may_leave left_since (Some (asked.Convert feed)) seen old new end = IsConverted feed seen end × (new ≡ old)
@@ -142,16 +184,4 @@ IsTool disk may_leave left_since (Some (asked.Drain ask)) seen old new end = IsD
 IsTool disk may_leave left_since (Some asked.Status) seen old new end = IsShownBy disk may_leave left_since shown.State seen old new end
 IsTool disk may_leave left_since (Some asked.Dumps) seen old new end = IsShownBy disk may_leave left_since shown.Dumps seen old new end
 IsTool disk may_leave left_since (Some (asked.Redo dump)) seen old new end = IsRedoneBy disk may_leave left_since dump seen old new end
-IsTool disk may_leave left_since (Some (asked.Drill lines number)) seen old new end = (end ≡ status.Words) × (seen.sink_now ≡ seen.sink) × (new ≡ old)
-
--- the words are a command that the program has
-abbrev pub is_command : Option asked.Command → Bool
-is_command None = false
-is_command (Some (asked.Convert feed)) = true
-is_command (Some (asked.Check bundle)) = true
-is_command (Some (asked.Init bundle)) = true
-is_command (Some (asked.Drain ask)) = true
-is_command (Some asked.Status) = true
-is_command (Some asked.Dumps) = true
-is_command (Some (asked.Redo dump)) = true
-is_command (Some (asked.Drill lines number)) = false
+IsTool disk may_leave left_since (Some (asked.Drill lines number)) seen old new end = IsDrilled disk may_leave left_since lines number seen old new end

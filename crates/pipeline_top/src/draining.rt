@@ -46,8 +46,8 @@ pub fn drain<H: Shelf, D: Disk, S: Sink, C: Clock>(
     }
 }
 
-// Drains it, with the bundle of this code put in force, if there is one.
-fn drain_with<H: Shelf, D: Disk, S: Sink, C: Clock>(
+/// Drains it, with the bundle of this code put in force, if there is one.
+pub(crate) fn drain_with<H: Shelf, D: Disk, S: Sink, C: Clock>(
     alloc: Global,
     ask: Ask<'_>,
     bundle: Option<Blob>,

@@ -8,6 +8,7 @@ mod checking;
 mod convert;
 mod converting;
 mod draining;
+mod drilling;
 mod halt;
 mod line;
 mod showing;

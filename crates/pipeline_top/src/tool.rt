@@ -1,15 +1,16 @@
-ghost use Rattle.std.specs.Prelude.{◌≡◌, ◌↔◌, ◌≤◌, List, ℕ, false};
+ghost use Rattle.std.specs.Prelude.{◌≡◌, ◌↔◌, ◌≤◌, List, ℕ, false, is_some};
 ghost use Rattle.edge_traits.specs.Count.{Rose};
 ghost use Rattle.edge_traits.specs.Shelf.{count_on};
 ghost use Rattle.command_words.specs.Words.{command_of};
 ghost use Rattle.status_texts.specs.declared.status.FeedWhy.TheVariants.{Failed};
-ghost use Rattle.pipeline_top.specs.Commands.{is_command, IsTool};
+ghost use Rattle.pipeline_top.specs.Commands.{IsTool};
 
 use crate::Status;
 use crate::beginning::init;
 use crate::checking::check;
 use crate::converting::convert_named;
 use crate::draining::drain;
+use crate::drilling::drill;
 use crate::showing::{redo, show};
 use base_types::Text;
 use command_words::{Command, command_of};
@@ -32,7 +33,7 @@ pub fn run_tool<H: Shelf, D: Disk, S: Sink, C: Clock>(
     ensures done { IsTool D.disk D.may_leave D.left_since (command_of words.now) (record { shelf = H.shelf shelf.old; sink = S.sink out.old; sink_now = S.sink out.new; clock = C.told clock.now }) disk result.1 result.0 }
 
     // The words are no command, and nothing is read or written.
-    ensures words { (result.0 ≡ Status.Words) ↔ (is_command (command_of words.now) ≡ false) }
+    ensures words { (result.0 ≡ Status.Words) ↔ (is_some (command_of words.now) ≡ false) }
     ensures untouched { result.0 ≡ Status.Words → H.shelf shelf.new ≡ H.shelf shelf.old }
 
     // The outside failed, as its counts show.
@@ -55,6 +56,6 @@ pub fn run_tool<H: Shelf, D: Disk, S: Sink, C: Clock>(
         Some(Command::Status) => show(alloc, Shown::State, disk, out),
         Some(Command::Dumps) => show(alloc, Shown::Dumps, disk, out),
         Some(Command::Redo { dump }) => redo(alloc, dump, disk, out, clock),
-        Some(Command::Drill { .. }) => (Status::Words, disk),
+        Some(Command::Drill { lines, number }) => drill(alloc, lines, number, disk, out, clock),
     }
 }

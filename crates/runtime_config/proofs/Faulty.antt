@@ -3,9 +3,9 @@ use Rattle.std.proofs.Common.{◌≡◌, ℕ, List, Bool, true, false, not, OnOk
 use Rattle.std.specs.Option.{option_or}
 use Rattle.serde_json.specs.Data.{Members}
 use Rattle.config_bundle.specs.declared.bundle.Bundle.{Bundle}
-use Rattle.runtime_config.specs.Faults.{bad_names, cycle_fault, fault_of, file_fault, limit_fault, missing_names, module_fault, queue_fault, table_fault, Place}
+use Rattle.runtime_config.specs.Faults.{bad_names, cycle_fault, fault_of, file_fault, limit_fault, missing_names, module_fault, path_fault, queue_fault, sieve_fault, table_fault, Place}
 use Rattle.event_model.specs.Lenient.{least}
-use Rattle.runtime_config.specs.Found.{IsFault, IsFound, IsPlannedAs}
+use Rattle.runtime_config.specs.Found.{IsFault, IsFound, IsPlannedAs, IsSieveOf}
 use Rattle.runtime_config.specs.Load.{planned}
 use Rattle.runtime_config.specs.Runtime.{is_prefix, module_of, Entry}
 use Rattle.runtime_config.specs.declared.fault.LoadFault.{LoadFault}
@@ -14,6 +14,7 @@ use Rattle.event_model.specs.Fields.{FieldMap}
 use Rattle.runtime_config.specs.declared.plan.Module.TheVariants as as_module
 use Rattle.runtime_config.specs.declared.plan.Planned.{Planned}
 use Rattle.runtime_config.specs.declared.plan.Route.{Route}
+use Rattle.sieve_reader.specs.SieveView.{SieveView}
 
 abbrev Found : Type 0
 Found = Option LoadFault
@@ -24,6 +25,8 @@ moved (fault.Module bot) o p goes is = goes is
 moved (fault.Parameter bot name) o p goes is = goes is
 moved (fault.Missing bot name) o p goes is = goes is
 moved (fault.File bot) o p goes is = goes is
+moved (fault.Sieve bot e) o p goes is = goes is
+moved (fault.Path bot at) o p goes is = goes is
 moved (fault.Cycle bot) o p goes is = goes is
 moved (fault.Limit bot) o p goes is = goes is
 moved (fault.Queue bot) o p goes is = goes is
@@ -45,6 +48,9 @@ later_planned o rest q r none is = subst (λ (p : Found). IsPlannedAs (option_or
 pub same_planned : (o p : Found) (q : Planned) (r : Result Planned LoadFault) → o ≡ p → IsPlannedAs o q r → IsPlannedAs p q r
 same_planned o p q r same is = subst (λ (x : Found). IsPlannedAs x q r) same is
 
+pub later_sieve : (o rest : Found) (s : SieveView) (r : Result SieveView LoadFault) → o ≡ None → IsSieveOf rest s r → IsSieveOf (option_or o rest) s r
+later_sieve o rest s r none is = subst (λ (p : Found). IsSieveOf (option_or p rest) s r) (sym none) is
+
 pub or_none : (o : Found) → option_or o None ≡ o
 or_none None = refl
 or_none (Some e) = refl
@@ -54,6 +60,10 @@ four_first (Some e) b c d rest = refl
 four_first None (Some e) c d rest = refl
 four_first None None (Some e) d rest = refl
 four_first None None None d rest = refl
+
+pub two_first : (a b rest : Found) → option_or (option_or a b) rest ≡ option_or a (option_or b rest)
+two_first (Some e) b rest = refl
+two_first None b rest = refl
 
 -- a bot whose module reads no table has no fault in one
 pub no_table : (bundle : Bundle) (global : Members) (bot : Entry) → is_prefix (module_of bot) ≡ false → table_fault bundle global bot ≡ None
@@ -92,15 +102,24 @@ on_ok (Err _) P p = tt
 
 pub fault_split : (p : Place) → option_or (option_or (module_fault p.bot) (option_or (option_map (fault.Parameter p.bot.0) (least (bad_names p.runtime.global p.bot)))
     (option_or (option_map (fault.Missing p.bot.0) (least (missing_names p.runtime.global p.bot))) (file_fault p.bundle p.runtime.global p.bot))))
-    (option_or (cycle_fault p.runtime.bots p.bot) (option_or (limit_fault p.bundle p.runtime.global p.before p.bot) (option_or (queue_fault p.runtime.bots p.bot) (table_fault p.bundle p.runtime.global p.bot)))) ≡ fault_of p
+    (option_or (option_or (sieve_fault p.bundle p.runtime.global p.bot) (path_fault p.bundle p.runtime.global p.bot))
+    (option_or (cycle_fault p.runtime.bots p.bot) (option_or (limit_fault p.bundle p.runtime.global p.before p.bot) (option_or (queue_fault p.runtime.bots p.bot) (table_fault p.bundle p.runtime.global p.bot))))) ≡ fault_of p
 unfolding fault_of
 fault_split p =
-    four_first (module_fault p.bot) (option_map (fault.Parameter p.bot.0) (least (bad_names p.runtime.global p.bot))) (option_map (fault.Missing p.bot.0) (least (missing_names p.runtime.global p.bot)))
-    (file_fault p.bundle p.runtime.global p.bot) _
-    ∙ ap (λ o. option_or (module_fault p.bot) (option_or (option_map (fault.Parameter p.bot.0) (least (bad_names p.runtime.global p.bot)))
-    (option_or (option_map (fault.Missing p.bot.0) (least (missing_names p.runtime.global p.bot))) (option_or (file_fault p.bundle p.runtime.global p.bot)
-    (option_or (cycle_fault p.runtime.bots p.bot) (option_or (limit_fault p.bundle p.runtime.global p.before p.bot) (option_or (queue_fault p.runtime.bots p.bot) o)))))))
-    (sym (or_none (table_fault p.bundle p.runtime.global p.bot)))
+    let words = module_fault p.bot in
+    let bad = option_map (fault.Parameter p.bot.0) (least (bad_names p.runtime.global p.bot)) in
+    let missing = option_map (fault.Missing p.bot.0) (least (missing_names p.runtime.global p.bot)) in
+    let file = file_fault p.bundle p.runtime.global p.bot in
+    let sieve = sieve_fault p.bundle p.runtime.global p.bot in
+    let path = path_fault p.bundle p.runtime.global p.bot in
+    let cycle = cycle_fault p.runtime.bots p.bot in
+    let limit = limit_fault p.bundle p.runtime.global p.before p.bot in
+    let queue = queue_fault p.runtime.bots p.bot in
+    let table = table_fault p.bundle p.runtime.global p.bot in
+    four_first words bad missing file (option_or (option_or sieve path) (option_or cycle (option_or limit (option_or queue table))))
+    ∙ ap (λ (o : Found). option_or words (option_or bad (option_or missing (option_or file o))))
+    (two_first sieve path (option_or cycle (option_or limit (option_or queue table)))
+    ∙ ap (λ (o : Found). option_or sieve (option_or path (option_or cycle (option_or limit (option_or queue o))))) (sym (or_none table)))
 
 pub csv_is : (a1 b1 : List (List (List ℕ))) (a2 b2 : ℕ) (a3 b3 : Bool) (a4 b4 : FieldMap) (a5 b5 : Bool) → a1 ≡ b1 → a2 ≡ b2 → a3 ≡ b3 → a4 ≡ b4 → a5 ≡ b5 → as_module.Csv a1 a2 a3 a4 a5 ≡ as_module.Csv b1 b2 b3 b4 b5
 csv_is a1 b1 a2 b2 a3 b3 a4 b4 a5 b5 p1 p2 p3 p4 p5 = λ t. as_module.Csv (p1 t) (p2 t) (p3 t) (p4 t) (p5 t)

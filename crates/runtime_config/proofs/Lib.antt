@@ -12,7 +12,9 @@ pub mod Numbers
 pub mod Ordered
 pub mod Owners
 pub mod Reached
+pub mod ReadAs
 pub mod Searches
+pub mod Sieved
 pub mod Tables
 pub mod Ways
 pub mod Within

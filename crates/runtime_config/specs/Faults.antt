@@ -9,11 +9,13 @@ use Rattle.event_model.specs.Lenient.{least}
 use Rattle.config_bundle.specs.declared.bundle.Bundle.{Bundle}
 use Rattle.runtime_config.specs.Parameters.{Parameter}
 use Rattle.runtime_config.specs.Reaches.{is_queue_of, reaches, targets}
-use Rattle.runtime_config.specs.Runtime.{given, is_output, is_prefix, line_in, lines_in, module_key, module_of, object_of, parameters, routes, routes_key, routes_of_value, set_as, setting, whole_in, Entry, Route, Runtime}
+use Rattle.runtime_config.specs.Runtime.{given, is_output, is_prefix, is_sieve, line_in, lines_in, module_key, module_of, object_of, parameters, reads_file, routes, routes_key, routes_of_value, set_as, setting, whole_in, Entry, Route, Runtime}
+use Rattle.runtime_config.specs.Sieves.{refusal_of, sieve_of}
 use Rattle.runtime_config.specs.Table.{row_count, table_in}
 use Rattle.runtime_config.specs.declared.fault.LoadFault.{LoadFault}
 use Rattle.runtime_config.specs.declared.fault.LoadFault.TheVariants as fault
 use Rattle.runtime_config.specs.declared.table.Table.{Table}
+use Rattle.sieve_reader.specs.SieveView.{SieveView}
 
 -- one bot of a bundle, as loading looks at it
 pub record Place : Type 0 where
@@ -99,7 +101,7 @@ missing_member p = option_map (fault.Missing p.bot.0) (least (missing_names p.ru
 
 -- the name of the bundle's file that the bot's module reads
 abbrev pub file_of : Members → Entry → Option (List ℕ)
-file_of global bot = if is_prefix (module_of bot) then line_in (set_as global bot (codes "file")) else None
+file_of global bot = if reads_file (module_of bot) then line_in (set_as global bot (codes "file")) else None
 
 -- the bytes of the first file of a name
 abbrev pub content_of : List (List ℕ × List ℕ) → List ℕ → Option (List ℕ)
@@ -116,6 +118,35 @@ file_fault bundle global bot = fault_when (is_some (file_of global bot) && is_no
 
 abbrev pub absent_file : Place → Option LoadFault
 absent_file p = file_fault p.bundle p.runtime.global p.bot
+
+-- ---- sieves
+
+-- the bytes of the file of a bot whose module is that of sieves
+abbrev pub sieve_text : Bundle → Members → Entry → Option (List ℕ)
+sieve_text bundle global bot = if is_sieve (module_of bot) then content bundle global bot else None
+
+-- the bot's sieve; one with nothing in it where the bot has none
+unfoldable pub bot_sieve : Bundle → Members → Entry → SieveView
+bot_sieve bundle global bot = sieve_of (sieve_text bundle global bot)
+
+-- the bot's file writes no sieve
+abbrev pub sieve_fault : Bundle → Members → Entry → Option LoadFault
+sieve_fault bundle global bot = option_map (fault.Sieve bot.0) (refusal_of (sieve_text bundle global bot))
+
+abbrev pub refused_sieve : Place → Option LoadFault
+refused_sieve p = sieve_fault p.bundle p.runtime.global p.bot
+
+-- where the first of these names of paths stands that is none of the bot's
+abbrev pub unknown_spot : List Route → List (List ℕ × ℕ) → Option ℕ
+unknown_spot routes [] = None
+unknown_spot routes (spot ∷ spots) = if has_path spot.0 routes then unknown_spot routes spots else Some spot.1
+
+-- the bot's sieve sends events on a path that the bot hasn't; the first such
+abbrev pub path_fault : Bundle → Members → Entry → Option LoadFault
+path_fault bundle global bot = option_map (fault.Path bot.0) (unknown_spot (routes bot) (bot_sieve bundle global bot).paths)
+
+abbrev pub unknown_path : Place → Option LoadFault
+unknown_path p = path_fault p.bundle p.runtime.global p.bot
 
 -- ---- paths and queues
 
@@ -166,12 +197,19 @@ most_queues = 16
 abbrev pub most_columns : ℕ
 most_columns = 256
 
+abbrev pub most_patterns : ℕ
+most_patterns = 32
+
 abbrev pub instances : Members → Entry → ℕ
 instances global bot = whole_in (set_as global bot (codes "instances_threads"))
 
--- the rows of a prefix expert's table
+-- the bytes of the file of a prefix expert
+abbrev pub table_text : Bundle → Members → Entry → Option (List ℕ)
+table_text bundle global bot = if is_prefix (module_of bot) then content bundle global bot else None
+
+-- the rows of its table
 abbrev pub rows : Bundle → Members → Entry → ℕ
-rows bundle global bot = unwrap_or (option_map row_count (content bundle global bot)) 0
+rows bundle global bot = unwrap_or (option_map row_count (table_text bundle global bot)) 0
 
 -- those of all its instances
 abbrev pub rows_in_all : Bundle → Members → Entry → ℕ
@@ -202,6 +240,10 @@ passes_own bundle global bot =
     || nat_lt most_columns (length (lines_in (set_as global bot (codes "columns"))))
     || nat_lt most_rows (rows bundle global bot) || nat_lt longest_file (length (unwrap_or (content bundle global bot) []))
 
+-- the bot's sieve has too many patterns, one for each `=~` and `!~`
+abbrev pub passes_patterns : Bundle → Members → Entry → Bool
+passes_patterns bundle global bot = nat_lt most_patterns (length (bot_sieve bundle global bot).patterns)
+
 -- there are too many of these bots, or of their instances or rows, or their files have too many bytes
 abbrev pub pass_together : Bundle → Members → List Entry → Bool
 pass_together bundle global bots =
@@ -209,8 +251,12 @@ pass_together bundle global bots =
     || nat_lt most_rows_in_all (sum_by (rows_in_all bundle global) bots) || nat_lt longest_bundle (bytes_of bundle global bots)
 
 -- a number of the bot, or a sum over it and the bots before it, is above its limit
+abbrev pub numbers_fault : Bundle → Members → List Entry → Entry → Option LoadFault
+numbers_fault bundle global before bot = fault_when (passes_own bundle global bot || pass_together bundle global (before ++ bot ∷ [])) (fault.Limit bot.0)
+
+-- so is its sieve's number of patterns, or one of those
 abbrev pub limit_fault : Bundle → Members → List Entry → Entry → Option LoadFault
-limit_fault bundle global before bot = fault_when (passes_own bundle global bot || pass_together bundle global (before ++ bot ∷ [])) (fault.Limit bot.0)
+limit_fault bundle global before bot = option_or (fault_when (passes_patterns bundle global bot) (fault.Limit bot.0)) (numbers_fault bundle global before bot)
 
 abbrev pub past_limit : Place → Option LoadFault
 past_limit p = limit_fault p.bundle p.runtime.global p.before p.bot
@@ -223,7 +269,7 @@ fault_in (Err line) = Some line
 
 -- the prefix file's line, the first such, is no header or row
 abbrev pub table_fault : Bundle → Members → Entry → Option LoadFault
-table_fault bundle global bot = option_map (fault.Table bot.0) (option_and_then (λ bytes. fault_in (table_in bytes)) (content bundle global bot))
+table_fault bundle global bot = option_map (fault.Table bot.0) (option_and_then (λ bytes. fault_in (table_in bytes)) (table_text bundle global bot))
 
 abbrev pub bad_row : Place → Option LoadFault
 bad_row p = table_fault p.bundle p.runtime.global p.bot
@@ -231,7 +277,8 @@ bad_row p = table_fault p.bundle p.runtime.global p.bot
 -- ---- all rules, in their order
 
 abbrev pub rules : List (Place → Option LoadFault)
-rules = unknown_module ∷ bad_parameter ∷ missing_member ∷ absent_file ∷ on_cycle ∷ past_limit ∷ unknown_queue ∷ bad_row ∷ []
+rules =
+    unknown_module ∷ bad_parameter ∷ missing_member ∷ absent_file ∷ refused_sieve ∷ unknown_path ∷ on_cycle ∷ past_limit ∷ unknown_queue ∷ bad_row ∷ []
 
 abbrev pub first_some : List (Option LoadFault) → Option LoadFault
 first_some [] = None

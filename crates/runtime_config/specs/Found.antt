@@ -3,6 +3,7 @@ use Rattle.std.specs.Prelude.{◌≡◌, Option, Some, None, Result, Ok, Err}
 use Rattle.runtime_config.specs.declared.fault.LoadFault.{LoadFault}
 use Rattle.runtime_config.specs.declared.fault.LoadFault.TheVariants as fault
 use Rattle.runtime_config.specs.declared.plan.Planned.{Planned}
+use Rattle.sieve_reader.specs.SieveView.{SieveView}
 
 -- the fault that was found, or none was; memory may run out in any case
 abbrev pub IsFault : Option LoadFault → LoadFault → Type 0
@@ -17,3 +18,8 @@ IsFound found (Err e) = IsFault found e
 abbrev pub IsPlannedAs : Option LoadFault → Planned → Result Planned LoadFault → Type 0
 IsPlannedAs found is (Ok planned) = (found ≡ None) × (planned ≡ is)
 IsPlannedAs found is (Err e) = IsFault found e
+
+-- the sieve is this one and nothing was found, or the fault that was found
+abbrev pub IsSieveOf : Option LoadFault → SieveView → Result SieveView LoadFault → Type 0
+IsSieveOf found is (Ok sieve) = (found ≡ None) × (sieve ≡ is)
+IsSieveOf found is (Err e) = IsFault found e

@@ -3,6 +3,8 @@ pub mod Parameters
 pub mod Runtime
 pub mod Networks
 pub mod Table
+pub mod SieveIn
+pub mod Sieves
 pub mod Reaches
 pub mod Faults
 pub mod Load

@@ -4,7 +4,7 @@ use Rattle.std.specs.List.{slice_split}
 use Rattle.std.specs.Str.{bytes_eq}
 use Rattle.serde_json.specs.Data.{Members}
 use Rattle.config_bundle.specs.declared.bundle.Bundle.{Bundle}
-use Rattle.runtime_config.specs.Faults.{content, first_fault, instances}
+use Rattle.runtime_config.specs.Faults.{bot_sieve, first_fault, instances, table_text}
 use Rattle.runtime_config.specs.Runtime.{defaults_in, line, line_in, lines_in, module_of, routes, runtime_of, set_as, switch_in, whole_in, Entry, Route as Path, Runtime}
 use Rattle.runtime_config.specs.Table.{table_in}
 use Rattle.runtime_config.specs.declared.fault.LoadFault.{LoadFault}
@@ -54,14 +54,15 @@ module_as bundle global bot (Some modules.Csv) = as_module.Csv
 module_as bundle global bot (Some modules.Json) = as_module.Json
     (line global bot (codes "style"))
     (defaults_in (set_as global bot (codes "default_fields")))
+module_as bundle global bot (Some modules.Sieve) = as_module.Sieve (bot_sieve bundle global bot)
 module_as bundle global bot (Some modules.Dedup) = as_module.Dedup
     (lines_in (set_as global bot (codes "filter_keys")))
     (is_allowing (line global bot (codes "filter_type")))
     (whole_in (set_as global bot (codes "ttl")))
     (whole_in (set_as global bot (codes "cache_max")))
 module_as bundle global bot (Some modules.Prefix) = as_module.Prefix
-    (table_of (content bundle global bot)).networks
-    (table_of (content bundle global bot)).sets
+    (table_of (table_text bundle global bot)).networks
+    (table_of (table_text bundle global bot)).sets
     (switch_in (set_as global bot (codes "overwrite")))
 module_as bundle global bot (Some modules.Taxonomy) = as_module.Taxonomy
 module_as bundle global bot (Some modules.Output) = as_module.Output

@@ -132,6 +132,7 @@ own modules.Json =
     row (codes "default_fields") form.FieldObject (Some (Defaults empty)) ∷
     row (codes "style") (form.Word words.Style) (Some (Line (codes "lines"))) ∷
     []
+own modules.Sieve = row (codes "file") form.FileName None ∷ []
 own modules.Dedup =
     row (codes "cache_max") (form.Number 1 200000) (Some (Whole 100000)) ∷
     row (codes "filter_keys") form.Texts (Some (Lines (codes "raw" ∷ codes "time.observation" ∷ []))) ∷
@@ -161,6 +162,7 @@ module_words =
     (codes "collector.file", modules.Collector) ∷
     (codes "parser.csv", modules.Csv) ∷
     (codes "parser.json", modules.Json) ∷
+    (codes "expert.sieve", modules.Sieve) ∷
     (codes "expert.deduplicator", modules.Dedup) ∷
     (codes "expert.prefix", modules.Prefix) ∷
     (codes "expert.taxonomy", modules.Taxonomy) ∷

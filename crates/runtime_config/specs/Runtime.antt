@@ -1,5 +1,5 @@
 -- The runtime text of a bundle: its bots, and the parameters that are given to them.
-use Rattle.std.specs.Prelude.{ℕ, List, [], ◌∷◌, Bool, true, false, nat_lt, length, codes, is_some, Option, Some, None, option_map, option_and_then, unwrap_or, if◌then◌else◌}
+use Rattle.std.specs.Prelude.{ℕ, List, [], ◌∷◌, ◌||◌, Bool, true, false, nat_lt, length, codes, is_some, Option, Some, None, option_map, option_and_then, unwrap_or, if◌then◌else◌}
 use Rattle.std.specs.FinMap.{empty}
 use Rattle.std.specs.Option.{option_or}
 use Rattle.std.specs.Str.{bytes_eq}
@@ -74,10 +74,21 @@ module_key = codes "module"
 abbrev pub module_of : Entry → Option ModuleWord
 module_of bot = option_and_then module_of_value (get_member module_key bot.1)
 
--- the module is that of collectors, of experts for prefixes, of outputs
+-- the module is that of collectors, of sieves, of experts for prefixes, of outputs
 abbrev pub is_collector : Option ModuleWord → Bool
 is_collector (Some modules.Collector) = true
 is_collector _ = false
+
+abbrev pub is_sieve : Option ModuleWord → Bool
+is_sieve None = false
+is_sieve (Some modules.Collector) = false
+is_sieve (Some modules.Csv) = false
+is_sieve (Some modules.Json) = false
+is_sieve (Some modules.Sieve) = true
+is_sieve (Some modules.Dedup) = false
+is_sieve (Some modules.Prefix) = false
+is_sieve (Some modules.Taxonomy) = false
+is_sieve (Some modules.Output) = false
 
 abbrev pub is_prefix : Option ModuleWord → Bool
 is_prefix (Some modules.Prefix) = true
@@ -86,6 +97,10 @@ is_prefix _ = false
 abbrev pub is_output : Option ModuleWord → Bool
 is_output (Some modules.Output) = true
 is_output _ = false
+
+-- the module reads a file of the bundle
+abbrev pub reads_file : Option ModuleWord → Bool
+reads_file word = is_sieve word || is_prefix word
 
 -- a path, and its queues
 abbrev pub Route : Type 0

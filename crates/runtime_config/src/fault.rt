@@ -2,6 +2,7 @@ ghost use Rattle.std.specs.Prelude.{◌≡◌};
 ghost use Rattle.runtime_config.specs.declared.fault.LoadFault.TheVariants.{OutOfMemory as NoMemory};
 
 use base_types::{BotName, OutOfMemory, Text};
+use sieve_reader::SieveFault;
 use std::alloc::AllocError;
 
 /// What is wrong with a bundle, and with which bot.
@@ -19,6 +20,10 @@ pub enum LoadFault {
     Missing { bot: BotName, name: Text },
     /// The bundle has no file of the name that the bot gives.
     File { bot: BotName },
+    /// The bot's file is no sieve.
+    Sieve { bot: BotName, fault: SieveFault },
+    /// The path whose name stands at this offset of the bot's file, in bytes, is none of the bot's; the first such.
+    Path { bot: BotName, at: u64 },
     /// What the bot sends comes back to it.
     Cycle { bot: BotName },
     /// A number of the bot is above its limit, or a sum over it and the bots before it.

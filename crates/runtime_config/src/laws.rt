@@ -1,11 +1,15 @@
-//! Laws of parameters, of paths and of plans. Each is a clause of a function that does nothing.
-ghost use Rattle.std.specs.Prelude.{◌≡◌, ◌≤◌, ◌↔◌, ℕ, List, Ok, Some, true};
+//! Laws of parameters, of sieves, of paths and of plans. Each is a clause of a function that does nothing.
+ghost use Rattle.std.specs.Prelude.{◌≡◌, ◌≤◌, ◌↔◌, ℕ, List, Ok, Some, true, Result as AnyResult};
 ghost use Rattle.serde_json.specs.Data.{Data};
 ghost use Rattle.config_bundle.specs.declared.bundle.Bundle.{Bundle as AnyBundle};
+ghost use Rattle.sieve_reader.specs.Answer.{IsGivenBy};
+ghost use Rattle.sieve_reader.specs.SieveView.{SieveView};
+ghost use Rattle.sieve_reader.specs.declared.sieve.SieveFault.{SieveFault as AnyFault};
 ghost use Rattle.runtime_config.specs.Load.{load};
 ghost use Rattle.runtime_config.specs.Parameters.{taken_as};
 ghost use Rattle.runtime_config.specs.Reaches.{reaches, Reaches};
 ghost use Rattle.runtime_config.specs.Runtime.{Entry};
+ghost use Rattle.runtime_config.specs.SieveIn.{sieve_in};
 ghost use Rattle.runtime_config.specs.Within.{AreWithin};
 ghost use Rattle.runtime_config.specs.declared.form.Form.TheVariants as form;
 ghost use Rattle.runtime_config.specs.declared.plan.Plan.{Plan as AnyPlan};
@@ -14,6 +18,11 @@ ghost use Rattle.runtime_config.specs.declared.setting.Setting.TheVariants as se
 /// What is taken as a number is one from the least to the most.
 pub fn numbers_are_within()
     ensures { (least most n : ℕ) (d : Data) → taken_as (form.Number least most) d ≡ Some (setting.Whole n) → (least ≤ n) × (n ≤ most) }
+{}
+
+/// What a text gives as a sieve is the sieve that it writes, or the first thing that is wrong with it.
+pub fn sieves_are_given()
+    ensures { (text : List ℕ) (given : AnyResult SieveView AnyFault) → (sieve_in text ≡ given) ↔ IsGivenBy text given }
 {}
 
 /// A bot is reached exactly where the test says so.

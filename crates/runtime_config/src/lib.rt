@@ -19,6 +19,7 @@ mod planning;
 mod rules;
 mod runtime;
 mod setting;
+mod sieve;
 mod table;
 mod taken;
 mod texts;

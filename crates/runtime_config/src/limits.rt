@@ -10,7 +10,7 @@ ghost use Rattle.runtime_config.specs.Table.{row_count};
 use crate::bot::Bot;
 use crate::given::{lines, whole};
 use crate::object::Object;
-use crate::rules::{content, file_of};
+use crate::rules::{content, file_of, table_text};
 use crate::table::row_count;
 use base_types::{OutOfMemory, Text, TextList};
 use config_bundle::Bundle;
@@ -55,14 +55,23 @@ pub(crate) struct Sums {
     bytes: u64,
 }
 
-// The numbers of a file: how many rows and bytes it has.
-fn counts_of(bytes: Option<&[u8]>) -> (u64, u64)
-    ensures rows { result.0 ≡ unwrap_or (option_map (λ b. row_count b.now) bytes.entry) 0 }
-    ensures length { result.1 ≡ length (unwrap_or (option_map (λ b. b.now) bytes.entry) []) }
+// How many rows a table has.
+fn rows_of(table: Option<&[u8]>) -> u64
+    ensures { result ≡ unwrap_or (option_map (λ b. row_count b.now) table.entry) 0 }
 {
-    match bytes {
-        Some(bytes) => (row_count(bytes) as u64, bytes.len() as u64),
-        None => (0, 0),
+    match table {
+        Some(bytes) => row_count(bytes) as u64,
+        None => 0,
+    }
+}
+
+// How many bytes a file has.
+fn length_of(file: Option<&[u8]>) -> u64
+    ensures { result ≡ length (unwrap_or (option_map (λ b. b.now) file.entry) []) }
+{
+    match file {
+        Some(bytes) => bytes.len() as u64,
+        None => 0,
     }
 }
 
@@ -74,12 +83,11 @@ fn numbers_of(
 ) -> Result<Numbers, OutOfMemory>
     ensures { IfOk result (AreNumbers bundle.now (members_of global.now) (entry_of bot.now)) }
 {
-    let (rows, length) = counts_of(content(alloc, bundle, global, bot)?);
     Ok(Numbers {
         instances: whole(alloc, global, bot, "instances_threads")?,
-        rows,
+        rows: rows_of(table_text(alloc, bundle, global, bot)?),
         file: file_of(alloc, global, bot)?,
-        length,
+        length: length_of(content(alloc, bundle, global, bot)?),
     })
 }
 

@@ -7,8 +7,8 @@ ghost use Rattle.std.specs.Cmp.Lexicographic.{slice_cmp};
 ghost use Rattle.serde_json.specs.View.{view};
 ghost use Rattle.event_model.specs.Lenient.{least};
 ghost use Rattle.event_model.specs.Trees.{tree_in};
-ghost use Rattle.runtime_config.specs.Faults.{bad_names, cycle_fault, fault_of, file_fault, first_fault, limit_fault, missing_names, module_fault, queue_fault, table_fault};
-ghost use Rattle.runtime_config.specs.Found.{IsFault, IsFound, IsPlannedAs};
+ghost use Rattle.runtime_config.specs.Faults.{bad_names, bot_sieve, cycle_fault, fault_of, file_fault, first_fault, limit_fault, missing_names, module_fault, numbers_fault, path_fault, queue_fault, sieve_fault, table_fault};
+ghost use Rattle.runtime_config.specs.Found.{IsFault, IsFound, IsPlannedAs, IsSieveOf};
 ghost use Rattle.runtime_config.specs.Load.{load, planned, IsLoaded};
 ghost use Rattle.runtime_config.specs.Read.{entries_of, entry_of, members_of};
 ghost use Rattle.runtime_config.specs.Reaches.{reaches};
@@ -26,12 +26,14 @@ use crate::paths::known_paths;
 use crate::planning::planned;
 use crate::rules::{absent_file, bad_parameter, missing_member, unknown_module};
 use crate::runtime::{bots_in, tree_in};
+use crate::sieve::{bot_sieve, has_many_patterns, with_known_paths};
 use crate::whole::Whole;
 use crate::wires::graph_of;
 use crate::{LoadFault, Plan, Planned, PlannedList};
 use base_types::OutOfMemory;
 use config_bundle::Bundle;
 use serde_json::Value as Tree;
+use sieve_reader::Sieve;
 use std::alloc::Global;
 
 const LONGEST_RUNTIME: usize = 1_048_576;
@@ -96,29 +98,32 @@ fn is_on_cycle(alloc: Global, whole: &Whole, at: usize) -> Result<bool, OutOfMem
 }
 
 // The bot's plan, or a fault of its queues or its table.
-fn routed(alloc: Global, whole: &Whole, bot: &Bot) -> Result<Planned, LoadFault>
-    requires { IsWhole whole.now }
+fn routed(alloc: Global, whole: &Whole, bot: &Bot, sieve: Sieve) -> Result<Planned, LoadFault>
+    requires whole { IsWhole whole.now }
+    requires sieve { sieve ≡ bot_sieve whole.now.bundle.now (members_of whole.now.global.now) (entry_of bot.now) }
     ensures { IsPlannedAs (option_or (queue_fault (entries_of whole.now.bots.now) (entry_of bot.now)) (table_fault whole.now.bundle.now (members_of whole.now.global.now) (entry_of bot.now)))
         (planned whole.now.bundle.now (members_of whole.now.global.now) (entry_of bot.now)) result }
 {
     match known_paths(alloc, whole.bots, bot)? {
-        Some(paths) => planned(alloc, whole.bundle, whole.global, bot, paths),
+        Some(paths) => planned(alloc, whole.bundle, whole.global, bot, paths, sieve),
         None => Err(LoadFault::Queue { bot: bot.name() }),
     }
 }
 
-// The same, or that a limit is passed before.
-fn limited(
+// The same, or that one of its numbers, or of those together, is above its limit before.
+fn counted(
     alloc: Global,
     whole: &Whole,
     before: &[Bot],
     bot: &Bot,
+    sieve: Sieve,
     sums: &mut Sums,
 ) -> Result<Planned, LoadFault>
     requires whole { IsWhole whole.now }
+    requires sieve { sieve ≡ bot_sieve whole.now.bundle.now (members_of whole.now.global.now) (entry_of bot.now) }
     requires sums { AreSums whole.now.bundle.now (members_of whole.now.global.now) (entries_of before.now) sums.old }
     requires small { AreSmall sums.old }
-    ensures found { IsPlannedAs (option_or (limit_fault whole.now.bundle.now (members_of whole.now.global.now) (entries_of before.now) (entry_of bot.now))
+    ensures found { IsPlannedAs (option_or (numbers_fault whole.now.bundle.now (members_of whole.now.global.now) (entries_of before.now) (entry_of bot.now))
         (option_or (queue_fault (entries_of whole.now.bots.now) (entry_of bot.now)) (table_fault whole.now.bundle.now (members_of whole.now.global.now) (entry_of bot.now))))
         (planned whole.now.bundle.now (members_of whole.now.global.now) (entry_of bot.now)) result }
     ensures sums { OnOk result (AreSums whole.now.bundle.now (members_of whole.now.global.now) (entries_of before.now ++ entry_of bot.now ∷ []) sums.new) }
@@ -127,7 +132,32 @@ fn limited(
     if is_past_limit(alloc, whole.bundle, whole.global, before, bot, sums)? {
         return Err(LoadFault::Limit { bot: bot.name() });
     }
-    routed(alloc, whole, bot)
+    routed(alloc, whole, bot, sieve)
+}
+
+// The same, or that a limit is passed before.
+fn limited(
+    alloc: Global,
+    whole: &Whole,
+    before: &[Bot],
+    bot: &Bot,
+    sieve: Sieve,
+    sums: &mut Sums,
+) -> Result<Planned, LoadFault>
+    requires whole { IsWhole whole.now }
+    requires sieve { sieve ≡ bot_sieve whole.now.bundle.now (members_of whole.now.global.now) (entry_of bot.now) }
+    requires sums { AreSums whole.now.bundle.now (members_of whole.now.global.now) (entries_of before.now) sums.old }
+    requires small { AreSmall sums.old }
+    ensures found { IsPlannedAs (option_or (limit_fault whole.now.bundle.now (members_of whole.now.global.now) (entries_of before.now) (entry_of bot.now))
+        (option_or (queue_fault (entries_of whole.now.bots.now) (entry_of bot.now)) (table_fault whole.now.bundle.now (members_of whole.now.global.now) (entry_of bot.now))))
+        (planned whole.now.bundle.now (members_of whole.now.global.now) (entry_of bot.now)) result }
+    ensures sums { OnOk result (AreSums whole.now.bundle.now (members_of whole.now.global.now) (entries_of before.now ++ entry_of bot.now ∷ []) sums.new) }
+    ensures small { OnOk result (AreSmall sums.new) }
+{
+    if has_many_patterns(&sieve) {
+        return Err(LoadFault::Limit { bot: bot.name() });
+    }
+    counted(alloc, whole, before, bot, sieve, sums)
 }
 
 // The same, or that the bot is on a cycle before.
@@ -136,9 +166,11 @@ fn ordered(
     whole: &Whole,
     before: &[Bot],
     bot: &Bot,
+    sieve: Sieve,
     sums: &mut Sums,
 ) -> Result<Planned, LoadFault>
     requires whole { IsWhole whole.now }
+    requires sieve { sieve ≡ bot_sieve whole.now.bundle.now (members_of whole.now.global.now) (entry_of bot.now) }
     requires place { slice_get (entries_of whole.now.bots.now) (length before.now) ≡ Some (entry_of bot.now) }
     requires sums { AreSums whole.now.bundle.now (members_of whole.now.global.now) (entries_of before.now) sums.old }
     requires small { AreSmall sums.old }
@@ -152,7 +184,42 @@ fn ordered(
     if is_on_cycle(alloc, whole, before.len())? {
         return Err(LoadFault::Cycle { bot: bot.name() });
     }
-    limited(alloc, whole, before, bot, sums)
+    limited(alloc, whole, before, bot, sieve, sums)
+}
+
+// The bot's sieve, or what is wrong with it or with its paths.
+fn sieve_for(alloc: Global, whole: &Whole, bot: &Bot) -> Result<Sieve, LoadFault>
+    ensures { IsSieveOf (option_or (sieve_fault whole.now.bundle.now (members_of whole.now.global.now) (entry_of bot.now)) (path_fault whole.now.bundle.now (members_of whole.now.global.now) (entry_of bot.now))) (bot_sieve whole.now.bundle.now (members_of whole.now.global.now) (entry_of bot.now)) result }
+{
+    match bot_sieve(alloc, whole.bundle, whole.global, bot) {
+        Ok(sieve) => with_known_paths(bot, sieve),
+        Err(fault) => Err(fault),
+    }
+}
+
+// The bot's plan, or a fault of its sieve, or one of those behind.
+fn sieved(
+    alloc: Global,
+    whole: &Whole,
+    before: &[Bot],
+    bot: &Bot,
+    sums: &mut Sums,
+) -> Result<Planned, LoadFault>
+    requires whole { IsWhole whole.now }
+    requires place { slice_get (entries_of whole.now.bots.now) (length before.now) ≡ Some (entry_of bot.now) }
+    requires sums { AreSums whole.now.bundle.now (members_of whole.now.global.now) (entries_of before.now) sums.old }
+    requires small { AreSmall sums.old }
+    ensures found { IsPlannedAs (option_or (option_or (sieve_fault whole.now.bundle.now (members_of whole.now.global.now) (entry_of bot.now)) (path_fault whole.now.bundle.now (members_of whole.now.global.now) (entry_of bot.now))) (option_or (cycle_fault (entries_of whole.now.bots.now) (entry_of bot.now))
+        (option_or (limit_fault whole.now.bundle.now (members_of whole.now.global.now) (entries_of before.now) (entry_of bot.now))
+        (option_or (queue_fault (entries_of whole.now.bots.now) (entry_of bot.now)) (table_fault whole.now.bundle.now (members_of whole.now.global.now) (entry_of bot.now))))))
+        (planned whole.now.bundle.now (members_of whole.now.global.now) (entry_of bot.now)) result }
+    ensures sums { OnOk result (AreSums whole.now.bundle.now (members_of whole.now.global.now) (entries_of before.now ++ entry_of bot.now ∷ []) sums.new) }
+    ensures small { OnOk result (AreSmall sums.new) }
+{
+    match sieve_for(alloc, whole, bot) {
+        Ok(sieve) => ordered(alloc, whole, before, bot, sieve, sums),
+        Err(fault) => Err(fault),
+    }
 }
 
 // The plan of a bot behind these, or its first fault. The sums become those with this bot.
@@ -173,7 +240,7 @@ fn load_bot(
     ensures small { OnOk result (AreSmall sums.new) }
 {
     match settings_fault(alloc, whole.bundle, whole.global, bot) {
-        Ok(()) => ordered(alloc, whole, before, bot, sums),
+        Ok(()) => sieved(alloc, whole, before, bot, sums),
         Err(fault) => Err(fault),
     }
 }

@@ -14,6 +14,8 @@ pub enum ModuleWord {
     Csv,
     /// `parser.json`.
     Json,
+    /// `expert.sieve`.
+    Sieve,
     /// `expert.deduplicator`.
     Dedup,
     /// `expert.prefix`.
@@ -34,6 +36,8 @@ fn named(word: &str) -> Option<ModuleWord>
         Some(ModuleWord::Csv)
     } else if word == "parser.json" {
         Some(ModuleWord::Json)
+    } else if word == "expert.sieve" {
+        Some(ModuleWord::Sieve)
     } else if word == "expert.deduplicator" {
         Some(ModuleWord::Dedup)
     } else if word == "expert.prefix" {

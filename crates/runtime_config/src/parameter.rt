@@ -148,6 +148,8 @@ static JSON: [Parameter; 2] = [
     },
 ];
 
+static SIEVE: [Parameter; 1] = [FILE];
+
 static DEDUP: [Parameter; 4] = [
     Parameter {
         name: "cache_max",
@@ -207,6 +209,7 @@ pub fn own_parameters(word: ModuleWord) -> &'static [Parameter]
         ModuleWord::Collector => &COLLECTOR,
         ModuleWord::Csv => &CSV,
         ModuleWord::Json => &JSON,
+        ModuleWord::Sieve => &SIEVE,
         ModuleWord::Dedup => &DEDUP,
         ModuleWord::Prefix => &PREFIX,
         ModuleWord::Taxonomy | ModuleWord::Output => &NONE,

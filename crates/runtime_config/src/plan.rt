@@ -1,6 +1,7 @@
 use base_types::{BotName, ListOf, QueueList, Text, TextList};
 use event_model::Fields;
 use scalar_net::Network;
+use sieve_reader::Sieve;
 
 pub type NamesList = ListOf<TextList>;
 
@@ -47,6 +48,8 @@ pub enum Module {
         /// The fields of an event that lacks them.
         defaults: Fields,
     },
+    /// What it does with events. Each of its paths is one of the bot's.
+    Sieve(Sieve),
     Dedup {
         /// The names of the fields that count, or of those that don't.
         keys: TextList,

@@ -3,7 +3,7 @@ ghost use Rattle.std.specs.Prelude.{◌≡◌, ◌<◌, ◌^◌, ◌==◌, map, 
 ghost use Rattle.std.specs.List.{slice_split};
 ghost use Rattle.std.specs.Str.{bytes_eq};
 ghost use Rattle.config_bundle.specs.declared.bundle.Bundle.{Bundle as AnyBundle};
-ghost use Rattle.runtime_config.specs.Faults.{content, instances, table_fault};
+ghost use Rattle.runtime_config.specs.Faults.{bot_sieve, instances, table_fault, table_text};
 ghost use Rattle.runtime_config.specs.Found.{IsFault, IsPlannedAs};
 ghost use Rattle.runtime_config.specs.Load.{is_allowing, module_as, names_of, planned, route_of, table_of};
 ghost use Rattle.runtime_config.specs.Read.{entry_of, members_of};
@@ -13,12 +13,13 @@ ghost use Rattle.runtime_config.specs.declared.module.ModuleWord.TheVariants as 
 use crate::bot::Bot;
 use crate::given::{defaults, line, line_given, lines, switch, whole};
 use crate::object::Object;
-use crate::rules::content;
+use crate::rules::table_text;
 use crate::table::{Table, TableFault, table_in};
 use crate::texts::copies_of;
 use crate::{LoadFault, Module, ModuleWord, NamesList, Planned, RouteList};
 use base_types::{OutOfMemory, Text, TextList};
 use config_bundle::Bundle;
+use sieve_reader::Sieve;
 use std::alloc::{AllocError, Global};
 
 fn small(n: u64) -> u32
@@ -138,10 +139,10 @@ fn dedup(alloc: Global, global: &Object, bot: &Bot) -> Result<Module, OutOfMemor
 // The table that is the bot's file.
 fn table_of(alloc: Global, bundle: &Bundle, global: &Object, bot: &Bot) -> Result<Table, LoadFault>
     ensures { MatchResult result (λ table. (table_fault bundle.now (members_of global.now) (entry_of bot.now) ≡ None)
-        × (table ≡ table_of (content bundle.now (members_of global.now) (entry_of bot.now))))
+        × (table ≡ table_of (table_text bundle.now (members_of global.now) (entry_of bot.now))))
         (IsFault (table_fault bundle.now (members_of global.now) (entry_of bot.now))) }
 {
-    let Some(bytes) = content(alloc, bundle, global, bot)? else {
+    let Some(bytes) = table_text(alloc, bundle, global, bot)? else {
         return Ok(Table::new(alloc));
     };
     match table_in(alloc, bytes) {
@@ -173,7 +174,9 @@ fn module_of(
     bundle: &Bundle,
     global: &Object,
     bot: &Bot,
+    sieve: Sieve,
 ) -> Result<Module, LoadFault>
+    requires { sieve ≡ bot_sieve bundle.now (members_of global.now) (entry_of bot.now) }
     ensures { MatchResult result (λ m. (table_fault bundle.now (members_of global.now) (entry_of bot.now) ≡ None)
         × (m ≡ module_as bundle.now (members_of global.now) (entry_of bot.now) (module_of (entry_of bot.now))))
         (IsFault (table_fault bundle.now (members_of global.now) (entry_of bot.now))) }
@@ -182,6 +185,7 @@ fn module_of(
         Some(ModuleWord::Collector) => Ok(collector(alloc, global, bot)?),
         Some(ModuleWord::Csv) => Ok(csv(alloc, global, bot)?),
         Some(ModuleWord::Json) => Ok(json(alloc, global, bot)?),
+        Some(ModuleWord::Sieve) => Ok(Module::Sieve(sieve)),
         Some(ModuleWord::Dedup) => Ok(dedup(alloc, global, bot)?),
         Some(ModuleWord::Prefix) => prefix(alloc, bundle, global, bot),
         Some(ModuleWord::Taxonomy) => Ok(Module::Taxonomy),
@@ -212,7 +216,7 @@ fn stops(alloc: Global, global: &Object, bot: &Bot) -> Result<bool, OutOfMemory>
     Ok(procedure.as_str() == "stop")
 }
 
-/// A bot with its checked parameters and these paths.
+/// A bot with its checked parameters, these paths and this sieve.
 #[tactic(auto, unfolding(crate::specs::Load::planned))]
 pub(crate) fn planned(
     alloc: Global,
@@ -220,11 +224,13 @@ pub(crate) fn planned(
     global: &Object,
     bot: &Bot,
     paths: RouteList,
+    sieve: Sieve,
 ) -> Result<Planned, LoadFault>
-    requires { paths ≡ map route_of (routes (entry_of bot.now)) }
+    requires paths { paths ≡ map route_of (routes (entry_of bot.now)) }
+    requires sieve { sieve ≡ bot_sieve bundle.now (members_of global.now) (entry_of bot.now) }
     ensures { IsPlannedAs (table_fault bundle.now (members_of global.now) (entry_of bot.now)) (planned bundle.now (members_of global.now) (entry_of bot.now)) result }
 {
-    let module = module_of(alloc, bundle, global, bot)?;
+    let module = module_of(alloc, bundle, global, bot, sieve)?;
     Ok(Planned {
         bot: bot.name(),
         module,

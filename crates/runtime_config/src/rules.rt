@@ -3,11 +3,11 @@ ghost use Rattle.std.specs.Prelude.{◌≡◌, ◌++◌, map, filter, option_map
 ghost use Rattle.serde_json.specs.Find.{get_member};
 ghost use Rattle.serde_json.specs.View.{view};
 ghost use Rattle.event_model.specs.Lenient.{least, lesser};
-ghost use Rattle.runtime_config.specs.Faults.{bad_members, bad_names, content, content_of, default_path, enabled_key, file_fault, file_of, has_path, is_bad, is_given_badly, is_missing, is_true, missing_members, missing_names, module_fault, name_when, parameters_key};
+ghost use Rattle.runtime_config.specs.Faults.{bad_members, bad_names, content, content_of, default_path, enabled_key, file_fault, file_of, has_path, is_bad, is_given_badly, is_missing, is_true, missing_members, missing_names, module_fault, name_when, parameters_key, sieve_text, table_text};
 ghost use Rattle.runtime_config.specs.Found.{IsFound};
 ghost use Rattle.runtime_config.specs.Read.{entry_of, members_of};
 ghost use Rattle.runtime_config.specs.Rows.{parameter_of};
-ghost use Rattle.runtime_config.specs.Runtime.{is_output, is_prefix, object_of};
+ghost use Rattle.runtime_config.specs.Runtime.{is_output, is_prefix, is_sieve, object_of, reads_file};
 ghost use Rattle.runtime_config.specs.declared.fault.LoadFault.TheVariants as fault;
 
 use crate::bot::Bot;
@@ -32,13 +32,29 @@ pub(crate) fn is_output(word: Option<ModuleWord>) -> bool
     }
 }
 
-pub(crate) fn is_prefix(word: Option<ModuleWord>) -> bool
+fn is_prefix(word: Option<ModuleWord>) -> bool
     ensures { result ≡ is_prefix word }
 {
     match word {
         Some(ModuleWord::Prefix) => true,
         _ => false,
     }
+}
+
+fn is_sieve(word: Option<ModuleWord>) -> bool
+    ensures { result ≡ is_sieve word }
+{
+    match word {
+        Some(ModuleWord::Sieve) => true,
+        _ => false,
+    }
+}
+
+// Whether the module reads a file of the bundle.
+fn reads_file(word: Option<ModuleWord>) -> bool
+    ensures { result ≡ reads_file word }
+{
+    is_sieve(word) || is_prefix(word)
 }
 
 /// A module that is none.
@@ -262,7 +278,7 @@ pub(crate) fn file_of(
 ) -> Result<Option<Text>, OutOfMemory>
     ensures { IfOk result (λ name. name ≡ file_of (members_of global.now) (entry_of bot.now)) }
 {
-    if is_prefix(bot.module()) {
+    if reads_file(bot.module()) {
         line_given(alloc, global, bot, "file")
     } else {
         Ok(None)
@@ -293,6 +309,38 @@ pub(crate) fn content<'b>(
     match file_of(alloc, global, bot)? {
         Some(name) => Ok(content_of(bundle.files.as_slice(), &name)),
         None => Ok(None),
+    }
+}
+
+/// These bytes, where they are a sieve's.
+pub(crate) fn sieve_text<'b>(
+    alloc: Global,
+    bundle: &'b Bundle,
+    global: &Object,
+    bot: &Bot,
+) -> Result<Option<&'b [u8]>, OutOfMemory>
+    ensures { IfOk result (λ bytes. option_map (λ b. b.now) bytes ≡ sieve_text bundle.now (members_of global.now) (entry_of bot.now)) }
+{
+    if is_sieve(bot.module()) {
+        content(alloc, bundle, global, bot)
+    } else {
+        Ok(None)
+    }
+}
+
+/// These bytes, where they are a table's.
+pub(crate) fn table_text<'b>(
+    alloc: Global,
+    bundle: &'b Bundle,
+    global: &Object,
+    bot: &Bot,
+) -> Result<Option<&'b [u8]>, OutOfMemory>
+    ensures { IfOk result (λ bytes. option_map (λ b. b.now) bytes ≡ table_text bundle.now (members_of global.now) (entry_of bot.now)) }
+{
+    if is_prefix(bot.module()) {
+        content(alloc, bundle, global, bot)
+    } else {
+        Ok(None)
     }
 }
 

@@ -25,6 +25,7 @@ mod RightTokens
 mod Rows
 mod Tests
 mod TestsRead
+pub mod TextGives
 mod Turns
 pub mod Weights
 mod Wider

@@ -1,4 +1,5 @@
 -- what public contracts cite
+pub mod Answer
 pub mod Fixed
 pub mod Grammar
 pub mod Laws

@@ -1,3 +1,4 @@
+ghost use Rattle.sieve_reader.specs.Answer.{TextGivesOne};
 ghost use Rattle.sieve_reader.specs.Laws.{OneRefusal, OneSieve, SieveExcludesRefusal, SieveOrRefusal};
 
 /// A text writes one sieve at most.
@@ -18,4 +19,9 @@ pub fn sieve_excludes_refusal()
 /// A text with tokens writes a sieve, or it is refused.
 pub fn sieve_or_refusal()
     ensures { SieveOrRefusal }
+{}
+
+/// Each text writes a sieve or has something wrong with it first, and one of both alone.
+pub fn text_gives_one()
+    ensures { TextGivesOne }
 {}

@@ -19,7 +19,9 @@ mod test;
 mod tree;
 
 pub use boxed::Boxed;
-pub use laws::{refusal_is_one, sieve_excludes_refusal, sieve_or_refusal, text_writes_one_sieve};
+pub use laws::{
+    refusal_is_one, sieve_excludes_refusal, sieve_or_refusal, text_gives_one, text_writes_one_sieve,
+};
 pub use sieve::{PathList, Sieve, SieveFault, read_sieve};
 pub use tree::{
     Amount, Case, CaseList, Cond, CondList, How, PutSource, SieveItem, SieveItemList, Test,

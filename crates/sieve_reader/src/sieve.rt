@@ -1,4 +1,4 @@
-ghost use Rattle.std.specs.Prelude.{◌≡◌, ◌<◌, ◌≤◌, ◌-◌, ◌^◌, drop, length, List, IfOk, IfErr};
+ghost use Rattle.std.specs.Prelude.{◌≡◌, ◌<◌, ◌≤◌, ◌-◌, ◌^◌, [], drop, length, List, IfOk, IfErr};
 ghost use Rattle.sieve_tokens.specs.Token.{AreTokens};
 ghost use Rattle.sieve_reader.specs.Fixed.{all_fixed, AreCanonical};
 ghost use Rattle.sieve_reader.specs.Leaf.{judged};
@@ -28,7 +28,7 @@ pub type PathList<'s> = &'s [(Text, u32)];
 pub type PathSpots = ListOf<(Text, u32)>;
 
 /// A sieve: its items, the texts of its patterns in the order in which they are written, and its paths.
-#[derive(Drop)]
+#[derive(Debug, Drop)]
 pub struct Sieve {
     items: SieveItemList,
     patterns: TextList,
@@ -77,6 +77,17 @@ impl From<OutOfMemory> for SieveFault {
 }
 
 impl Sieve {
+    /// The sieve of an empty text.
+    pub fn new(alloc: Global) -> Sieve
+        ensures { result ≡ record { items = []; patterns = []; paths = [] } }
+    {
+        Sieve {
+            items: SieveItemList::new(alloc),
+            patterns: TextList::new(alloc),
+            paths: PathSpots::new(alloc),
+        }
+    }
+
     /// Its items, in the order in which they are written. Each value that they set as it stands is canonical for its field.
     pub fn items(&self) -> &SieveItemList
         ensures items { result.now ≡ self.now.items }

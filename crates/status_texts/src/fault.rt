@@ -16,6 +16,8 @@ pub(crate) fn fault_number(fault: &LoadFault) -> u8
         LoadFault::Parameter { .. } => 3,
         LoadFault::Missing { .. } => 4,
         LoadFault::File { .. } => 5,
+        LoadFault::Sieve { .. } => 6,
+        LoadFault::Path { .. } => 7,
         LoadFault::Cycle { .. } => 8,
         LoadFault::Limit { .. } => 9,
         LoadFault::Queue { .. } => 10,
@@ -33,6 +35,8 @@ pub(crate) fn fault_bot(fault: &LoadFault) -> Option<&BotName>
         | LoadFault::Parameter { bot, .. }
         | LoadFault::Missing { bot, .. }
         | LoadFault::File { bot }
+        | LoadFault::Sieve { bot, .. }
+        | LoadFault::Path { bot, .. }
         | LoadFault::Cycle { bot }
         | LoadFault::Limit { bot }
         | LoadFault::Queue { bot }

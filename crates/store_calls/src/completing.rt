@@ -1,7 +1,11 @@
-ghost use Rattle.std.specs.Prelude.{◌≡◌, ◌≢◌, ◌≤◌, [], false, length, None, Some, Err, IfErr, IsErrOf, OnOk};
+ghost use Rattle.std.specs.Prelude.{◌≡◌, ◌≢◌, ◌≤◌, List, [], false, length, None, Some, Err, IfErr, IsErrOf, OnOk};
 ghost use Rattle.edge_traits.specs.Count.{Rose};
 ghost use Rattle.edge_traits.specs.Disk.{Image};
-ghost use Rattle.journal_book.specs.Outputs.{AreCompleted, IsBringUpFault};
+ghost use Rattle.step_code.specs.declared.base.Base.{Base};
+ghost use Rattle.step_code.specs.declared.step.Step.{Step};
+ghost use Rattle.journal_book.specs.Book.{IsKept};
+ghost use Rattle.journal_book.specs.Opening.{StandsNow};
+ghost use Rattle.journal_book.specs.Outputs.{AreCompleted, AreWritten, HaveNoneSealed, IsBringUpFault, IsNoDamage};
 ghost use Rattle.book_runs.specs.GoesOn.{GoesOn};
 
 use edge_traits::Disk;
@@ -20,6 +24,9 @@ pub fn complete_outputs<D: Disk, R: Rules>(book: &mut Book<D, R>) -> Result<(), 
     ensures durable { (result ≢ Err BookFault.Disk) → book.new.kept ≡ length book.new.steps }
     ensures completed { (files after : Image) → (D.disk book.old.disk).told ≡ Some files → (D.disk book.new.disk).told ≡ Some after
         → OnOk result (AreCompleted (D.may_leave book.new.disk) book.old.state.outs files after) }
+    ensures written { (first : Base) (history : List Step) → StandsNow D.disk D.may_leave R.meaning first history [] book.new.disk → HaveNoneSealed first.outs
+        → OnOk result (AreWritten D.disk D.may_leave R.meaning first history book.new.disk) }
+    ensures sound { (first : Base) (past : List Step) → IsKept D.disk D.may_leave R.meaning first past book.old → IfErr result IsNoDamage }
     ensures fault { IfErr result (IsBringUpFault book.old.state.outs (D.disk book.old.disk).told) }
     ensures failed { IsErrOf result BookFault.Disk → Rose (D.disk book.old.disk).faults (D.disk book.new.disk).faults }
     ensures untold { (D.disk book.old.disk).told ≡ None → (D.disk book.new.disk).told ≡ None }

@@ -1,5 +1,5 @@
 -- A store that was made, or why none was.
-use Rattle.std.proofs.Common.{◌≡◌, ◌<◌, ◌≤◌, [], ◌++◌, ℕ, List, length, Option, Some, refl, sym, ap, subst, ◌∙◌, arith}
+use Rattle.std.proofs.Common.{◌≡◌, ◌≢◌, ◌<◌, ◌≤◌, [], ◌++◌, ℕ, List, length, Option, Some, refl, sym, ap, subst, ◌∙◌, arith}
 use Rattle.edge_traits.specs.Disk.{DiskView, Image}
 use Rattle.edge_traits.specs.Sink.{SinkView}
 use Rattle.edge_traits.proofs.Outputs.{Took-nothing}
@@ -17,7 +17,7 @@ use Rattle.journal_book.specs.Opening.{StandsNow}
 use Rattle.journal_book.specs.declared.book_fault.BookFault.{BookFault}
 use Rattle.journal_book.specs.declared.book_fault.BookFault.TheVariants as fault
 use Rattle.store_calls.proofs.Called.{stands_read}
-use Rattle.store_commands.specs.Begun.{HasNoStore, IsFirstOf, IsMade}
+use Rattle.store_commands.specs.Begun.{HasNoStore, IsBegun, IsFirstOf, IsMade, IsNewStore}
 use Rattle.store_commands.specs.Ends.{end_of, IsPrinted}
 use Rattle.store_commands.specs.declared.end.StoreEnd.{StoreEnd}
 use Rattle.store_commands.specs.declared.end.StoreEnd.TheVariants as end
@@ -38,12 +38,11 @@ made_whole m files bundle s (end.Full bytes) old new is empty printed = absurd p
 abbrev pub FirstsAreSound : Meaning → Type 0
 FirstsAreSound m = (bots : List Facts) (bundle : List ℕ) → m.facts bundle ≡ Some bots → IsSoundState m (first bots bundle)
 
-pub not_made : (m : Meaning) (files : Image) (bundle : List ℕ) (told : Option Image) (f : BookFault) (sink : SinkView) → told ≡ Some files → FirstsAreSound m → (f ≡ fault.Refused → files root_file ≡ []) → IsCreateFault m bundle told f
-    → IsMade m files bundle (end_of f) sink sink
-not_made m files bundle told fault.Disk sink is sound empty bad = Took-nothing sink
-not_made m files bundle told (fault.Damaged file at) sink is sound empty bad = absurd bad
-not_made m files bundle told (fault.Store have) sink is sound empty bad = ((bad files is).0, (bad files is).1, Took-nothing sink)
-not_made m files bundle told fault.Refused sink is sound empty bad = (empty refl, too_long, Took-nothing sink)
+pub not_new : (m : Meaning) (files : Image) (bundle : List ℕ) (told : Option Image) (f : BookFault) → told ≡ Some files → FirstsAreSound m → (f ≡ fault.Refused → files root_file ≡ []) → IsCreateFault m bundle told f → IsNewStore m files bundle (end_of f)
+not_new m files bundle told fault.Disk is sound empty bad = tt
+not_new m files bundle told (fault.Damaged file at) is sound empty bad = absurd bad
+not_new m files bundle told (fault.Store have) is sound empty bad = bad files is
+not_new m files bundle told fault.Refused is sound empty bad = (empty refl, too_long)
   where
     above : (n : ℕ) → (n ≤ longest_base → ⊥) → longest_base < n
     above n not_short = omega (arith, not_short)
@@ -51,7 +50,23 @@ not_made m files bundle told fault.Refused sink is sound empty bad = (empty refl
     too_long : HasNoStore m bundle
     too_long s loads = subst (λ (b : Base). longest_base < length (code_of_base first_format b)) (sym loads.state)
         (above (length (code_of_base first_format (first loads.bots bundle))) (λ short. bad loads.bots loads.loads (record { state = sound loads.bots bundle loads.loads; short = short })))
-not_made m files bundle told fault.OutOfMemory sink is sound empty bad = Took-nothing sink
+not_new m files bundle told fault.OutOfMemory is sound empty bad = tt
+
+-- it isn't the output that failed
+pub never_sink : (f : BookFault) (e : StoreEnd) → e ≡ end_of f → e ≢ end.Sink
+never_sink fault.Disk e is = λ same. cc (is, same)
+never_sink (fault.Damaged file at) e is = λ same. cc (is, same)
+never_sink (fault.Store have) e is = λ same. cc (is, same)
+never_sink fault.Refused e is = λ same. cc (is, same)
+never_sink fault.OutOfMemory e is = λ same. cc (is, same)
+
+-- and nothing was printed
+pub not_made : (m : Meaning) (files : Image) (bundle : List ℕ) (f : BookFault) (sink : SinkView) → IsNewStore m files bundle (end_of f) → IsMade m files bundle (end_of f) sink sink
+not_made m files bundle fault.Disk sink none = Took-nothing sink
+not_made m files bundle (fault.Damaged file at) sink none = none
+not_made m files bundle (fault.Store have) sink none = (none.0, none.1, Took-nothing sink)
+not_made m files bundle fault.Refused sink none = (none.0, none.1, Took-nothing sink)
+not_made m files bundle fault.OutOfMemory sink none = Took-nothing sink
 
 -- the book of a new store stands for no steps
 pub stands_new : {D R : Type 0} {disk : D → DiskView} {may_leave : D → ℕ → List ℕ → Type 0} {m : Meaning} (rules : R) (base : Base) (limit : ℕ) (book : BookView D R) → book ≡ created rules base limit book.disk
@@ -59,3 +74,14 @@ pub stands_new : {D R : Type 0} {disk : D → DiskView} {may_leave : D → ℕ �
 stands_new {D = D} {R = R} rules base limit book is kept =
     let none = ap (λ (b : BookView D R). b.steps) is in
     stands_read base [] [] book (ap (λ (b : BookView D R). b.kept) is ∙ sym (ap length none)) (record { past = []; count = 0; within = omega arith; splits = none; kept = kept })
+
+-- it begins with the state that the bundle gives
+pub begun_by : {D R : Type 0} {disk : D → DiskView} {may_leave : D → ℕ → List ℕ → Type 0} {m : Meaning} (bundle : List ℕ) (bots : List Facts) (rules : R) (limit : ℕ) (book : BookView D R) → m.facts bundle ≡ Some bots
+    → book ≡ created rules (first bots bundle) limit book.disk → IsKept disk may_leave m book.base [] book → IsBegun disk may_leave m bundle book.disk
+begun_by {D} {R} bundle bots rules limit book loads is kept =
+    let base_is : book.base ≡ first bots bundle = ap (λ (b : BookView D R). b.base) is in
+    record {
+      state = book.base;
+      first_is = record { bots = bots; loads = loads; state = base_is };
+      stands = stands_new rules book.base limit book (is ∙ ap (λ (s : Base). created rules s limit book.disk) (sym base_is)) kept;
+    }

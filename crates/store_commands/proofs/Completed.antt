@@ -1,5 +1,5 @@
 -- What is printed of a store whose outputs are completed, or what it is refused for.
-use Rattle.std.proofs.Common.{◌≡◌, Bool, List, Option, Some}
+use Rattle.std.proofs.Common.{◌≡◌, ◌≢◌, Bool, List, Option, Some, sym, subst}
 use Rattle.edge_traits.specs.Disk.{Image}
 use Rattle.edge_traits.specs.Sink.{SinkView}
 use Rattle.edge_traits.proofs.Outputs.{Took-nothing}
@@ -10,7 +10,7 @@ use Rattle.journal_book.specs.Outputs.{IsBringUpFault}
 use Rattle.journal_book.specs.declared.book_fault.BookFault.{BookFault}
 use Rattle.journal_book.specs.declared.book_fault.BookFault.TheVariants as fault
 use Rattle.store_commands.specs.Completed.{said, IsCompleted}
-use Rattle.store_commands.specs.Ends.{end_of, IsOpenIn, IsPrinted}
+use Rattle.store_commands.specs.Ends.{end_of, AreWrittenAt, IsOpenIn, IsPrinted}
 use Rattle.store_commands.specs.declared.end.StoreEnd.{StoreEnd}
 use Rattle.store_commands.specs.declared.end.StoreEnd.TheVariants as end
 use Rattle.store_commands.proofs.RedoEnds.{not_short}
@@ -41,3 +41,41 @@ completed_closed m files is_said told (fault.Damaged file at) sink is bad = ((ba
 completed_closed m files is_said told (fault.Store have) sink is bad = (bad.0, bad.1 files is, Took-nothing sink)
 completed_closed m files is_said told fault.Refused sink is bad = absurd bad
 completed_closed m files is_said told fault.OutOfMemory sink is bad = Took-nothing sink
+
+-- ---- outputs that are written
+
+pub written_at : (e : StoreEnd) (written : Type 0) → written → AreWrittenAt e written
+written_at end.Done written is = is
+written_at end.Sink written is = is
+written_at end.Memory written is = tt
+written_at end.Disk written is = tt
+written_at (end.Store have) written is = tt
+written_at (end.Damaged file at) written is = tt
+written_at end.Refused written is = tt
+written_at (end.NoDump n) written is = is
+written_at (end.Spent next) written is = is
+written_at (end.Full bytes) written is = is
+
+-- nothing is said where they can't be completed
+unwritten_at : (f : BookFault) (written : Type 0) → AreWrittenAt (end_of f) written
+unwritten_at fault.Disk written = tt
+unwritten_at (fault.Damaged file at) written = tt
+unwritten_at (fault.Store have) written = tt
+unwritten_at fault.Refused written = tt
+unwritten_at fault.OutOfMemory written = tt
+
+pub unwritten_end : (f : BookFault) (e : StoreEnd) (written : Type 0) → e ≡ end_of f → AreWrittenAt e written
+unwritten_end f e written is = subst (λ (x : StoreEnd). AreWrittenAt x written) (sym is) (unwritten_at f written)
+
+-- what is printed behind changes nothing of them
+pub written_behind : (e told : StoreEnd) (written : Type 0) → (e ≢ end.Done → told ≡ e) → AreWrittenAt e written → AreWrittenAt told written
+written_behind end.Done told written kept is = written_at told written is
+written_behind end.Sink told written kept is = written_at told written is
+written_behind end.Memory told written kept is = subst (λ (x : StoreEnd). AreWrittenAt x written) (sym (kept (λ same. absurd (cc)))) tt
+written_behind end.Disk told written kept is = subst (λ (x : StoreEnd). AreWrittenAt x written) (sym (kept (λ same. absurd (cc)))) tt
+written_behind (end.Store have) told written kept is = subst (λ (x : StoreEnd). AreWrittenAt x written) (sym (kept (λ same. absurd (cc)))) tt
+written_behind (end.Damaged file at) told written kept is = subst (λ (x : StoreEnd). AreWrittenAt x written) (sym (kept (λ same. absurd (cc)))) tt
+written_behind end.Refused told written kept is = subst (λ (x : StoreEnd). AreWrittenAt x written) (sym (kept (λ same. absurd (cc)))) tt
+written_behind (end.NoDump n) told written kept is = written_at told written is
+written_behind (end.Spent next) told written kept is = written_at told written is
+written_behind (end.Full bytes) told written kept is = written_at told written is

@@ -25,6 +25,20 @@ pub record IsFirstOf (m : Meaning) (bundle : List ℕ) (s : Base) : Type 0 where
 abbrev pub HasNoStore : Meaning → List ℕ → Type 0
 HasNoStore m bundle = (s : Base) → IsFirstOf m bundle s → longest_base < length (code_of_base first_format s)
 
+-- a store was made on an empty disk; or a store was there already, or none begins with the bundle; the other ends say nothing
+-- of the store
+abbrev pub IsNewStore : Meaning → Image → List ℕ → StoreEnd → Type 0
+IsNewStore m files bundle end.Done = (s : Base) × IsFirstOf m bundle s × (files root_file ≡ [])
+IsNewStore m files bundle end.Memory = Unit {0}
+IsNewStore m files bundle end.Disk = Unit {0}
+IsNewStore m files bundle (end.Store have) = (have ≡ length (files root_file)) × (0 < have)
+IsNewStore m files bundle end.Refused = (files root_file ≡ []) × HasNoStore m bundle
+IsNewStore m files bundle end.Sink = ⊥
+IsNewStore m files bundle (end.Damaged file at) = ⊥
+IsNewStore m files bundle (end.NoDump n) = ⊥
+IsNewStore m files bundle (end.Spent next) = ⊥
+IsNewStore m files bundle (end.Full bytes) = ⊥
+
 -- a store was made on an empty disk and its summary was printed, or a front of it where the sink failed; or a store was there
 -- already, or none begins with the bundle; the other ends say nothing of the store, and at them nothing is printed
 abbrev pub IsMade : Meaning → Image → List ℕ → StoreEnd → SinkView → SinkView → Type 0

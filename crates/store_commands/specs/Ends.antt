@@ -49,6 +49,19 @@ IsShown m files what (end.NoDump n) old new = ⊥
 IsShown m files what (end.Spent next) old new = ⊥
 IsShown m files what (end.Full bytes) old new = ⊥
 
+-- the outputs of a store are completed at these ends
+abbrev pub AreWrittenAt : StoreEnd → Type 0 → Type 0
+AreWrittenAt end.Done written = written
+AreWrittenAt end.Sink written = written
+AreWrittenAt (end.NoDump n) written = written
+AreWrittenAt (end.Spent next) written = written
+AreWrittenAt (end.Full bytes) written = written
+AreWrittenAt end.Memory written = Unit {0}
+AreWrittenAt end.Disk written = Unit {0}
+AreWrittenAt (end.Store have) written = Unit {0}
+AreWrittenAt (end.Damaged file at) written = Unit {0}
+AreWrittenAt end.Refused written = Unit {0}
+
 -- ---- what private contracts cite
 
 -- what comes of a fault of making or opening a store, or of completing its outputs

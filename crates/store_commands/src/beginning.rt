@@ -1,4 +1,4 @@
-ghost use Rattle.std.specs.Prelude.{◌≡◌, ◌≤◌, List, length, Some, IfOk, IsErr};
+ghost use Rattle.std.specs.Prelude.{◌≡◌, ◌≢◌, ◌≤◌, List, length, Some, IfOk, IsErr};
 ghost use Rattle.edge_traits.specs.Count.{Rose};
 ghost use Rattle.edge_traits.specs.Disk.{Image};
 ghost use Rattle.step_code.specs.declared.base.Base.{Base};
@@ -7,7 +7,7 @@ ghost use Rattle.step_code.specs.Rules.{Meaning};
 ghost use Rattle.store_image.specs.Files.{root_file};
 ghost use Rattle.journal_book.specs.Opening.{StandsNow};
 ghost use Rattle.store_calls.specs.Calls.{StandsOn};
-ghost use Rattle.store_commands.specs.Begun.{IsBegun, IsMade, IsMadeWhole};
+ghost use Rattle.store_commands.specs.Begun.{IsBegun, IsMade, IsMadeWhole, IsNewStore};
 
 use crate::end::end_of;
 use crate::printing::print_summary;
@@ -55,6 +55,39 @@ pub fn init<D: Disk, R: Rules, S: Sink>(
             let end = print_summary(alloc, book.state(), out);
             (end, book.into_disk())
         }
+        Err((fault, disk)) => (end_of(fault), disk),
+    }
+}
+
+/// Makes a store of this bundle on a disk whose root is empty. The disk comes back.
+pub fn make_store<D: Disk, R: Rules>(
+    alloc: Global,
+    disk: D,
+    rules: R,
+    bundle: &Blob,
+) -> (StoreEnd, D)
+    // Where the disk tells what it holds: a store was made, or why none was.
+    ensures made { (files : Image) → (D.disk disk).told ≡ Some files → IsNewStore R.meaning files bundle.now result.0 }
+
+    // A store that was made stands for no steps, whatever a crash leaves from now on.
+    ensures stands { (files : Image) → (D.disk disk).told ≡ Some files → result.0 ≡ StoreEnd.Done
+        → IsBegun D.disk D.may_leave R.meaning bundle.now result.1 }
+
+    // A store that was there is left alone, at any moment of the call and behind it.
+    ensures left_alone { (first : Base) (steps more : List Step) → StandsNow D.disk D.may_leave R.meaning first steps more disk
+        → StandsOn D.disk D.may_leave D.left_since R.meaning first steps more disk result.1 }
+
+    // Nothing is printed.
+    ensures unprinted { result.0 ≢ StoreEnd.Sink }
+
+    // The disk failed, as its count shows.
+    ensures disk { result.0 ≡ StoreEnd.Disk → Rose (D.disk disk).faults (D.disk result.1).faults }
+    ensures disk_count { (D.disk disk).faults ≤ (D.disk result.1).faults }
+{
+    // The first state of a bundle that loads is sound but for the length of its code.
+    legal_histories_leave_sound_states::<R>();
+    match Book::create(alloc, disk, rules, bundle, STEP_BYTES) {
+        Ok(book) => (StoreEnd::Done, book.into_disk()),
         Err((fault, disk)) => (end_of(fault), disk),
     }
 }

@@ -1,11 +1,12 @@
-ghost use Rattle.std.specs.Prelude.{◌≡◌, ◌≤◌, List, Some};
+ghost use Rattle.std.specs.Prelude.{◌≡◌, ◌≤◌, List, [], Some};
 ghost use Rattle.edge_traits.specs.Count.{Rose};
 ghost use Rattle.edge_traits.specs.Disk.{Image};
 ghost use Rattle.step_code.specs.declared.base.Base.{Base};
 ghost use Rattle.step_code.specs.declared.step.Step.{Step};
 ghost use Rattle.journal_book.specs.Opening.{StandsNow};
+ghost use Rattle.journal_book.specs.Outputs.{AreWritten, HaveNoneSealed};
 ghost use Rattle.store_calls.specs.Calls.{StandsOn};
-ghost use Rattle.store_commands.specs.Ends.{IsPrinted};
+ghost use Rattle.store_commands.specs.Ends.{AreWrittenAt, IsPrinted};
 ghost use Rattle.store_commands.specs.Completed.{said, IsCompleted};
 
 use crate::end::end_of;
@@ -33,6 +34,10 @@ pub fn complete<D: Disk, R: Rules, S: Sink>(
     // At any moment of the call, and behind it, the disk stands for the history that it stood for.
     ensures stands { (first : Base) (steps more : List Step) → StandsNow D.disk D.may_leave R.meaning first steps more disk
         → StandsOn D.disk D.may_leave D.left_since R.meaning first steps more disk result.1 }
+
+    // Each output's file is all lines of the history that the disk stands for, where that began with nothing sealed.
+    ensures written { (first : Base) (history : List Step) → StandsNow D.disk D.may_leave R.meaning first history [] result.1 → HaveNoneSealed first.outs
+        → AreWrittenAt result.0 (AreWritten D.disk D.may_leave R.meaning first history result.1) }
 
     // The outside failed, as its counts show.
     ensures disk { result.0 ≡ StoreEnd.Disk → Rose (D.disk disk).faults (D.disk result.1).faults }

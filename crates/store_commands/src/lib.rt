@@ -9,7 +9,7 @@ mod printing;
 mod redoing;
 mod showing;
 
-pub use beginning::{find_store, init};
+pub use beginning::{find_store, init, make_store};
 pub use completing::complete;
 pub use end::StoreEnd;
 pub use printing::{Shown, print_summary};

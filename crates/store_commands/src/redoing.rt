@@ -4,11 +4,12 @@ ghost use Rattle.edge_traits.specs.Disk.{Image};
 ghost use Rattle.step_code.specs.declared.base.Base.{Base};
 ghost use Rattle.step_code.specs.declared.step.Step.{Step};
 ghost use Rattle.journal_book.specs.Opening.{StandsNow};
+ghost use Rattle.journal_book.specs.Outputs.{AreWritten, HaveNoneSealed};
 ghost use Rattle.journal_book.specs.Staged.{step_cause};
 ghost use Rattle.book_runs.specs.GoesOn.{GoesOn};
 ghost use Rattle.state_texts.specs.Texts.{summary};
 ghost use Rattle.store_calls.specs.Calls.{StandsOn};
-ghost use Rattle.store_commands.specs.Ends.{IsPrinted};
+ghost use Rattle.store_commands.specs.Ends.{AreWrittenAt, IsPrinted};
 ghost use Rattle.store_commands.specs.Redone.{redo_step, EndsAs, IsRedoCall, IsRedoEnd, IsRedone, RedoesStep, Redid};
 
 use crate::end::{end_of, refusal_end};
@@ -41,6 +42,10 @@ pub fn redo<D: Disk, R: Rules, S: Sink>(
         → IsRedoCall result.0 (StandsOn D.disk D.may_leave D.left_since R.meaning first steps more disk result.1)
         (RedoesStep D.disk D.may_leave D.left_since R.meaning first steps more disk result.1 dump now) }
 
+    // Each output's file is all lines of the history that the disk stands for, where that began with nothing sealed.
+    ensures written { (first : Base) (history : List Step) → StandsNow D.disk D.may_leave R.meaning first history [] result.1 → HaveNoneSealed first.outs
+        → AreWrittenAt result.0 (AreWritten D.disk D.may_leave R.meaning first history result.1) }
+
     // The outside failed, as its counts show.
     ensures disk { result.0 ≡ StoreEnd.Disk → Rose (D.disk disk).faults (D.disk result.1).faults }
     ensures sink { result.0 ≡ StoreEnd.Sink → Rose (S.sink out.old).faults (S.sink out.new).faults }
@@ -65,6 +70,8 @@ fn redo_dump<D: Disk, R: Rules>(book: &mut Book<D, R>, dump: u64, now: u64) -> S
     ensures end { IsRedoEnd book.old.state (step_cause R.meaning book.old.state book.old.steps book.old.limit (redo_step book.old.state dump now)) (D.disk book.old.disk).told dump result }
     ensures run { Redid D.disk D.may_leave D.left_since R.meaning book.old book.new (redo_step book.old.state dump now) result }
     ensures durable { (result ≢ StoreEnd.Disk) → book.new.kept ≡ length book.new.steps }
+    ensures written { (first : Base) (history : List Step) → StandsNow D.disk D.may_leave R.meaning first history [] book.new.disk → HaveNoneSealed first.outs
+        → AreWrittenAt result (AreWritten D.disk D.may_leave R.meaning first history book.new.disk) }
     ensures failed { result ≡ StoreEnd.Disk → Rose (D.disk book.old.disk).faults (D.disk book.new.disk).faults }
     ensures count { (D.disk book.old.disk).faults ≤ (D.disk book.new.disk).faults }
 {
@@ -81,6 +88,8 @@ fn complete<D: Disk, R: Rules>(book: &mut Book<D, R>, end: StoreEnd) -> StoreEnd
     ensures end { EndsAs book.old.state.outs (D.disk book.old.disk).told end result }
     ensures goes_on { GoesOn D.disk D.may_leave D.left_since R.meaning book.old book.new [] }
     ensures durable { (result ≢ StoreEnd.Disk) → book.new.kept ≡ length book.new.steps }
+    ensures written { (first : Base) (history : List Step) → StandsNow D.disk D.may_leave R.meaning first history [] book.new.disk → HaveNoneSealed first.outs
+        → AreWrittenAt result (AreWritten D.disk D.may_leave R.meaning first history book.new.disk) }
     ensures failed { result ≡ StoreEnd.Disk → Rose (D.disk book.old.disk).faults (D.disk book.new.disk).faults }
     ensures count { (D.disk book.old.disk).faults ≤ (D.disk book.new.disk).faults }
 {

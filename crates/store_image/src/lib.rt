@@ -3,4 +3,7 @@
 
 mod laws;
 
-pub use laws::what_is_stored_is_one;
+pub use laws::{
+    a_store_is_damaged_at_one_place, a_store_opens_or_is_damaged, what_is_stored_is_one,
+    what_opens_is_whole,
+};

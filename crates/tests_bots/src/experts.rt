@@ -6,7 +6,7 @@ use std::test::Fail;
 
 // A bundle with one expert of each kind and an output.
 const BOTS: &str =
-    r#"{"dedup":{"module":"expert.deduplicator","destination_queues":{"_default":["a-queue","b-queue"]}},"same":{"module":"expert.deduplicator","parameters":{"filter_keys":"source.ip","filter_type":"allow"},"destination_queues":{"_default":["a-queue"]}},"net":{"module":"expert.prefix","parameters":{"file":"nets.csv"},"destination_queues":{"_default":["a-queue"]}},"over":{"module":"expert.prefix","parameters":{"file":"nets.csv","overwrite":true},"destination_queues":{"_default":["a-queue"]}},"tag":{"module":"expert.taxonomy","destination_queues":{"_default":["a-queue"]}},"a":{"module":"output.file"},"b":{"module":"output.file"}}"#;
+    r#"{"dedup":{"module":"expert.deduplicator","destination_queues":{"_default":["a-queue","b-queue"]}},"same":{"module":"expert.deduplicator","parameters":{"filter_keys":"source.ip","filter_type":"allow"},"destination_queues":{"_default":["a-queue"]}},"white":{"module":"expert.deduplicator","parameters":{"filter_keys":["source.ip","comment"],"filter_type":"whitelist"},"destination_queues":{"_default":["a-queue"]}},"black":{"module":"expert.deduplicator","parameters":{"filter_keys":"source.ip","filter_type":"blacklist"},"destination_queues":{"_default":["a-queue"]}},"net":{"module":"expert.prefix","parameters":{"file":"nets.csv"},"destination_queues":{"_default":["a-queue"]}},"over":{"module":"expert.prefix","parameters":{"file":"nets.csv","overwrite":true},"destination_queues":{"_default":["a-queue"]}},"tag":{"module":"expert.taxonomy","destination_queues":{"_default":["a-queue"]}},"a":{"module":"output.file"},"b":{"module":"output.file"}}"#;
 
 const FILES: Files = &[(
     "nets.csv",
@@ -16,7 +16,7 @@ const FILES: Files = &[(
 // A bot, a body, and what is given.
 type Row = (&'static str, &'static str, &'static [&'static str]);
 
-const ROWS: [Row; 19] = [
+const ROWS: [Row; 22] = [
     (
         "dedup",
         r#"{"__type":"Event","classification.type":"phishing","raw":"eA==","source.ip":"192.0.2.1","time.observation":"2023-11-14T22:13:20+00:00"}"#,
@@ -41,6 +41,30 @@ const ROWS: [Row; 19] = [
             r#"a-queue {"__type":"Event","comment":"-"}"#,
             r#"b-queue {"__type":"Event","comment":"-"}"#,
             r#"key {"__type":"Event","comment":"-"}"#,
+        ],
+    ),
+    (
+        "white",
+        r#"{"__type":"Event","feed.code":"c","source.ip":"192.0.2.1"}"#,
+        &[
+            r#"a-queue {"__type":"Event","feed.code":"c","source.ip":"192.0.2.1"}"#,
+            r#"key {"__type":"Event","source.ip":"192.0.2.1"}"#,
+        ],
+    ),
+    (
+        "black",
+        r#"{"__type":"Event","feed.code":"c","source.ip":"192.0.2.1"}"#,
+        &[
+            r#"a-queue {"__type":"Event","feed.code":"c","source.ip":"192.0.2.1"}"#,
+            r#"key {"__type":"Event","feed.code":"c"}"#,
+        ],
+    ),
+    (
+        "white",
+        r#"{"__type":"Event","feed.code":"c"}"#,
+        &[
+            r#"a-queue {"__type":"Event","feed.code":"c"}"#,
+            r#"key {"__type":"Event"}"#,
         ],
     ),
     (

@@ -11,3 +11,5 @@ mod parsers;
 mod plans;
 #[cfg(test)]
 mod shared;
+#[cfg(test)]
+mod sieves;

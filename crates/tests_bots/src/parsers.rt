@@ -40,13 +40,17 @@ type Row = (&'static str, &'static str, &'static [&'static str]);
 const LINES_OF_JSON: &str =
     r#"{"parse":{"module":"parser.json","parameters":{"default_fields":{"feed.code":"c"}},"destination_queues":{"_default":["a-queue","b-queue"]}},"a":{"module":"output.file"},"b":{"module":"output.file"}}"#;
 
+// Seconds since 1970 as times, cells that are addresses or names, a column that counts for nothing.
+const STAMPS: &str =
+    r#"{"parse":{"module":"parser.csv","parameters":{"columns":"time.source,source.ip|source.fqdn,__IGNORE__,comment","delimiter":";","time_format":"timestamp","default_fields":{"comment":"none","protocol.transport":"TCP"}},"destination_queues":{"_default":["a-queue"]}},"a":{"module":"output.file"}}"#;
+
 const ARRAY: &str =
     r#"{"parse":{"module":"parser.json","parameters":{"style":"array"},"destination_queues":{"_default":["a-queue"]}},"a":{"module":"output.file"}}"#;
 
 const OBJECT: &str =
     r#"{"parse":{"module":"parser.json","parameters":{"style":"object"},"destination_queues":{"_default":["a-queue"]}},"a":{"module":"output.file"}}"#;
 
-const ROWS: [Row; 9] = [
+const ROWS: [Row; 19] = [
     (
         LINES_OF_JSON,
         r#"{"__type":"Report","raw":"eyJjb21tZW50IjoieCJ9Cgp7InNvdXJjZS5pcCI6IjEifQp7ImNvbW1lbnQiOiJ5In0="}"#,
@@ -97,6 +101,63 @@ const ROWS: [Row; 9] = [
         r#"{"__type": "Report","raw":"eA=="}"#,
         &[r#"fault 1 kind"#],
     ),
+    (
+        X,
+        r#"{"__type":"Report","feed.name":"F","raw":"aAr/LDgwLHNjYW5uZXIseAoiMTkyLjAuMi4xLDgwLHNjYW5uZXIseArvu78KCjE5Mi4wLjIuMQo="}"#,
+        &[
+            r#"write-queue {"__type":"Event","feed.name":"F","raw":"MTkyLjAuMi4x","source.ip":"192.0.2.1"}"#,
+            r#"dump 3 row: utf-8: {"__type":"Report","feed.name":"F","raw":"aAr/LDgwLHNjYW5uZXIseAo="}"#,
+            r#"dump 3 row: quotes: {"__type":"Report","feed.name":"F","raw":"aAoiMTkyLjAuMi4xLDgwLHNjYW5uZXIseAo="}"#,
+            r#"dump 3 row: records: {"__type":"Report","feed.name":"F","raw":"aArvu78K"}"#,
+        ],
+    ),
+    (
+        STAMPS,
+        r#"{"__type":"Report","raw":"MTcwMDAwMDAwMDsxOTIuMC4yLjE7eDsKMjAyMy0xMS0xNCAyMjoxMzoyMVo7RXhhbXBsZS5vcmc7O2EKO25vIG5hbWU7Owo7Ozs7Yg=="}"#,
+        &[
+            r#"a-queue {"__type":"Event","comment":"none","protocol.transport":"tcp","raw":"MTcwMDAwMDAwMDsxOTIuMC4yLjE7eDs=","source.ip":"192.0.2.1","time.source":"2023-11-14T22:13:20+00:00"}"#,
+            r#"a-queue {"__type":"Event","comment":"a","protocol.transport":"tcp","raw":"MjAyMy0xMS0xNCAyMjoxMzoyMVo7RXhhbXBsZS5vcmc7O2E=","source.fqdn":"example.org","time.source":"2023-11-14T22:13:21+00:00"}"#,
+            r#"a-queue {"__type":"Event","comment":"none","protocol.transport":"tcp","raw":"Ozs7O2I="}"#,
+            r#"dump 4 column 2: source.ip|source.fqdn: {"__type":"Report","raw":"O25vIG5hbWU7Owo="}"#,
+        ],
+    ),
+    (
+        LINES_OF_JSON,
+        r#"{"__type":"Report","raw":"eyJjb21tZW50IjoieCIKW10KeyJfX3R5cGUiOiJSZXBvcnQiLCJjb21tZW50IjoieCJ9CnsiX190eXBlIjoiZXZlbnQifQoNCg=="}"#,
+        &[
+            r#"dump 2 json: {"__type":"Report","raw":"eyJjb21tZW50IjoieCIK"}"#,
+            r#"dump 2 json: {"__type":"Report","raw":"W10K"}"#,
+            r#"dump 2 json: {"__type":"Report","raw":"eyJfX3R5cGUiOiJSZXBvcnQiLCJjb21tZW50IjoieCJ9Cg=="}"#,
+            r#"dump 2 json: {"__type":"Report","raw":"eyJfX3R5cGUiOiJldmVudCJ9Cg=="}"#,
+            r#"dump 2 json: {"__type":"Report","raw":"DQo="}"#,
+        ],
+    ),
+    (
+        ARRAY,
+        r#"{"__type":"Report","raw":"W3sic291cmNlLmlwIjoiMSJ9LHsiX190eXBlIjoiUmVwb3J0In1d"}"#,
+        &[
+            r#"dump 4 key source.ip: {"__type":"Report","raw":"W3sic291cmNlLmlwIjoiMSJ9XQ=="}"#,
+            r#"dump 2 json: {"__type":"Report","raw":"W3siX190eXBlIjoiUmVwb3J0In1d"}"#,
+        ],
+    ),
+    (ARRAY, r#"{"__type":"Report","raw":"W10="}"#, &[]),
+    (
+        ARRAY,
+        r#"{"__type":"Report","raw":"Ww=="}"#,
+        &[r#"fault 2 json"#],
+    ),
+    (
+        OBJECT,
+        r#"{"__type":"Report","raw":"W10="}"#,
+        &[r#"fault 2 json"#],
+    ),
+    (
+        OBJECT,
+        r#"{"__type":"Report","raw":"eyJfX3R5cGUiOiJSZXBvcnQifQ=="}"#,
+        &[r#"fault 2 json"#],
+    ),
+    (X, r#"{"__type":"Report","raw":""}"#, &[]),
+    (X, r#"{"__type":"Report","raw":"aAo="}"#, &[]),
 ];
 
 #[test]

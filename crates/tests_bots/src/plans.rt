@@ -1,6 +1,6 @@
 //! Which bundles give a plan, and the facts of their bots.
 use crate::parsers::X;
-use crate::shared::{code, is_planned};
+use crate::shared::{Files, code, is_planned};
 use base_types::{Blob, QueueList};
 use bot_rules::IntelRules;
 use std::alloc::Global;
@@ -55,9 +55,15 @@ fn facts_text(alloc: Global, facts: &Facts) -> Result<String, Fail> {
 const DEDUP: &str =
     r#"{"global":{"error_retry_delay":0},"dedup":{"module":"expert.deduplicator","parameters":{"ttl":60,"cache_max":1,"instances_threads":4,"error_max_retries":2,"error_procedure":"stop"},"destination_queues":{"_default":["w-queue","v-queue"],"_on_error":["v-queue"]}},"w":{"module":"output.file"},"v":{"module":"output.file"}}"#;
 
-const ROWS: [(&str, &[&str]); 2] = [
+const SIEVE: &str =
+    r#"{"fix":{"module":"expert.sieve","parameters":{"file":"fix.sieve","error_procedure":"stop"},"destination_queues":{"_default":["w-queue"],"_on_error":["v-queue"],"other":["v-queue"]}},"w":{"module":"output.file"},"v":{"module":"output.file"}}"#;
+
+const SIEVE_FILES: Files = &[("fix.sieve", "path 'other'")];
+
+const ROWS: [(&str, Files, &[&str]); 3] = [
     (
         X,
+        &[],
         &[
             "collect Collector 1 3 15 false: parse-queue,, feed.csv 65536 true",
             "parse Parser 1 3 15 false: write-queue,",
@@ -66,10 +72,20 @@ const ROWS: [(&str, &[&str]); 2] = [
     ),
     (
         DEDUP,
+        &[],
         &[
             "dedup Expert 4 2 0 true: w-queue v-queue, v-queue, 60 1",
             "v Output 1 3 0 false:,",
             "w Output 1 3 0 false:,",
+        ],
+    ),
+    (
+        SIEVE,
+        SIEVE_FILES,
+        &[
+            "fix Expert 1 3 15 true: w-queue, v-queue",
+            "v Output 1 3 15 false:,",
+            "w Output 1 3 15 false:,",
         ],
     ),
 ];
@@ -78,8 +94,8 @@ const ROWS: [(&str, &[&str]); 2] = [
 fn facts_of_bots(rt: HostRuntime) -> Result<(), Fail> {
     let alloc = rt.alloc();
     let rules = IntelRules::new();
-    for (runtime, wanted) in &ROWS {
-        let bundle = code(alloc, runtime, &[])?;
+    for (runtime, files, wanted) in &ROWS {
+        let bundle = code(alloc, runtime, files)?;
         let Ok(plan) = rules.plan(alloc, &bundle) else {
             return Err(Fail::from("no plan"));
         };
@@ -109,6 +125,8 @@ fn refused_bundles(rt: HostRuntime) -> Result<(), Fail> {
         );
     }
     assert!(rt; is_planned(alloc, &code(alloc, X, &[])?)?);
+    assert!(rt; is_planned(alloc, &code(alloc, SIEVE, SIEVE_FILES)?)?);
+    assert!(rt; !is_planned(alloc, &code(alloc, SIEVE, &[])?)?);
     assert!(rt; !is_planned(alloc, &Blob::new(alloc, b"no code")?)?);
     Ok(())
 }

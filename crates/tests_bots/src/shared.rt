@@ -106,14 +106,8 @@ pub fn given_lines(alloc: Global, given: &Given) -> Result<Vec<String>, Fail> {
     Ok(lines)
 }
 
-/// What a bot of a bundle makes of a body.
-pub fn gives(
-    alloc: Global,
-    runtime: &str,
-    files: Files,
-    bot: &str,
-    body: &Blob,
-) -> Result<Vec<String>, Fail> {
+/// A bot of a bundle, ready for work.
+pub fn work_of(alloc: Global, runtime: &str, files: Files, bot: &str) -> Result<IntelWork, Fail> {
     let rules = IntelRules::new();
     let bundle = code(alloc, runtime, files)?;
     let Ok(plan) = rules.plan(alloc, &bundle) else {
@@ -126,9 +120,25 @@ pub fn gives(
     if collects(facts) {
         return Err(Fail::from("a collector"));
     }
-    let mut work = rules.work(alloc, &plan, &name)?;
-    let given = rules.give(alloc, &mut work, body, NOW)?;
+    Ok(rules.work(alloc, &plan, &name)?)
+}
+
+/// What it makes of a body.
+pub fn answer(alloc: Global, work: &mut IntelWork, body: &Blob) -> Result<Vec<String>, Fail> {
+    let given = IntelRules::new().give(alloc, work, body, NOW)?;
     given_lines(alloc, &given)
+}
+
+/// What a bot of a bundle makes of a body.
+pub fn gives(
+    alloc: Global,
+    runtime: &str,
+    files: Files,
+    bot: &str,
+    body: &Blob,
+) -> Result<Vec<String>, Fail> {
+    let mut work = work_of(alloc, runtime, files, bot)?;
+    answer(alloc, &mut work, body)
 }
 
 /// The report of a piece that was collected at `NOW`.

@@ -2,6 +2,12 @@
 #![tactic(auto)]
 
 #[cfg(test)]
+mod checks;
+#[cfg(test)]
+mod drills;
+#[cfg(test)]
+mod experts;
+#[cfg(test)]
 mod playing;
 #[cfg(test)]
 mod sessions;

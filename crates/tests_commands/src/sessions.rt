@@ -222,7 +222,7 @@ fn other_words_are_no_command(rt: HostRuntime) -> Result<(), Fail> {
             prints: "",
         },
         Play {
-            words: "drill --lines 100 --number 7",
+            words: "drill --lines 0 --number 7",
             status: "words",
             prints: "",
         },

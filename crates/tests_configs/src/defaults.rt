@@ -10,7 +10,7 @@ const MODULES: [(&str, Option<ModuleWord>); 11] = [
     ("\"collector.file\"", Some(ModuleWord::Collector)),
     ("\"parser.csv\"", Some(ModuleWord::Csv)),
     ("\"parser.json\"", Some(ModuleWord::Json)),
-    ("\"expert.sieve\"", None),
+    ("\"expert.sieve\"", Some(ModuleWord::Sieve)),
     ("\"expert.deduplicator\"", Some(ModuleWord::Dedup)),
     ("\"expert.prefix\"", Some(ModuleWord::Prefix)),
     ("\"expert.taxonomy\"", Some(ModuleWord::Taxonomy)),
@@ -50,7 +50,7 @@ fn shown(alloc: Global, parameters: &[Parameter]) -> Result<String, Fail> {
     Ok(shown)
 }
 
-const OWN: [(ModuleWord, &str); 7] = [
+const OWN: [(ModuleWord, &str); 8] = [
     (
         ModuleWord::Collector,
         "chunk_replicate_header: switch false\nchunk_size: whole 65536\nfile: required\nname: required\nprovider: unset\n",
@@ -63,6 +63,7 @@ const OWN: [(ModuleWord, &str); 7] = [
         ModuleWord::Json,
         "default_fields: fields \nstyle: line lines\n",
     ),
+    (ModuleWord::Sieve, "file: required\n"),
     (
         ModuleWord::Dedup,
         "cache_max: whole 100000\nfilter_keys: lines raw|time.observation|\nfilter_type: line deny\nttl: whole 86400\n",

@@ -4,10 +4,10 @@ use runtime_config::{LoadFault, load};
 use std::alloc::Global;
 use std::test::Fail;
 
-type Files = &'static [(&'static str, &'static [u8])];
+pub type Files = &'static [(&'static str, &'static [u8])];
 
-// A runtime text, the files of its bundle, and the fault; `ok N` where there is none and N bots are planned.
-type Row = (&'static str, Files, &'static str);
+/// A runtime text, the files of its bundle, and the fault; `ok N` where there is none and N bots are planned.
+pub type Row = (&'static str, Files, &'static str);
 
 pub fn bundle(alloc: Global, runtime: &str, files: Files) -> Result<Bundle, Fail> {
     let mut named = NamedList::new(alloc);
@@ -42,6 +42,14 @@ fn shown(alloc: Global, fault: &LoadFault) -> Result<String, Fail> {
         LoadFault::Parameter { bot, name } => with_name(alloc, "parameter", bot, name),
         LoadFault::Missing { bot, name } => with_name(alloc, "missing", bot, name),
         LoadFault::File { bot } => with_bot(alloc, "file", bot),
+        LoadFault::Sieve { bot, fault } => {
+            let front = with_bot(alloc, "sieve", bot)?;
+            Ok(format!(in alloc; "{front} {fault:?}")?)
+        }
+        LoadFault::Path { bot, at } => {
+            let front = with_bot(alloc, "path", bot)?;
+            Ok(format!(in alloc; "{front} {at}")?)
+        }
         LoadFault::Cycle { bot } => with_bot(alloc, "cycle", bot),
         LoadFault::Limit { bot } => with_bot(alloc, "limit", bot),
         LoadFault::Queue { bot } => with_bot(alloc, "queue", bot),
@@ -53,8 +61,14 @@ fn shown(alloc: Global, fault: &LoadFault) -> Result<String, Fail> {
     }
 }
 
-fn answer(alloc: Global, runtime: &str, files: Files) -> Result<String, Fail> {
-    match load(alloc, &bundle(alloc, runtime, files)?) {
+/// The answer to a runtime text and the files of its bundle.
+pub fn answer(alloc: Global, runtime: &str, files: Files) -> Result<String, Fail> {
+    answer_to(alloc, &bundle(alloc, runtime, files)?)
+}
+
+/// The answer to a bundle, as in rows.
+pub fn answer_to(alloc: Global, bundle: &Bundle) -> Result<String, Fail> {
+    match load(alloc, bundle) {
         Ok(plan) => {
             let bots = plan.bots.len();
             Ok(format!(in alloc; "ok {bots}")?)
@@ -63,8 +77,34 @@ fn answer(alloc: Global, runtime: &str, files: Files) -> Result<String, Fail> {
     }
 }
 
-// The answer to the first row that gets another.
-fn first_wrong(alloc: Global, rows: &[Row]) -> Result<Option<String>, Fail> {
+/// A part so many times.
+pub fn repeated(alloc: Global, part: &str, count: u32) -> Result<String, Fail> {
+    let mut text = String::new(alloc);
+    for _ in 0..count {
+        text.push_str(part)?;
+    }
+    Ok(text)
+}
+
+/// The answer to a bundle with a further file of this name and content.
+pub fn answer_with(
+    alloc: Global,
+    runtime: &str,
+    others: Files,
+    name: &str,
+    content: &str,
+) -> Result<String, Fail> {
+    let mut made = bundle(alloc, runtime, others)?;
+    let name = Text::from(String::from_str(alloc, name)?);
+    let content = Blob::new(alloc, content.as_bytes())?;
+    if made.files.push((name, content)).is_err() {
+        return Err(Fail::from("memory"));
+    }
+    answer_to(alloc, &made)
+}
+
+/// The answer to the first row that gets another.
+pub fn first_wrong(alloc: Global, rows: &[Row]) -> Result<Option<String>, Fail> {
     for (runtime, files, wanted) in rows {
         let found = answer(alloc, runtime, files)?;
         if found.as_str() != *wanted {
@@ -74,7 +114,7 @@ fn first_wrong(alloc: Global, rows: &[Row]) -> Result<Option<String>, Fail> {
     Ok(None)
 }
 
-const SAMPLES: [Row; 3] = [
+const SAMPLES: [Row; 5] = [
     (
         r#"{"collect":{"module":"collector.file","parameters":{"file":"feed.csv","name":"Demo","chunk_replicate_header":true},"destination_queues":{"_default":["parse-queue"]}},"parse":{"module":"parser.csv","parameters":{"columns":["source.ip","source.port","classification.type","extra.note"],"skip_header":true},"destination_queues":{"_default":["write-queue"]}},"write":{"module":"output.file"}}"#,
         &[],
@@ -85,7 +125,13 @@ const SAMPLES: [Row; 3] = [
         &[],
         "ok 4",
     ),
+    (
+        r#"{"collect":{"module":"collector.file","parameters":{"file":"feed.csv","name":"Demo"},"destination_queues":{"_default":["write-queue"]}},"write":{"module":"output.file"}}"#,
+        &[],
+        "ok 2",
+    ),
     ("{}", &[], "ok 0"),
+    (r#"{"global":{}}"#, &[], "ok 0"),
 ];
 
 #[test]
@@ -96,7 +142,7 @@ fn samples(rt: HostRuntime) -> Result<(), Fail> {
 }
 
 // Each fault at two bots, so that the first bot's counts, and beside later faults of the same bot.
-const FAULTS: [Row; 27] = [
+const FAULTS: [Row; 28] = [
     ("[", &[], "json"),
     ("[]", &[], "json"),
     (r#"{"$dec":"1"}"#, &[], "json"),
@@ -109,7 +155,12 @@ const FAULTS: [Row; 27] = [
         "module a0",
     ),
     (
-        r#"{"a":{"module":"expert.sieve","enabled":false}}"#,
+        r#"{"b":{"module":"expert.taxonomy","destination_queues":{"_default":["c-queue"]}},"c":{"module":"expert.taxonomy","destination_queues":{"_default":["b-queue"]}},"a0":{"module":"expert.none"}}"#,
+        &[],
+        "module a0",
+    ),
+    (
+        r#"{"a":{"module":"expert.sieves","enabled":false}}"#,
         &[],
         "module a",
     ),

@@ -49,6 +49,16 @@ fn module_text(alloc: Global, module: &Module) -> Result<String, Fail> {
             let style = style.as_str();
             Ok(format!(in alloc; "json {style}")?)
         }
+        Module::Sieve(sieve) => {
+            let items = sieve.items().len();
+            let patterns = sieve.patterns().len();
+            let mut text = format!(in alloc; "sieve {items} {patterns}")?;
+            for (name, at) in sieve.paths() {
+                let name = name.as_str();
+                text.push_str(format!(in alloc; " {name} {at}")?.as_str())?;
+            }
+            Ok(text)
+        }
         Module::Dedup {
             keys,
             keep,
@@ -146,20 +156,27 @@ fn the_bots_of_a_drill(rt: HostRuntime) -> Result<(), Fail> {
 
 // The bot's own parameters go before those of `global`, and paths stand in byte order.
 const OTHERS: &'static str =
-    r#"{"global":{"error_retry_delay":1,"error_procedure":"stop"},"p":{"module":"parser.json","parameters":{"error_retry_delay":86400,"instances_threads":16,"error_max_retries":0,"style":"array"},"destination_queues":{"_on_error":["o-queue"],"_default":["d-queue","l-queue"]}},"d":{"module":"expert.deduplicator","parameters":{"filter_type":"allow","filter_keys":"source.ip,source.port","ttl":60,"error_procedure":"pass"},"destination_queues":{"_default":["o-queue"]}},"l":{"module":"expert.prefix","parameters":{"file":"nets","overwrite":true},"destination_queues":{"_default":["o-queue"]}},"o":{"module":"output.file"}}"#;
+    r#"{"global":{"error_retry_delay":1,"error_procedure":"stop"},"p":{"module":"parser.json","parameters":{"error_retry_delay":86400,"instances_threads":16,"error_max_retries":0,"style":"array"},"destination_queues":{"_on_error":["o-queue"],"_default":["d-queue","l-queue"]}},"d":{"module":"expert.deduplicator","parameters":{"filter_type":"allow","filter_keys":"source.ip,source.port","ttl":60,"error_procedure":"pass"},"destination_queues":{"_default":["o-queue"]}},"l":{"module":"expert.prefix","parameters":{"file":"nets","overwrite":true},"destination_queues":{"_default":["s-queue"]}},"s":{"module":"expert.sieve","parameters":{"file":"s.sieve"},"destination_queues":{"other":["o-queue"],"_default":["o-queue"]}},"o":{"module":"output.file"}}"#;
 
 #[test]
 fn parameters_of_other_modules(rt: HostRuntime) -> Result<(), Fail> {
     let wanted = [
         "d: dedup source.ip|source.port| true 60 100000; 1 3 1 false; _default o-queue",
-        "l: prefix 2 2 true; 1 3 1 true; _default o-queue",
+        "l: prefix 2 2 true; 1 3 1 true; _default s-queue",
         "o: output; 1 3 1 true",
         "p: json array; 16 0 86400 true; _default d-queue l-queue; _on_error o-queue",
+        "s: sieve 2 2 other 43; 1 3 1 true; _default o-queue; other o-queue",
     ];
-    let files: &'static [(&'static str, &'static [u8])] = &[(
-        "nets",
-        b"network,source.geolocation.cc\n192.0.2.0/24,DE\n2001:db8::/32,\n",
-    )];
+    let files: &'static [(&'static str, &'static [u8])] = &[
+        (
+            "nets",
+            b"network,source.geolocation.cc\n192.0.2.0/24,DE\n2001:db8::/32,\n",
+        ),
+        (
+            "s.sieve",
+            b"if comment =~ 'a' && comment !~ 'a' { path 'other' }\nkeep\n",
+        ),
+    ];
     let wrong = first_wrong(rt.alloc(), OTHERS, files, &wanted)?;
     assert!(rt; wrong.is_none(), "{wrong:?}");
     Ok(())

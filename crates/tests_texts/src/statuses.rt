@@ -1,5 +1,6 @@
 use base_types::{BotName, Text};
 use runtime_config::LoadFault;
+use sieve_reader::SieveFault;
 use status_texts::{FeedWhy, Status, status_text};
 use std::alloc::Global;
 use std::process::Abort;
@@ -151,6 +152,23 @@ fn each_fault_of_a_bundle_has_its_number(rt: HostRuntime) -> Result<(), Fail> {
         &Status::Config(LoadFault::File { bot: bot()? }),
         3,
         "config 5 fix",
+    )?;
+    check(
+        &rt,
+        alloc,
+        &Status::Config(LoadFault::Sieve {
+            bot: bot()?,
+            fault: SieveFault::Field { at: 3 },
+        }),
+        3,
+        "config 6 fix",
+    )?;
+    check(
+        &rt,
+        alloc,
+        &Status::Config(LoadFault::Path { bot: bot()?, at: 5 }),
+        3,
+        "config 7 fix",
     )?;
     check(
         &rt,

@@ -29,7 +29,7 @@ returns-in-Ok-clause-drained g c = λ files told.
     let turned = subst (λ (n : ℕ). IsTurned g.D.Disk.disk g.D.Disk.may_leave g.D.Disk.left_since (outside m shelf clock n) c.args.asked opened mid c.make_turns-last.result) limit c.make_turns-last.ensures.turned in
     subst (λ d. IsDrainCall g.D.Disk.disk g.D.Disk.may_leave g.D.Disk.left_since o files c.args.asked c.args.disk d c.finish-end.result (g.S.Sink.sink c.args.out.now) (g.S.Sink.sink c.finish-end.new.out)) (sym c.into_disk.ensures)
     (drain_called o files c.args.asked c.args.disk opened mid later is c.make_turns-last.result turned c.finish-end.ensures.goes_on c.finish-end.result (g.S.Sink.sink c.args.out.now) (g.S.Sink.sink c.finish-end.new.out)
-    c.finish-end.ensures.finished c.finish-end.ensures.durable c.finish-end.ensures.completed c.finish-end.ensures.untold)
+    c.finish-end.ensures.finished c.finish-end.ensures.durable c.finish-end.ensures.completed c.finish-end.ensures.written c.finish-end.ensures.sound c.finish-end.ensures.untold)
 
 pub returns-in-Err-clause-drained : goal.returns-in-Err-clause-drained
 returns-in-Err-clause-drained g c = λ files told.
@@ -44,5 +44,5 @@ returns-in-Err-clause-drained g c = λ files told.
 pub returns-in-Ok-clause-plain : goal.returns-in-Ok-clause-plain
 returns-in-Ok-clause-plain g c = λ why is.
     let mid = c.make_turns-last.new.book in
-    let finished = subst (λ (e : DrainEnd). IsFinished mid.state c.make_turns-last.result (g.D.Disk.disk mid.disk).told e (g.S.Sink.sink c.args.out.now) (g.S.Sink.sink c.finish-end.new.out)) is c.finish-end.ensures.finished in
+    let finished = subst (λ (e : DrainEnd). IsFinished mid.state c.make_turns-last.result e (g.S.Sink.sink c.args.out.now) (g.S.Sink.sink c.finish-end.new.out)) is c.finish-end.ensures.finished in
     subst IsToldEnd (sym finished.0) finished.1

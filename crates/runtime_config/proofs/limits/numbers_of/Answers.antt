@@ -12,8 +12,8 @@ counted (Some b) = refl
 pub returns : goal.returns
 returns c = record {
   instances_are = c.in_ok-whole.ensures;
-  rows_are = c.counts_of-rows.ensures.rows ∙ ap (λ (o : Option ℕ). unwrap_or o 0) (counted c.in_ok-content.field-0 ∙ ap (option_map row_count) c.in_ok-content.ensures);
+  rows_are = c.rows_of.ensures ∙ ap (λ (o : Option ℕ). unwrap_or o 0) (counted c.in_ok-table_text.field-0 ∙ ap (option_map row_count) c.in_ok-table_text.ensures);
   file_is = c.in_ok-file_of.ensures;
-  length_is = c.counts_of-rows.ensures.length ∙ ap (λ (o : Option (List ℕ)). length (unwrap_or o [])) c.in_ok-content.ensures;
+  length_is = c.length_of.ensures ∙ ap (λ (o : Option (List ℕ)). length (unwrap_or o [])) c.in_ok-content.ensures;
   few = subst (λ n. n ≤ 16) (sym c.in_ok-whole.ensures) (few_instances (members_of c.args.global.now) (entry_of c.args.bot.now));
 }

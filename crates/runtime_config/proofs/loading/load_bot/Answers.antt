@@ -5,8 +5,8 @@ use Rattle.runtime_config.proofs.loading.load_bot.Goals as goal
 
 pub returns-in-Ok-clause-found : goal.returns-in-Ok-clause-found
 returns-in-Ok-clause-found c =
-    same_planned _ _ _ c.ordered.result (fault_split (place_at c.args.whole.now (entries_of c.args.before.now) (entry_of c.args.bot.now)))
-    (later_planned _ _ _ c.ordered.result c.in-Ok.ensures c.ordered.ensures.found)
+    same_planned _ _ _ c.sieved.result (fault_split (place_at c.args.whole.now (entries_of c.args.before.now) (entry_of c.args.bot.now)))
+    (later_planned _ _ _ c.sieved.result c.in-Ok.ensures c.sieved.ensures.found)
 
 pub returns-in-Err-clause-found : goal.returns-in-Err-clause-found
 returns-in-Err-clause-found c =

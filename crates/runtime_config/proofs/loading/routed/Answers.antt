@@ -11,10 +11,10 @@ use Rattle.runtime_config.specs.declared.fault.LoadFault.TheVariants as fault
 use Rattle.runtime_config.proofs.loading.routed.Goals as goal
 
 pub known_paths-requires : goal.known_paths-requires
-known_paths-requires c = c.requires.sorted
+known_paths-requires c = c.requires.whole.sorted
 
-pub planned-requires : goal.planned-requires
-planned-requires c =
+pub planned-requires-clause-paths : goal.planned-requires-clause-paths
+planned-requires-clause-paths c =
     let bots = entries_of c.args.whole.now.bots.now in
     let bot = entry_of c.args.bot.now in
     (paths_known (list_all (is_known bots) (targets bot)) c.in-Some.paths (map route_of (routes bot)) (sym c.in-Some.is ∙ c.in_ok-paths.ensures ∙ paths_are bots (routes bot))).1

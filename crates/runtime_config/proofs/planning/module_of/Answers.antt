@@ -3,6 +3,7 @@ use Rattle.runtime_config.proofs.Faulty.{no_table}
 use Rattle.runtime_config.specs.Load.{module_as}
 use Rattle.runtime_config.specs.Read.{entry_of, members_of}
 use Rattle.runtime_config.specs.Runtime.{is_prefix}
+use Rattle.runtime_config.specs.declared.plan.Module.TheVariants as as_module
 use Rattle.runtime_config.proofs.planning.module_of.Goals as goal
 
 pub returns-in_ok-collector-in-Some-Collector : goal.returns-in_ok-collector-in-Some-Collector
@@ -36,3 +37,11 @@ returns-in_ok-dedup-in-Some-Dedup c =
     let bot = entry_of c.args.bot.now in
     let word = sym c.in-Some-Dedup.ensures ∙ ap Some c.in-Some-Dedup.field-0-is in
     (no_table bundle global bot (ap is_prefix word), c.in_ok-dedup-in-Some-Dedup.ensures bundle ∙ ap (module_as bundle global bot) (sym word))
+
+pub returns-in-Some-Sieve : goal.returns-in-Some-Sieve
+returns-in-Some-Sieve c =
+    let bundle = c.args.bundle.now in
+    let global = members_of c.args.global.now in
+    let bot = entry_of c.args.bot.now in
+    let word = sym c.in-Some-Sieve.ensures ∙ ap Some c.in-Some-Sieve.field-0-is in
+    (no_table bundle global bot (ap is_prefix word), ap as_module.Sieve c.requires ∙ ap (module_as bundle global bot) (sym word))

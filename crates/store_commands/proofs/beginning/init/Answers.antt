@@ -2,13 +2,12 @@ use Rattle.std.proofs.Common.{◌≡◌, [], List, ℕ, length, refl, sym, ap, s
 use Rattle.step_code.specs.declared.base.Base.{Base}
 use Rattle.step_code.specs.History.{first}
 use Rattle.state_texts.specs.Texts.{summary}
-use Rattle.journal_book.specs.Book.{created, BookView}
-use Rattle.journal_book.specs.Opening.{StandsNow}
+use Rattle.journal_book.specs.Book.{BookView}
 use Rattle.journal_book.proofs.Recovering.{some_root}
-use Rattle.store_commands.specs.Begun.{IsFirstOf, IsMade}
+use Rattle.store_commands.specs.Begun.{IsBegun, IsFirstOf, IsMade}
 use Rattle.store_commands.specs.Ends.{IsPrinted}
 use Rattle.store_commands.specs.declared.end.StoreEnd.{StoreEnd}
-use Rattle.store_commands.proofs.Begun.{made_whole, not_made, stands_new, FirstsAreSound}
+use Rattle.store_commands.proofs.Begun.{begun_by, made_whole, not_made, not_new, FirstsAreSound}
 use Rattle.store_commands.proofs.beginning.init.Goals as goal
 
 pub returns-in-Ok-clause-made : goal.returns-in-Ok-clause-made
@@ -23,16 +22,8 @@ returns-in-Ok-clause-made g c = λ files told.
 
 pub returns-in-Ok-clause-stands : goal.returns-in-Ok-clause-stands
 returns-in-Ok-clause-stands g c = λ files told whole.
-    let m = g.R.Rules.meaning in
-    let book = c.in-Ok.book in
     let made = c.in-Ok.ensures.book in
-    let base_is : book.base ≡ first made.0 c.args.bundle.now = ap (λ (b : BookView _ _). b.base) made.2 in
-    let is = made.2 ∙ ap (λ (s : Base). created c.args.rules s 67_108_864 book.disk) (sym base_is) in
-    record {
-      state = book.base;
-      first_is = record { bots = made.0; loads = made.1; state = base_is };
-      stands = subst (λ d. StandsNow g.D.Disk.disk g.D.Disk.may_leave m book.base [] [] d) (sym c.into_disk.ensures) (stands_new c.args.rules book.base 67_108_864 book is (c.in-Ok.ensures.kept files told));
-    }
+    subst (λ d. IsBegun g.D.Disk.disk g.D.Disk.may_leave g.R.Rules.meaning c.args.bundle.now d) (sym c.into_disk.ensures) (begun_by c.args.bundle.now made.0 c.args.rules 67_108_864 c.in-Ok.book made.1 made.2 (c.in-Ok.ensures.kept files told))
 
 pub returns-in-Ok-clause-left_alone : goal.returns-in-Ok-clause-left_alone
 returns-in-Ok-clause-left_alone g c = λ first steps more was.
@@ -45,7 +36,7 @@ returns-in-Err-clause-made g c = λ files told.
     let sink = g.S.Sink.sink c.args.out.now in
     let sound : FirstsAreSound m = λ bots bundle loads. c.legal_histories_leave_sound_states.ensures bots bundle [] loads tt tt in
     subst (λ (e : StoreEnd). IsMade m files c.args.bundle.now e sink sink) (sym c.end_of.ensures)
-    (not_made m files c.args.bundle.now (g.D.Disk.disk c.args.disk).told c.in-Err.fault sink told sound (c.in-Err.ensures.refused_empty files told) c.in-Err.ensures.fault)
+    (not_made m files c.args.bundle.now c.in-Err.fault sink (not_new m files c.args.bundle.now (g.D.Disk.disk c.args.disk).told c.in-Err.fault told sound (c.in-Err.ensures.refused_empty files told) c.in-Err.ensures.fault))
 
 pub returns-in-Err-clause-left_alone : goal.returns-in-Err-clause-left_alone
 returns-in-Err-clause-left_alone g c = λ first steps more was. record { any_moment = c.in-Err.ensures.any_moment_err first steps more was; now = c.in-Err.ensures.still_err first steps more was }

@@ -2,12 +2,14 @@ use Rattle.std.proofs.Common.{◌≡◌, [], refl, sym, ap, subst, ◌∙◌}
 use Rattle.edge_traits.specs.Disk.{Image}
 use Rattle.step_code.specs.declared.base.Base.{Base}
 use Rattle.journal_book.specs.Book.{BookView}
+use Rattle.journal_book.specs.Opening.{StandsNow}
+use Rattle.journal_book.specs.Outputs.{AreWritten}
 use Rattle.store_calls.specs.Calls.{IsOpened, StandsOn}
 use Rattle.store_calls.proofs.Called.{still_stands}
 use Rattle.store_commands.specs.Completed.{said, IsCompleted}
 use Rattle.store_commands.specs.Ends.{IsOpenIn, IsPrinted}
 use Rattle.store_commands.specs.declared.end.StoreEnd.{StoreEnd}
-use Rattle.store_commands.proofs.Completed.{completed_closed, completed_open, not_completed}
+use Rattle.store_commands.proofs.Completed.{completed_closed, completed_open, not_completed, unwritten_end, written_at}
 use Rattle.store_commands.proofs.completing.complete.Goals as goal
 
 pub returns-in-Ok-complete_outputs-clause-completed : goal.returns-in-Ok-complete_outputs-clause-completed
@@ -69,3 +71,18 @@ returns-in-Err-clause-completed g c = λ files told.
 
 pub returns-in-Err-clause-stands : goal.returns-in-Err-clause-stands
 returns-in-Err-clause-stands g c = λ first steps more was. record { any_moment = c.in-Err.ensures.any_moment_err first steps more was; now = c.in-Err.ensures.still_err first steps more was }
+
+pub returns-in-Ok-complete_outputs-clause-written : goal.returns-in-Ok-complete_outputs-clause-written
+returns-in-Ok-complete_outputs-clause-written g c = λ first history now none.
+    let m = g.R.Rules.meaning in
+    let is = c.into_disk.ensures in
+    written_at c.say-end.result _ (subst (λ d. AreWritten g.D.Disk.disk g.D.Disk.may_leave m first history d) (sym is)
+    (c.in-Ok-complete_outputs.ensures.written first history (subst (λ d. StandsNow g.D.Disk.disk g.D.Disk.may_leave m first history [] d) is now) none))
+
+pub returns-in-Err-complete_outputs-clause-written : goal.returns-in-Err-complete_outputs-clause-written
+returns-in-Err-complete_outputs-clause-written g c = λ first history now none.
+    unwritten_end c.in-Err-complete_outputs.fault c.end_of.result (AreWritten g.D.Disk.disk g.D.Disk.may_leave g.R.Rules.meaning first history c.into_disk-in-Err-complete_outputs.result) c.end_of.ensures
+
+pub returns-in-Err-clause-written : goal.returns-in-Err-clause-written
+returns-in-Err-clause-written g c = λ first history now none.
+    unwritten_end c.in-Err.fault c.end_of-in-Err.result (AreWritten g.D.Disk.disk g.D.Disk.may_leave g.R.Rules.meaning first history c.in-Err.disk) c.end_of-in-Err.ensures

@@ -1,12 +1,16 @@
-use Rattle.std.proofs.Common.{◌≡◌, ◌-◌, ℕ, List, length, refl, sym, ap, subst, ◌∙◌}
+use Rattle.std.proofs.Common.{◌≡◌, ◌-◌, ℕ, List, [], length, refl, sym, ap, subst, ◌∙◌}
 use Rattle.step_code.specs.declared.base.Base.{Base}
 use Rattle.step_code.specs.declared.step.Step.{Step}
 use Rattle.step_code.specs.History.{replay}
 use Rattle.journal_book.specs.Book.{BookView}
+use Rattle.journal_book.specs.Opening.{StandsNow}
+use Rattle.journal_book.specs.Outputs.{AreWritten}
 use Rattle.journal_book.specs.Staged.{step_cause}
 use Rattle.store_calls.specs.Calls.{IsOpened, StandsOn}
+use Rattle.store_commands.specs.Ends.{AreWrittenAt}
 use Rattle.store_commands.specs.Redone.{redo_step, IsAsked, IsRedoCall, IsRedone, RedoesStep}
 use Rattle.store_commands.specs.declared.end.StoreEnd.{StoreEnd}
+use Rattle.store_commands.proofs.Completed.{unwritten_end, written_behind}
 use Rattle.store_commands.proofs.RedoEnds.{call_closed, call_open, call_told, no_damage, redone_closed, redone_open}
 use Rattle.store_commands.proofs.Redone.{makes, makes_durably, stands, state_behind}
 use Rattle.store_commands.proofs.redoing.redo.Goals as goal
@@ -67,3 +71,15 @@ returns-in-Err-clause-stands g c = λ first steps more was.
     (RedoesStep g.D.Disk.disk g.D.Disk.may_leave g.D.Disk.left_since m first steps more c.args.disk disk c.args.dump c.args.now))
     (sym c.end_of.ensures)
     (call_closed c.in-Err.fault _ _ (record { any_moment = c.in-Err.ensures.any_moment_err first steps more was; now = c.in-Err.ensures.still_err first steps more was }))
+
+pub returns-in-Ok-clause-written : goal.returns-in-Ok-clause-written
+returns-in-Ok-clause-written g c = λ first history now none.
+    let m = g.R.Rules.meaning in
+    let is = c.into_disk.ensures in
+    subst (λ d. AreWrittenAt c.report-end.result (AreWritten g.D.Disk.disk g.D.Disk.may_leave m first history d)) (sym is)
+    (written_behind c.redo_dump-end.result c.report-end.result _ c.report-end.ensures.kept
+    (c.redo_dump-end.ensures.written first history (subst (λ d. StandsNow g.D.Disk.disk g.D.Disk.may_leave m first history [] d) is now) none))
+
+pub returns-in-Err-clause-written : goal.returns-in-Err-clause-written
+returns-in-Err-clause-written g c = λ first history now none.
+    unwritten_end c.in-Err.fault c.end_of.result (AreWritten g.D.Disk.disk g.D.Disk.may_leave g.R.Rules.meaning first history c.in-Err.disk) c.end_of.ensures

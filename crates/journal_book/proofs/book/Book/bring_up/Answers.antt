@@ -1,4 +1,4 @@
-use Rattle.std.proofs.Common.{inl, inr, ◌++◌, ap, subst, ◌∙◌}
+use Rattle.std.proofs.Common.{inl, inr, ◌++◌, length, sym, ap, subst, ◌∙◌}
 use Rattle.edge_traits.specs.Disk.{Leaves}
 use Rattle.edge_traits.proofs.Moments.{run_on, widened}
 use Rattle.store_image.specs.Stands.{StandsFor}
@@ -19,6 +19,13 @@ pub returns-in-Ok-clause-completed : goal.returns-in-Ok-clause-completed
 returns-in-Ok-clause-completed g c = λ files after told now.
     completed_before c.complete_outputs.result (g.D.Disk.may_leave c.complete_outputs.new.self.disk) c.args.self.now.state.outs c.flush.new.self.state.outs (g.D.Disk.disk c.args.self.now.disk).told (g.D.Disk.disk c.flush.new.self.disk).told
     files after (ap (λ b. b.state.outs) c.in-Ok.ensures.ok) (outs_rest c.args.self.now.generation _ _ c.flush.ensures.elsewhere) told (λ before was. c.complete_outputs.ensures.completed before after was now)
+
+pub returns-in-Ok-clause-sound : goal.returns-in-Ok-clause-sound
+returns-in-Ok-clause-sound g c = λ first past kept. c.complete_outputs.ensures.sound first past (c.flush.ensures.kept first past kept)
+
+pub returns-in-Ok-clause-written : goal.returns-in-Ok-clause-written
+returns-in-Ok-clause-written g c = λ first history now none.
+    c.complete_outputs.ensures.written first history (ap (λ b. b.kept) c.in-Ok.ensures.ok ∙ ap (λ b. length b.steps) (sym c.in-Ok.ensures.ok)) now none
 
 pub returns-in-Ok-clause-any_moment : goal.returns-in-Ok-clause-any_moment
 returns-in-Ok-clause-any_moment g c = λ first past kept.

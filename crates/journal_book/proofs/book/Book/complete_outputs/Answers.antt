@@ -1,11 +1,18 @@
-use Rattle.std.proofs.Common.{◌≡◌, ◌++◌, Bool, false, take, refl, sym, ◌∙◌, ap, subst}
+use Rattle.std.proofs.Common.{◌≡◌, ◌++◌, List, [], length, Bool, false, take, take_all, refl, sym, ◌∙◌, ap, subst, arith}
+use Rattle.std.proofs.Math.Seq.{take-nil}
+use Rattle.std.proofs.lemmas.List.{append-nil}
 use Rattle.std.proofs.lemmas.Bool.{false_from_ne_true}
 use Rattle.edge_traits.specs.Disk.{Leaves}
-use Rattle.store_image.specs.Stands.{StandsFor}
+use Rattle.step_code.specs.declared.step.Step.{Step}
+use Rattle.store_image.specs.Files.{out_file}
+use Rattle.store_image.specs.Stands.{Stands, StandsFor}
+use Rattle.store_image.specs.Stored.{IsStored}
 use Rattle.journal_book.specs.Book.{BookView, durable_steps, waiting_steps, IsKept}
 use Rattle.journal_book.specs.Outputs.{AreCompleted, IsBringUpFault}
 use Rattle.journal_book.proofs.Completing.{fault_is_one}
-use Rattle.journal_book.proofs.Sealing.{kept_later, outs_leave, rest_completed}
+use Rattle.journal_book.proofs.Flushing.{stored_now}
+use Rattle.journal_book.proofs.Sealing.{are_fronts, begin, kept_later, outs_leave, rest_completed}
+use Rattle.journal_book.proofs.WholeFiles.{before_told, no_damage, whole_files}
 use Rattle.journal_book.proofs.book.Book.complete_outputs.Goals as goal
 
 pub invariant_of-self : goal.invariant_of-self
@@ -39,6 +46,30 @@ pub returns-in-Ok-clause-completed : goal.returns-in-Ok-clause-completed
 returns-in-Ok-clause-completed g c = λ files after told now.
     subst (λ (b : BookView g.row.D.Denot g.row.R.Denot). AreCompleted (g.D.Disk.may_leave c.complete_all.new.disk) b.state.outs files after) c.self.view_is
     (c.in-Ok.ensures.completed files after (ap (λ b. (g.D.Disk.disk b.disk).told) c.self.view_is ∙ told) now)
+
+pub returns-in-Ok-clause-written : goal.returns-in-Ok-clause-written
+returns-in-Ok-clause-written g c = λ first history durable now none.
+    let m = g.R.Rules.meaning in
+    let i = c.self.inside in
+    let disk = c.complete_all.new.disk in
+    let leaves = g.D.Disk.may_leave disk in
+    let honest = g.met.D.Disk.honest disk now.files now.tells in
+    let rest =
+    rest_completed g.D.Disk.disk g.D.Disk.may_leave g.D.Disk.left_since i.disk disk i.core.state.outs i.root i.journal i.generation i.base.value (take i.durable i.steps) now.files (g.D.Disk.disk i.disk).told
+    refl now.tells c.self.invariant.0 c.complete_all.ensures.run (c.self.invariant.5 (ap (λ b. b.broken) c.self.view_is ∙ c.requires.whole)) in
+    let all : take i.durable i.steps ≡ i.steps =
+    take_all i.durable i.steps (omega (arith, ap (λ b. b.kept) c.self.view_is, ap (λ b. length b.steps) c.self.view_is, durable)) in
+    let stored = subst (λ (ss : List Step). IsStored now.files i.generation i.base.value ss) all
+    (stored_now leaves i.root i.journal i.generation i.base.value (take i.durable i.steps) now.files honest c.self.invariant.0 c.self.invariant.1.writable rest now.files honest) in
+    let told_before = before_told (g.D.Disk.disk i.disk).told (g.D.Disk.disk disk).told now.files c.complete_all.ensures.run.untold now.tells in
+    let stands = now.each now.files honest in
+    let history_is : history ++ take stands.count [] ≡ history = ap (λ ss. history ++ ss) (take-nil stands.count) ∙ append-nil history in (
+      now.files,
+      now.tells,
+      whole_files m first history i.generation i.base.value i.steps i.core.state leaves told_before.0 now.files none
+          (subst (λ (h : List Step). Stands m first now.files h) history_is stands.stands) stored c.self.invariant.1.behind
+          (c.in-Ok.ensures.completed told_before.0 now.files told_before.1 now.tells),
+    )
 
 pub returns-in-Ok-clause-kept : goal.returns-in-Ok-clause-kept
 returns-in-Ok-clause-kept g c = λ first past kept.
@@ -92,3 +123,15 @@ returns-in-Err-clause-any_moment g c = λ first past kept.
     let run = outs_leave g.D.Disk.disk g.D.Disk.may_leave g.D.Disk.left_since g.R.Rules.meaning _ i.root i.journal here.files (g.met.D.Disk.honest i.disk here.files here.tells) c.self.invariant.0 c.self.invariant.1.writable rest
     first past here c.complete_all.new.disk i.core.state i.steps here.tells c.self.invariant.1.behind c.complete_all.ensures.run in
     subst (λ (b : BookView g.row.D.Denot g.row.R.Denot). Leaves g.D.Disk.disk g.D.Disk.left_since b.disk c.complete_all.new.disk (StandsFor g.R.Rules.meaning first (past ++ durable_steps b) (waiting_steps b))) c.self.view_is run
+
+pub returns-in-Err-clause-sound : goal.returns-in-Err-clause-sound
+returns-in-Err-clause-sound g c = λ first past kept.
+    let m = g.R.Rules.meaning in
+    let i = c.self.inside in
+    let here = subst (λ (b : BookView g.row.D.Denot g.row.R.Denot). IsKept g.D.Disk.disk g.D.Disk.may_leave m first past b) (sym c.self.view_is) kept in
+    let rest = c.self.invariant.5 (ap (λ b. b.broken) c.self.view_is ∙ c.requires.whole) here.files here.tells in
+    let honest = g.met.D.Disk.honest i.disk here.files here.tells in
+    let begins = begin g.D.Disk.disk g.D.Disk.may_leave g.D.Disk.left_since m _ i.root i.journal here.files honest c.self.invariant.0 c.self.invariant.1.writable rest first past here in
+    let long = are_fronts g.D.Disk.disk g.D.Disk.may_leave g.D.Disk.left_since m _ i.root i.journal here.files honest c.self.invariant.0 c.self.invariant.1.writable rest first past here
+    i.core.state i.steps c.self.invariant.1.behind in
+    no_damage i.core.state.outs _ here.files (g.D.Disk.disk i.disk).told c.in-Err.fault here.tells long (λ k. begins k (here.files (out_file k)) (honest (out_file k))) c.in-Err.ensures.fault

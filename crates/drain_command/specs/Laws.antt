@@ -1,0 +1,63 @@
+-- What holds of a drain that nothing hinders.
+use Rattle.std.specs.Prelude.{◌≡◌, ℕ, List, None, Some}
+use Rattle.edge_traits.specs.Disk.{DiskView, Image}
+use Rattle.edge_traits.specs.Sink.{SinkView}
+use Rattle.step_code.specs.declared.base.Base.{Base}
+use Rattle.step_code.specs.declared.step.Step.{Step}
+use Rattle.store_image.specs.Opens.{Opens}
+use Rattle.journal_book.specs.Opening.{StandsNow}
+use Rattle.drain_turns.specs.Drained.{behind_all}
+use Rattle.drain_turns.specs.Laws.{IsFree}
+use Rattle.drain_turns.specs.Turn.{Outside}
+use Rattle.drain_turns.specs.declared.end.TurnsEnd.{TurnsEnd}
+use Rattle.drain_turns.specs.declared.end.TurnsEnd.TheVariants as last
+use Rattle.drain_command.specs.Drained.{start, Drained, IsDrainCall}
+use Rattle.drain_command.specs.declared.draining.Asked.{Asked}
+use Rattle.drain_command.specs.declared.end.DrainEnd.{DrainEnd}
+use Rattle.drain_command.specs.declared.end.DrainEnd.TheVariants as end
+
+-- turns ended because nothing was left to do, or a feed failed
+abbrev pub EndIdly : TurnsEnd → Type 0
+EndIdly last.Idle = Unit {0}
+EndIdly (last.Failed name) = Unit {0}
+EndIdly last.Left = ⊥
+EndIdly (last.Absent name) = ⊥
+EndIdly (last.Short have need) = ⊥
+EndIdly (last.LongLine bot line) = ⊥
+EndIdly (last.LongFeed bot) = ⊥
+EndIdly (last.Halted bot) = ⊥
+EndIdly (last.Spent next) = ⊥
+EndIdly (last.Full bytes) = ⊥
+EndIdly last.Disk = ⊥
+EndIdly last.Memory = ⊥
+
+-- a drain did all that there was to do, or the outside or memory failed: of the outside the counts of faults tell
+abbrev pub EndsIdly : DrainEnd → Type 0
+EndsIdly (end.Turns why) = EndIdly why
+EndsIdly end.Memory = Unit {0}
+EndsIdly end.Disk = Unit {0}
+EndsIdly end.Sink = Unit {0}
+EndsIdly (end.Store have) = ⊥
+EndsIdly (end.Damaged file at) = ⊥
+
+-- nothing hinders a drain: it may make any number of steps, the shelf and the disk tell what they have, the store opens and stands
+-- for a history, and where the drain comes to, nothing is in its way
+pub record IsUnhindered {D : Type 0} (disk : D → DiskView) (may_leave : D → ℕ → List ℕ → Type 0) (left_since : D → ℕ → Image → Type 0) (o : Outside) (feeds : List (List ℕ × List ℕ)) (files : Image) (asked : Asked) (old new : D) : Type 0 where
+  pub unbound : asked.left ≡ None
+  pub shelf : o.shelf.told ≡ Some feeds
+  pub disk_tells : (disk old).told ≡ Some files
+  pub generation : ℕ
+  pub base : Base
+  pub read : List Step
+  pub opens : Opens o.meaning files generation base read
+  pub first : Base
+  pub steps : List Step
+  pub more : List Step
+  pub stands : StandsNow disk may_leave o.meaning first steps more old
+  pub free : (why : TurnsEnd) (d : Drained disk may_leave left_since o files asked old new why) → IsFree o feeds (behind_all o.meaning (start o.meaning d.base d.read asked) d.made)
+
+-- such a drain does all that there is to do
+abbrev pub FreeDrainsEndIdle : {D : Type 0} → (D → DiskView) → (D → ℕ → List ℕ → Type 0) → (D → ℕ → Image → Type 0) → Type 0
+FreeDrainsEndIdle {D} disk may_leave left_since =
+    (o : Outside) (feeds : List (List ℕ × List ℕ)) (files : Image) (asked : Asked) (old new : D) (e : DrainEnd) (before after : SinkView) → IsUnhindered disk may_leave left_since o feeds files asked old new
+    → IsDrainCall disk may_leave left_since o files asked old new e before after → EndsIdly e

@@ -1,0 +1,15 @@
+use Rattle.std.proofs.Common.{refl}
+use Rattle.edge_traits.proofs.Outputs.{Took-nothing}
+use Rattle.store_commands.specs.declared.end.StoreEnd.TheVariants as end
+use Rattle.pipeline_top.proofs.Still.{still_here}
+use Rattle.pipeline_top.proofs.drilling.drill.Goals as goal
+
+pub returns-in-Err-clause-drilled : goal.returns-in-Err-clause-drilled
+returns-in-Err-clause-drilled g c = λ shelf. record {
+  mid = c.args.disk;
+  making = end.Memory;
+  made = λ files told. tt;
+  begun = λ files told done. absurd (cc (done));
+  left_alone = still_here g.D.Disk.disk g.D.Disk.may_leave g.D.Disk.left_since c.args.disk (g.met.D.Disk.only_now c.args.disk);
+  done = (refl, refl, Took-nothing (g.S.Sink.sink c.args.out.now));
+}

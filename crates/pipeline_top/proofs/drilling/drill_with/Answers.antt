@@ -1,0 +1,49 @@
+use Rattle.std.proofs.Common.{◌≡◌, ◌≢◌, ℕ, List, refl, sym, ap, subst}
+use Rattle.edge_traits.proofs.Outputs.{Took-nothing}
+use Rattle.bot_rules.specs.Intel.{intel}
+use Rattle.drill_feed.specs.Drill.{drill_shelf}
+use Rattle.store_commands.specs.Begun.{IsBegun, IsNewStore}
+use Rattle.store_commands.specs.declared.end.StoreEnd.{StoreEnd}
+use Rattle.store_commands.specs.declared.end.StoreEnd.TheVariants as end
+use Rattle.pipeline_top.specs.Commands.{IsDrillEnd}
+use Rattle.pipeline_top.proofs.Still.{ends_sink, no_rise, not_drilled}
+use Rattle.pipeline_top.proofs.drilling.drill_with.Goals as goal
+
+pub returns-then-lacks_store-clause-drilled : goal.returns-then-lacks_store-clause-drilled
+returns-then-lacks_store-clause-drilled g c = λ other lines number is.
+    let making = c.make_store-end.result.0 in
+    let mid = c.make_store-end.result.1 in
+    let sink = g.S.Sink.sink c.args.out.now in
+    let lacks : making ≢ end.Done = λ same. cc (c.lacks_store.ensures.1 same, c.if-lacks_store.true) in
+    record {
+      mid = mid;
+      making = making;
+      made = λ files told. subst (λ (code : List ℕ). IsNewStore intel files code making) c.requires.bundle (c.make_store-end.ensures.made files told);
+      begun = λ files told done. subst (λ (code : List ℕ). IsBegun g.D.Disk.disk g.D.Disk.may_leave intel code mid) c.requires.bundle (c.make_store-end.ensures.stands files told done);
+      left_alone = λ first steps more was. c.make_store-end.ensures.left_alone first steps more was;
+      done = not_drilled g.D.Disk.disk g.D.Disk.may_leave g.D.Disk.left_since lines number (record { shelf = other; sink = sink; sink_now = sink; clock = g.C.Clock.told c.args.clock.now }) mid mid c.store_status.result making lacks
+          (c.store_status.ensures, refl, Took-nothing sink);
+    }
+
+pub returns-then-lacks_store-clause-sink : goal.returns-then-lacks_store-clause-sink
+returns-then-lacks_store-clause-sink g c = λ sink. absurd (c.make_store-end.ensures.unprinted (ends_sink c.make_store-end.result.0 c.store_status.result c.store_status.ensures sink))
+
+pub returns-clause-drilled : goal.returns-clause-drilled
+returns-clause-drilled g c = λ other lines number is.
+    let making = c.make_store-end.result.0 in
+    let mid = c.make_store-end.result.1 in
+    let drained = c.drain_with-drained in
+    let made_one : making ≡ end.Done = c.lacks_store.ensures.0 c.if-lacks_store.false in
+    record {
+      mid = mid;
+      making = making;
+      made = λ files told. subst (λ (code : List ℕ). IsNewStore intel files code making) c.requires.bundle (c.make_store-end.ensures.made files told);
+      begun = λ files told done. subst (λ (code : List ℕ). IsBegun g.D.Disk.disk g.D.Disk.may_leave intel code mid) c.requires.bundle (c.make_store-end.ensures.stands files told done);
+      left_alone = λ first steps more was. c.make_store-end.ensures.left_alone first steps more was;
+      done = subst (λ (e : StoreEnd). IsDrillEnd g.D.Disk.disk g.D.Disk.may_leave g.D.Disk.left_since lines number
+          (record { shelf = other; sink = g.S.Sink.sink c.args.out.now; sink_now = g.S.Sink.sink drained.new.out; clock = g.C.Clock.told c.args.clock.now }) mid drained.result.1 drained.result.0 e) (sym made_one)
+          (drained.ensures.drained (drill_shelf lines number) (ap (λ v. v.told) is));
+    }
+
+pub returns-clause-feed : goal.returns-clause-feed
+returns-clause-feed g c = λ name is. no_rise _ _ (c.drills_never_fail.ensures name) (c.drain_with-drained.ensures.counts name) (c.drain_with-drained.ensures.failed name is)
