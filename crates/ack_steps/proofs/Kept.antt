@@ -1,5 +1,5 @@
 -- What the core needs of its numbers, and keeps.
-use Rattle.std.proofs.Common.{◌≡◌, ◌+◌, ◌≤◌, ◌<◌, ℕ, suc, is_some, List, [], ◌∷◌, ◌++◌, map, flat_map, Option, Some, None, find, option_map, unwrap_or, refl, sym, ◌∙◌, ap, subst, arith}
+use Rattle.std.proofs.Common.{◌≡◌, ◌+◌, ◌≤◌, ◌<◌, ℕ, suc, Bool, false, is_some, List, [], ◌∷◌, ◌++◌, map, flat_map, Option, Some, None, find, option_and_then, option_map, unwrap_or, refl, sym, ◌∙◌, ap, subst, arith}
 use Rattle.std.specs.List.{AllByRecursion}
 use Rattle.std.specs.List.Sorted.{IsSorted, IsSortedByKey}
 use Rattle.std.specs.Ordering.{is_lt, nat_cmp}
@@ -12,25 +12,29 @@ use Rattle.base_types.specs.declared.message.FaultNote.{FaultNote}
 use Rattle.base_types.specs.declared.message.Moment.{Moment}
 use Rattle.stored_types.specs.declared.message.Dump.{Dump}
 use Rattle.stored_types.specs.declared.hand.Hand.{Hand}
+use Rattle.stored_types.specs.Mark.{fresh, is_marked}
 use Rattle.base_types.specs.Number.{last_u64}
 use Rattle.base_types.proofs.Everywhere.{all-append, all_found, all_wider}
 use Rattle.step_code.specs.declared.base.Base.{Base}
 use Rattle.step_code.specs.declared.cache.BotCache.{BotCache}
 use Rattle.step_code.specs.declared.feed.Feed.{Feed}
+use Rattle.step_code.specs.declared.rules.CacheRule.{CacheRule}
 use Rattle.step_code.specs.declared.rules.Facts.{Facts}
 use Rattle.step_code.specs.declared.step.StepKind.TheVariants as kind
 use Rattle.step_code.specs.declared.step.StepRefusal.TheVariants as refusal
-use Rattle.step_code.specs.After.{after, instances_of, numbered}
+use Rattle.step_code.specs.After.{after, cache_rule, instances_of, numbered}
+use Rattle.step_code.specs.Content.{IsMarkAndLine, is_duplicate, live_marks}
 use Rattle.step_code.specs.Fits.{Fits, first_failing, retries_of}
 use Rattle.step_code.specs.Places.{standing}
 use Rattle.step_code.specs.Rules.{Meaning, AreSound, IsSoundBot, bot_named}
 use Rattle.step_code.specs.Sound.{IsSound, IsSoundCache, IsSoundHand, last_number}
 use Rattle.step_code.specs.Spent.{last_given}
-use Rattle.step_code.specs.State.{bots_in_force, bots_of, hand_of, is_feed, tries_of}
+use Rattle.step_code.specs.State.{bots_in_force, bots_of, hand_of, is_cache, is_feed, marks_of, tries_of}
 use Rattle.step_code.proofs.Parts.{retry_fits}
 use Rattle.step_code.proofs.GivenBack.{kept-all_given_back}
 use Rattle.ack_steps.specs.Core.{reload_of, HasNearFeeds, HasSmallNumbers, HasSoundHands, IsOrderly}
-use Rattle.core_state.specs.Caches.{AreInOrder}
+use Rattle.dedup_cache.specs.Cache.{ArePast, DoNotFall, HaveOwnKeys}
+use Rattle.core_state.specs.Caches.{AreCaches}
 use Rattle.core_state.specs.Room.{AreAbove}
 
 all_behind : (P : ℕ → Type 0) (xs ys : List ℕ) → AllByRecursion P (xs ++ ys) → AllByRecursion P ys
@@ -62,19 +66,20 @@ by_moment marks sorted k d low high =
     let earlier = get_or-map moment marks k d (moment d) (omega (arith, high)) in
     sym (λ i. is_lt (nat_cmp (later i) (earlier i))) ∙ sorted k (moment d) low (omega (arith, high, length-map marks moment))
 
-sound_marks : (latest : ℕ) (c : BotCache) → IsSoundCache latest c → AreInOrder latest c.marks
-sound_marks latest c sound = record {
-  order = IsNonDecreasingBy-from_sort (λ (mark : Mark). mark.moment.0) c.marks (by_moment c.marks sound.order);
-  past = All-from_recursion (λ (mark : Mark). mark.moment.0 ≤ latest) c.marks sound.past;
-}
+-- the marks of a sound cache can be held
+sound_marks : (latest : ℕ) (c : BotCache) → IsSoundCache latest c → DoNotFall c.marks × HaveOwnKeys c.marks
+sound_marks latest c sound = (IsNonDecreasingBy-from_sort (λ (mark : Mark). mark.moment.0) c.marks (by_moment c.marks sound.order), sound.keys)
 
--- a sound state has room for numbers, and its marks stand in order
+pub sound_caches : (m : Meaning) (b : Base) → IsSound m b → AreCaches b.caches
+sound_caches m b sound = all_wider (IsSoundCache b.latest.0) (λ c. DoNotFall c.marks × HaveOwnKeys c.marks) b.caches (sound_marks b.latest.0) sound.state.each_cache
+
+-- a sound state has room for numbers, and none of its marks is later than the latest moment
 pub sound_orderly : (m : Meaning) (b : Base) → IsSound m b → IsOrderly b
 sound_orderly m b sound = record {
   dumps = all_wider (λ (d : Dump). (1 ≤ d.no) × (d.no < b.next_dump)) (λ d. d.no < b.next_dump) b.dumps (λ d both. both.1) sound.state.each_dump;
   rounds = all_wider (λ (f : Feed). f.round ≤ last_number) (λ f. f.round ≤ last_number + b.steps) b.feeds (λ f within. omega (arith, within))
       (rounds_within b.feeds (all_behind (λ n. n ≤ last_number) (other_numbers b) (flat_map (λ (f : Feed). f.round ∷ f.position ∷ []) b.feeds) sound.state.numbers));
-  marks = all_wider (IsSoundCache b.latest.0) (λ c. AreInOrder b.latest.0 c.marks) b.caches (sound_marks b.latest.0) sound.state.each_cache;
+  marks = all_wider (IsSoundCache b.latest.0) (λ c. ArePast b.latest.0 c.marks) b.caches (λ c sound. All-from_recursion (λ (mark : Mark). mark.moment.0 ≤ b.latest.0) c.marks sound.past) sound.state.each_cache;
 }
 
 -- so are its hands those of live instances
@@ -135,3 +140,20 @@ numbered_above front next dump bot now (item ∷ items) below =
       numbered_above (front ++ new ∷ []) (suc next) (suc dump) bot now items
           (all-append (λ (d : Dump). d.no < suc dump) front (new ∷ []) (all_wider (λ (d : Dump). d.no < dump) (λ d. d.no < suc dump) front (λ d less. omega (arith, less)) below) (omega arith, tt)),
     )
+
+-- no mark of a bot is later than a moment that none is later than
+pub marks_past : (latest now : ℕ) (bot : List ℕ) (caches : List BotCache) → latest ≤ now → AllByRecursion (λ c. ArePast latest c.marks) caches → ArePast now (marks_of bot caches)
+marks_past latest now bot caches later past = go (find (is_cache bot) caches) refl
+  where
+    go : (found : Option BotCache) → find (is_cache bot) caches ≡ found → ArePast now (unwrap_or (option_map (λ c. c.marks) found) [])
+    go None is k d inside = absurd (omega (arith, inside))
+    go (Some c) is k d inside = omega (arith, all_found (λ (b : BotCache). ArePast latest b.marks) (is_cache bot) caches c past is k d inside, later)
+
+-- the key that a step marks doesn't count yet
+pub marked_anew : (m : Meaning) (s : Base) (bots : List Facts) (bot : List ℕ) (now : ℕ) (key : Option (List ℕ)) (line : Bool) (rule : Option CacheRule) → m.facts s.bundle ≡ Some bots
+    → rule ≡ option_and_then (λ f. f.cache) (bot_named bot bots) → IsMarkAndLine m s bot now key line
+    → (r : CacheRule) (k : List ℕ) → rule ≡ Some r → key ≡ Some k → is_marked k (fresh r.ttl now (marks_of bot s.caches)) ≡ false
+marked_anew m s bots bot now key line rule loads by_plan shows r k has marks =
+    let in_force : bots_in_force m s ≡ bots = ap (λ o. unwrap_or o []) loads in
+    let drops : cache_rule m s bot ≡ Some r = ap (λ (l : List Facts). option_and_then (λ f. f.cache) (bot_named bot l)) in_force ∙ sym by_plan ∙ has in
+    subst (λ (o : Option CacheRule). is_marked k (live_marks o bot now s) ≡ false) drops (subst (λ (o : Option (List ℕ)). is_duplicate m s bot now o ≡ false) marks shows.fresh_key)

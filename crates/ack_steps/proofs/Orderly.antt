@@ -19,8 +19,8 @@ use Rattle.step_code.specs.Rules.{Meaning, collects, is_collector}
 use Rattle.step_code.specs.Sound.{last_number}
 use Rattle.step_code.specs.State.{bots_in_force, bots_of, is_dump, is_feed, new_feed, waiting}
 use Rattle.step_code.proofs.GivenBack.{kept-all_given_back}
-use Rattle.core_state.specs.Caches.{AreInOrder}
-use Rattle.core_state.proofs.InOrder.{in_order_cached}
+use Rattle.dedup_cache.specs.Cache.{ArePast}
+use Rattle.core_state.proofs.Past.{past_cached}
 use Rattle.ack_steps.specs.Core.{IsOrderly}
 
 -- numbers below one are below a greater one
@@ -82,19 +82,19 @@ parts_of s = record { dumps = s.dumps; next_dump = s.next_dump; steps = s.steps;
 record AreOrderly (p : Parts) : Type 0 where
   dumps : AreBelow p.next_dump p.dumps
   rounds : AreUpTo p.steps p.feeds
-  marks : AllByRecursion (λ c. AreInOrder p.latest.0 c.marks) p.caches
+  marks : AllByRecursion (λ c. ArePast p.latest.0 c.marks) p.caches
 
 -- marks that aren't after a moment aren't after a later one
-marks_later : (before now : ℕ) (caches : List BotCache) → before ≤ now → AllByRecursion (λ c. AreInOrder before c.marks) caches → AllByRecursion (λ c. AreInOrder now c.marks) caches
+marks_later : (before now : ℕ) (caches : List BotCache) → before ≤ now → AllByRecursion (λ c. ArePast before c.marks) caches → AllByRecursion (λ c. ArePast now c.marks) caches
 marks_later before now caches later kept =
-    all_wider (λ (c : BotCache). AreInOrder before c.marks) (λ c. AreInOrder now c.marks) caches
-    (λ c marks. record { order = marks.order; past = λ k d inside. omega (arith, marks.past k d inside, later) }) kept
+    all_wider (λ (c : BotCache). ArePast before c.marks) (λ c. ArePast now c.marks) caches
+    (λ c past k d inside. omega (arith, past k d inside, later)) kept
 
 orderly_by : (s t : Base) → t.steps ≡ s.steps + 1 → t.dumps ≡ s.dumps → t.next_dump ≡ s.next_dump → t.feeds ≡ s.feeds → t.caches ≡ s.caches → s.latest.0 ≤ t.latest.0 → IsOrderly s → IsOrderly t
 orderly_by s t steps dumps next feeds caches later b = record {
   dumps = subst (λ n. AreBelow n t.dumps) (sym next) (subst (AreBelow s.next_dump) (sym dumps) b.dumps);
   rounds = subst (λ n. AreUpTo n t.feeds) (sym steps) (subst (AreUpTo (s.steps + 1)) (sym feeds) (up_to_more s.steps s.feeds b.rounds));
-  marks = subst (AllByRecursion (λ (c : BotCache). AreInOrder t.latest.0 c.marks)) (sym caches) (marks_later s.latest.0 t.latest.0 s.caches later b.marks);
+  marks = subst (AllByRecursion (λ (c : BotCache). ArePast t.latest.0 c.marks)) (sym caches) (marks_later s.latest.0 t.latest.0 s.caches later b.marks);
 }
 
 pub orderly_after : (m : Meaning) (s : Base) (now : Moment) (what : StepKind) → s.latest.0 ≤ now.0 → IsOrderly s → IsOrderly (after m s (record { moment = now; what = what }))
@@ -118,7 +118,7 @@ orderly_after m s now (kind.Done bot instance message bundle sends dumps key lin
   dumps = all-append (λ (d : Dump). d.no < s.next_dump + length dumps) s.dumps (numbered (s.next_message + length sends) s.next_dump bot now dumps)
       (below_more s.next_dump (s.next_dump + length dumps) s.dumps (omega arith) b.dumps) (numbered_below (s.next_message + length sends) s.next_dump bot now dumps);
   rounds = up_to_more s.steps s.feeds b.rounds;
-  marks = in_order_cached (cache_rule m s bot) bot now key s.caches (marks_later s.latest.0 now.0 s.caches later b.marks);
+  marks = past_cached now (cache_rule m s bot) bot key s.caches (marks_later s.latest.0 now.0 s.caches later b.marks);
 }
 orderly_after m s now (kind.Retry bot instance message bundle fault) later b = orderly_by s _ refl refl refl refl refl later b
 orderly_after m s now (kind.Fail bot instance message bundle fault queues halts) later b = record {

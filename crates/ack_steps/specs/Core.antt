@@ -13,7 +13,7 @@ use Rattle.step_code.specs.Rules.{Meaning}
 use Rattle.step_code.specs.Sound.{IsSoundHand, is_same_hand, last_number}
 use Rattle.step_code.specs.Spent.{last_given}
 use Rattle.step_code.specs.State.{bots_in_force}
-use Rattle.core_state.specs.Caches.{AreInOrder}
+use Rattle.dedup_cache.specs.Cache.{ArePast}
 use Rattle.core_state.specs.Room.{HaveDumpsBelow}
 
 -- the rules that it goes by, and the state
@@ -28,12 +28,12 @@ pub record HasSmallNumbers (s : Base) : Type 0 where
   pub dumps : s.next_dump ≤ last_given + 1
   pub bundles : s.bundle_no ≤ last_given
 
--- what the core keeps of its state: dumps have numbers below the next one, a round ended a step before the next, and the
--- marks of each cache stand in the order of their moments, none of them later than the latest
+-- what the core keeps of its state: dumps have numbers below the next one, a round ended a step before the next, and no mark
+-- of a cache is later than the latest moment
 pub record IsOrderly (s : Base) : Type 0 where
   pub dumps : HaveDumpsBelow s
   pub rounds : AllByRecursion (λ f. f.round ≤ last_number + s.steps) s.feeds
-  pub marks : AllByRecursion (λ c. AreInOrder s.latest.0 c.marks) s.caches
+  pub marks : AllByRecursion (λ c. ArePast s.latest.0 c.marks) s.caches
 
 -- no two queues have one name, no two full hands are one instance's, and each hand is sound: that of a live instance of the
 -- bundle in force, whose bot has a queue, with a message that was tried again at most a hundred times

@@ -1,11 +1,14 @@
 //! The step of a bot that is done with a message: successors, dumps, mark, line and acknowledgement are one.
-ghost use Rattle.std.specs.Prelude.{◌≡◌, ◌+◌, ◌≤◌, ◌++◌, true, false, length, OnOk, OnErr};
+ghost use Rattle.std.specs.Prelude.{◌≡◌, ◌+◌, ◌≤◌, ◌++◌, true, false, ℕ, List, length, Some, OnOk, OnErr};
 ghost use Rattle.base_types.specs.Lists.{without};
 ghost use Rattle.stored_types.specs.Hand.{is_hand};
+ghost use Rattle.stored_types.specs.Mark.{fresh, is_marked};
+ghost use Rattle.step_code.specs.declared.rules.CacheRule.{CacheRule};
 ghost use Rattle.step_code.specs.After.{body_in_hand, cached, dumped, sent, written};
 ghost use Rattle.step_code.specs.Spent.{last_given};
+ghost use Rattle.step_code.specs.State.{marks_of};
 ghost use Rattle.ack_steps.specs.Held.{IsHeld};
-ghost use Rattle.core_state.specs.Caches.{HaveOrder};
+ghost use Rattle.dedup_cache.specs.Cache.{ArePast};
 ghost use Rattle.core_state.specs.Outputs.{HasLineRoom, HaveLengths};
 ghost use Rattle.core_state.specs.Room.{AreAbove, HasRoom, HaveDumpsBelow};
 ghost use Rattle.core_state.specs.State.{state_of};
@@ -109,7 +112,8 @@ pub fn done(
 ) -> Result<(), OutOfMemory>
     requires held { IsHeld held.bot held.instance held.message (state_of state.old) }
     requires below { HaveDumpsBelow (state_of state.old) }
-    requires order { HaveOrder (state_of state.old).caches }
+    requires past { ArePast held.now.0 (marks_of held.bot (state_of state.old).caches) }
+    requires new { (r : CacheRule) (k : List ℕ) → rule ≡ Some r → made.key.now ≡ Some k → is_marked k (fresh r.ttl held.now.0 (marks_of held.bot (state_of state.old).caches)) ≡ false }
     requires messages { state.old.next_message + length made.sends.now + length made.dumps.now ≤ last_given + 1 }
     requires dumps { state.old.next_dump + length made.dumps.now ≤ last_given + 1 }
     ensures ok { OnOk result (state_of state.new ≡ dumped held.bot held.now made.entry.dumps.now (sent made.entry.sends.now (record (state_of state.old) {

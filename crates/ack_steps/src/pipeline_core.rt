@@ -1,7 +1,7 @@
 ghost use Rattle.std.specs.Prelude.{◌≡◌, ◌↔◌, ◌≤◌, ◌^◌, ◌+◌, true, List, length, vec_capacity, ℕ, Option, None, IfOk, IfErr, OnOk, OnErr, IsErrOf};
 ghost use Rattle.step_code.specs.declared.step.StepKind.TheVariants as kind;
 ghost use Rattle.step_code.specs.After.{acted, after, reports};
-ghost use Rattle.step_code.specs.Content.{IsInTime, MayReplay};
+ghost use Rattle.step_code.specs.Content.{IsInTime, MayReplay, Shows};
 ghost use Rattle.step_code.specs.Fits.{Fits, first_failing, parts};
 ghost use Rattle.step_code.specs.Rules.{IsPlanOf, is_collector, last_moment};
 ghost use Rattle.step_code.specs.Sound.{IsSound};
@@ -130,6 +130,7 @@ fn act<R: Rules>(
     requires plan { IsPlanOf R.meaning state.old.bundle (R.bots_of plan.now) }
     requires fits { Fits R.meaning (state_of state.old) step.now }
     requires time { IsInTime (state_of state.old) step.now }
+    requires content { Shows R.meaning (state_of state.old) step.now.moment.0 step.now.what }
     requires small { HasSmallNumbers (after R.meaning (state_of state.old) step.now) }
     requires orderly { IsOrderly (state_of state.old) }
     requires kind { IsNoReload step.now.what }
@@ -209,6 +210,7 @@ fn act_and_count<R: Rules>(
     requires plan { IsPlanOf R.meaning state.old.bundle (R.bots_of plan.now) }
     requires fits { Fits R.meaning (state_of state.old) step.now }
     requires time { IsInTime (state_of state.old) step.now }
+    requires content { Shows R.meaning (state_of state.old) step.now.moment.0 step.now.what }
     requires small { HasSmallNumbers (after R.meaning (state_of state.old) step.now) }
     requires orderly { IsOrderly (state_of state.old) }
     requires kind { IsNoReload step.now.what }

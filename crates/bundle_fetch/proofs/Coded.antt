@@ -10,7 +10,7 @@ use Rattle.std.specs.Ordering.{is_lt}
 use Rattle.base_types.proofs.Places.{lt_of, order}
 use Rattle.config_bundle.specs.Bundle.{names_rise, IsBundle, IsFile}
 use Rattle.config_bundle.specs.declared.bundle.Bundle.{Bundle}
-use Rattle.runtime_config.specs.Parameters.{is_file_name}
+use Rattle.module_settings.specs.Parameters.{is_file_name}
 use Rattle.bundle_fetch.specs.Fetch.{kept_file, kept_runtime, Files}
 use Rattle.bundle_fetch.specs.Front.{IsKeptFile}
 

@@ -1,5 +1,5 @@
 mod Brought
-pub mod InOrder
 mod Lists
 pub mod Numbered
+pub mod Past
 mod Seen

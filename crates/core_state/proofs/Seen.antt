@@ -1,9 +1,13 @@
 -- Items of a vector that stand for entries of a list: the first entry that passes, by the place of its item.
-use Rattle.std.proofs.Common.{◌≡◌, ◌<◌, ℕ, zero, suc, subst, Bool, List, [], ◌∷◌, ◌++◌, length, get_or, set, map, Some, None, sym, ◌∙◌, ap, arith, find, position, Result, Ok, Err, OnOk, OnErr}
+use Rattle.std.proofs.Common.{◌≡◌, ◌<◌, ℕ, zero, suc, subst, Bool, List, [], ◌∷◌, ◌++◌, length, get_or, set, map, Option, Some, None, option_map, unwrap_or, sym, ◌∙◌, ap, arith, find, position, Result, Ok, Err, OnOk, OnErr}
 use Rattle.std.proofs.lemmas.List.{get_or-map, length-map, map-set}
 use Rattle.std.proofs.Math.Seq.{map-set_same}
 use Rattle.std.specs.List.{AllByRecursion}
 use Rattle.base_types.specs.Lists.{changed, changed_or_added}
+use Rattle.step_code.specs.declared.cache.BotCache.{BotCache}
+use Rattle.step_code.specs.State.{is_cache, marks_of}
+use Rattle.core_state.specs.declared.caches.Marks.{Marks}
+use Rattle.core_state.specs.Caches.{cache_of, caches_of, has_bot}
 use Rattle.base_types.proofs.Found.{IsFirst, IsNowhere, first_at, nowhere, find_first, find_nowhere, changed_first, changed_nowhere, added_first, added_nowhere}
 
 module _ {A B : Type 0} (view : A → B) (p : B → Bool) where
@@ -51,6 +55,14 @@ module _ {A B : Type 0} (view : A → B) (p : B → Bool) where
   pub added_behind : (change : B → B) (new : B) (xs : List A) → position (λ a. p (view a)) xs ≡ None → map view xs ++ new ∷ [] ≡ changed_or_added p change new (map view xs)
   added_behind change new xs none = sym (added_nowhere p change new (map view xs) (mapped_nowhere xs (nowhere (λ a. p (view a)) xs none)))
 
+-- the marks of the bot whose cache is at the place, and of a bot that has none
+module _ (bot : List ℕ) (xs : List Marks) where
+  pub marks_at : (i : ℕ) (x : Marks) → position (has_bot bot) xs ≡ Some i → x ≡ get_or xs i x → marks_of bot (caches_of xs) ≡ x.marks.marks
+  marks_at i x is here = ap (λ (o : Option BotCache). unwrap_or (option_map (λ (b : BotCache). b.marks) o) []) (found_at cache_of (is_cache bot) xs i x is here)
+
+  pub marks_nowhere : position (has_bot bot) xs ≡ None → marks_of bot (caches_of xs) ≡ []
+  marks_nowhere none = ap (λ (o : Option BotCache). unwrap_or (option_map (λ (b : BotCache). b.marks) o) []) (found_nowhere cache_of (is_cache bot) xs none)
+
 -- what the item at a place stands for stays
 pub seen_same : {A B : Type 0} (view : A → B) (xs : List A) (i : ℕ) (x new : A) → x ≡ get_or xs i x → view new ≡ view x → map view (set xs i new) ≡ map view xs
 seen_same view xs i x new here same = map-set_same view xs i new x (same ∙ ap view here)
@@ -69,9 +81,3 @@ pub all_set : {A : Type 0} (P : A → Type 0) (xs : List A) (i : ℕ) (x new : A
 all_set P [] i x new is keeps all = tt
 all_set P (y ∷ ys) zero x new is keeps all = (keeps (subst P (sym is) all.0), all.1)
 all_set P (y ∷ ys) (suc i) x new is keeps all = (all.0, all_set P ys i x new is keeps all.1)
-
--- what holds of each entry holds of that of the item at a place
-pub all_seen : {A B : Type 0} (P : B → Type 0) (view : A → B) (xs : List A) (i : ℕ) (x : A) → AllByRecursion P (map view xs) → i < length xs → x ≡ get_or xs i x → P (view x)
-all_seen P view [] i x all inside is = absurd (omega (arith, inside))
-all_seen P view (y ∷ ys) zero x all inside is = subst (λ z. P (view z)) (sym is) all.0
-all_seen P view (y ∷ ys) (suc i) x all inside is = all_seen P view ys i x all.1 (omega (arith, inside)) is

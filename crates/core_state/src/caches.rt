@@ -1,22 +1,22 @@
 //! The caches of bots that drop duplicates, and the keys that are marked in them.
-ghost use Rattle.std.specs.Prelude.{◌≡◌, ◌≤◌, ◌-◌, ◌++◌, ◌∷◌, [], nat_lt, position, IfOk, OnOk, OnErr, Some, None};
-ghost use Rattle.std.specs.VecDeque.{deque_len, deque_capacity};
+ghost use Rattle.std.specs.Prelude.{◌≡◌, ◌++◌, ◌∷◌, [], List, ℕ, false, position, IfOk, OnOk, OnErr, Some, None};
+ghost use Rattle.step_code.specs.declared.rules.CacheRule.{CacheRule};
 ghost use Rattle.step_code.specs.After.{cached, marked};
-ghost use Rattle.stored_types.specs.Mark.{trimmed, fresh, is_marked};
+ghost use Rattle.stored_types.specs.Mark.{fresh, is_marked};
 ghost use Rattle.step_code.specs.State.{marks_of};
-ghost use Rattle.core_state.specs.Caches.{DoNotFall, HaveOrder, cache_of, caches_of, has_bot, has_expired};
+ghost use Rattle.dedup_cache.specs.Cache.{ArePast, DoNotFall, HaveOwnKeys};
+ghost use Rattle.core_state.specs.Caches.{AreCaches, cache_of, caches_of, has_bot};
 
 use base_types::{Blob, BotName, Moment, OutOfMemory};
-use std::alloc::{AllocError, Global};
-use std::collections::VecDeque;
+use dedup_cache::Cache;
+use std::alloc::Global;
 use step_code::{BotCache, CacheList, CacheRule};
-use stored_types::{Mark, MarkList, copy_all};
 
-/// A bot's marks, the oldest first.
+/// A bot's marks.
 #[derive(Debug, Drop)]
 pub struct Marks {
     pub bot: BotName,
-    pub marks: VecDeque<Mark>,
+    pub marks: Cache,
 }
 
 fn place_of_cache(caches: &[Marks], bot: &BotName) -> Option<usize>
@@ -25,62 +25,17 @@ fn place_of_cache(caches: &[Marks], bot: &BotName) -> Option<usize>
     caches.iter().position(|cache| cache.bot == *bot)
 }
 
-// Whether the mark hasn't expired.
-fn is_fresh(mark: &Mark, ttl: u64, now: Moment) -> bool
-    ensures { result ≡ nat_lt (now.0 - mark.now.moment.0) ttl }
-{
-    now.0.saturating_sub(mark.moment.0) < ttl
-}
-
-// Whether the oldest mark has expired.
-fn has_expired(marks: &VecDeque<Mark>, ttl: u64, now: Moment) -> bool
-    ensures { result ≡ has_expired ttl now.0 marks.now.items }
-{
-    match marks.front() {
-        Some(mark) => !is_fresh(mark, ttl, now),
-        None => false,
-    }
-}
-
-// Marks that have expired leave. Since moments don't fall, they stand in front. It takes no memory.
-fn drop_expired(marks: &mut VecDeque<Mark>, ttl: u64, now: Moment)
-    requires order { DoNotFall marks.old.items }
-    ensures fresh { marks.new.items ≡ fresh ttl now.0 marks.old.items }
-    ensures len { deque_len marks.new ≤ deque_len marks.old }
-    ensures capacity { deque_capacity marks.new ≡ deque_capacity marks.old }
-{
-    'expired: while has_expired(marks, ttl, now) {
-        marks.pop_front();
-    }
-}
-
-// The oldest marks leave until fewer than `below` are there, or none.
-fn trim(marks: &mut VecDeque<Mark>, below: u32)
-    ensures trimmed { marks.new.items ≡ trimmed below marks.old.items }
-    ensures len { deque_len marks.new ≤ deque_len marks.old }
-    ensures capacity { deque_capacity marks.new ≡ deque_capacity marks.old }
-{
-    let count = (marks.len() + 1).saturating_sub(below as usize);
-    'oldest: for _ in 0..count {
-        marks.pop_front();
-    }
-}
-
 // Old marks leave, and the key is marked.
-fn mark_in(
-    marks: &mut VecDeque<Mark>,
-    rule: &CacheRule,
-    now: Moment,
-    key: Blob,
-) -> Result<(), AllocError>
-    requires order { DoNotFall marks.old.items }
-    ensures ok { OnOk result (marks.new.items ≡ marked rule.now now key marks.old.items) }
-    ensures err { OnErr result (marks.new.items ≡ marks.old.items) }
+fn mark_in(cache: &mut Cache, rule: &CacheRule, now: Moment, key: Blob) -> Result<(), OutOfMemory>
+    requires past { ArePast now.0 cache.old.marks }
+    requires new { is_marked key (fresh rule.now.ttl now.0 cache.old.marks) ≡ false }
+    ensures ok { OnOk result (cache.new.marks ≡ marked rule.now now key cache.old.marks) }
+    ensures err { OnErr result (cache.new.marks ≡ cache.old.marks) }
 {
-    marks.reserve(1)?;
-    drop_expired(marks, rule.ttl, now);
-    trim(marks, rule.cache_max);
-    marks.push_back_reserved(Mark { key, moment: now });
+    cache.reserve(&key)?;
+    cache.due(now, rule.ttl);
+    cache.trim(rule.cache_max);
+    cache.mark(key, now);
     Ok(())
 }
 
@@ -91,13 +46,14 @@ fn add_cache(
     bot: &BotName,
     now: Moment,
     key: Blob,
-) -> Result<(), AllocError>
+) -> Result<(), OutOfMemory>
     ensures ok { OnOk result (caches_of caches.new.items ≡ caches_of caches.old.items ++ record { bot = bot.now; marks = record { key = key; moment = now } ∷ [] } ∷ []) }
     ensures err { OnErr result (caches_of caches.new.items ≡ caches_of caches.old.items) }
 {
-    let mut marks = VecDeque::with_capacity(alloc, 1)?;
+    let mut marks = Cache::new(alloc);
+    marks.reserve(&key)?;
     caches.reserve(1)?;
-    marks.push_back_reserved(Mark { key, moment: now });
+    marks.mark(key, now);
     caches.push_reserved(Marks { bot: *bot, marks });
     Ok(())
 }
@@ -110,8 +66,9 @@ fn mark_key(
     bot: &BotName,
     now: Moment,
     key: Blob,
-) -> Result<(), AllocError>
-    requires order { HaveOrder (caches_of caches.old.items) }
+) -> Result<(), OutOfMemory>
+    requires past { ArePast now.0 (marks_of bot.now (caches_of caches.old.items)) }
+    requires new { is_marked key (fresh rule.now.ttl now.0 (marks_of bot.now (caches_of caches.old.items))) ≡ false }
     ensures ok { OnOk result (caches_of caches.new.items ≡ cached (Some rule.now) bot.now now (Some key) (caches_of caches.old.items)) }
     ensures err { OnErr result (caches_of caches.new.items ≡ caches_of caches.old.items) }
 {
@@ -123,11 +80,10 @@ fn mark_key(
 
 // Marks of the bot that have expired leave.
 fn drop_old(caches: &mut Vec<Marks>, rule: &CacheRule, bot: &BotName, now: Moment)
-    requires order { HaveOrder (caches_of caches.old.items) }
     ensures { caches_of caches.new.items ≡ cached (Some rule.now) bot.now now None (caches_of caches.old.items) }
 {
     if let Some(i) = place_of_cache(caches, bot) {
-        drop_expired(&mut caches[i].marks, rule.ttl, now);
+        caches[i].marks.due(now, rule.ttl);
     }
 }
 
@@ -139,8 +95,9 @@ pub fn mark(
     bot: &BotName,
     now: Moment,
     key: Option<Blob>,
-) -> Result<(), AllocError>
-    requires order { HaveOrder (caches_of caches.old.items) }
+) -> Result<(), OutOfMemory>
+    requires past { ArePast now.0 (marks_of bot.now (caches_of caches.old.items)) }
+    requires new { (r : CacheRule) (k : List ℕ) → rule ≡ Some r → key ≡ Some k → is_marked k (fresh r.ttl now.0 (marks_of bot.now (caches_of caches.old.items))) ≡ false }
     ensures ok { OnOk result (caches_of caches.new.items ≡ cached rule bot.now now key (caches_of caches.old.items)) }
     ensures err { OnErr result (caches_of caches.new.items ≡ caches_of caches.old.items) }
 {
@@ -156,22 +113,12 @@ pub fn mark(
     }
 }
 
-// Whether the key is marked there, and the mark hasn't expired.
-fn holds(marks: &VecDeque<Mark>, ttl: u64, now: Moment, key: &Blob) -> bool
-    ensures { result ≡ is_marked key.now (fresh ttl now.0 marks.now.items) }
-{
-    marks
-        .iter()
-        .filter(|mark| is_fresh(mark, ttl, now))
-        .any(|mark| mark.key == *key)
-}
-
 /// Whether the key is marked, and the mark hasn't expired.
 pub fn is_marked(caches: &[Marks], rule: &CacheRule, bot: &BotName, now: Moment, key: &Blob) -> bool
     ensures { result ≡ is_marked key.now (fresh rule.now.ttl now.0 (marks_of bot.now (caches_of caches.now))) }
 {
     match place_of_cache(caches, bot) {
-        Some(i) => holds(&caches[i].marks, rule.ttl, now, key),
+        Some(i) => caches[i].marks.is_live(key, now, rule.ttl),
         None => false,
     }
 }
@@ -179,13 +126,9 @@ pub fn is_marked(caches: &[Marks], rule: &CacheRule, bot: &BotName, now: Moment,
 fn copy_of_cache(cache: &Marks, alloc: Global) -> Result<BotCache, OutOfMemory>
     ensures { IfOk result (λ copy. copy ≡ cache_of cache.now) }
 {
-    let (front, back) = cache.marks.as_slices();
-    let mut marks = Vec::with_capacity(alloc, cache.marks.len())?;
-    copy_all(alloc, &mut marks, front)?;
-    copy_all(alloc, &mut marks, back)?;
     Ok(BotCache {
         bot: cache.bot,
-        marks: MarkList::from(marks),
+        marks: cache.marks.copy(alloc)?,
     })
 }
 
@@ -200,23 +143,25 @@ pub fn copies(caches: &[Marks], alloc: Global) -> Result<CacheList, OutOfMemory>
     Ok(CacheList::from(list))
 }
 
-// It takes no memory.
-fn from_list(cache: BotCache) -> Marks
-    ensures { cache_of result ≡ cache }
+fn from_list(cache: BotCache, alloc: Global) -> Result<Marks, OutOfMemory>
+    requires order { DoNotFall cache.marks }
+    requires keys { HaveOwnKeys cache.marks }
+    ensures { IfOk result (λ marks. cache_of marks ≡ cache) }
 {
-    Marks {
+    Ok(Marks {
         bot: cache.bot,
-        marks: VecDeque::from_vec(cache.marks.into_vec()),
-    }
+        marks: Cache::from_list(cache.marks, alloc)?,
+    })
 }
 
 /// The caches of these lists.
 pub fn from_lists(list: CacheList, alloc: Global) -> Result<Vec<Marks>, OutOfMemory>
+    requires { AreCaches list }
     ensures { IfOk result (λ caches. caches_of caches.items ≡ list) }
 {
     let mut caches = Vec::with_capacity(alloc, list.len())?;
     'caches: for cache in list.into_vec() {
-        caches.push(from_list(cache))?;
+        caches.push(from_list(cache, alloc)?)?;
     }
     Ok(caches)
 }

@@ -3,6 +3,7 @@ ghost use Rattle.std.specs.Prelude.{◌≡◌, IfOk, map};
 ghost use Rattle.std.specs.List.Sorted.{IsStrictlySortedBy};
 ghost use Rattle.std.specs.Ordering.{nat_cmp};
 ghost use Rattle.queue_broker.specs.Broker.{HaveQueues};
+ghost use Rattle.core_state.specs.Caches.{AreCaches};
 ghost use Rattle.core_state.specs.Outputs.{HaveLengths};
 ghost use Rattle.core_state.specs.State.{state_of};
 
@@ -38,6 +39,7 @@ pub struct State {
 pub fn from_base(alloc: Global, base: Base) -> Result<State, OutOfMemory>
     requires queues { HaveQueues base.queues base.hands }
     requires dumps { IsStrictlySortedBy nat_cmp (map (λ d. d.no) base.dumps) }
+    requires caches { AreCaches base.caches }
     ensures same { IfOk result (λ state. state_of state ≡ base) }
     ensures lengths { IfOk result (λ state. HaveLengths state.outs.items) }
 {

@@ -2,13 +2,15 @@
 //! disk in memory, and calls on them.
 #![tactic(auto)]
 
+mod calls;
 mod ended;
 mod pipelines;
 mod samples;
 
+pub use calls::{Came, How, call_on, durable_on};
 pub use ended::Ended;
 pub use pipelines::{
-    MemBook, NOW, Seen, bundle, drain_from, drained, dumps, first_numbers, made, opened, reopened,
+    MemBook, NOW, Seen, bundle, drain_from, drained, dumps, first_numbers, made, reopened,
     shelf_of, start, start_again, start_with, text,
 };
 pub use samples::{DUMP, FEED, OUTPUT, X, X_BY_64};

@@ -4,13 +4,14 @@ ghost use Rattle.bot_rules.specs.Intel.{facts_in};
 
 use crate::ended::{Ended, shown_end};
 use base_types::{Blob, NumberList, Text};
+use book_fixtures::{STEP_BYTES, opened};
 use bot_rules::IntelRules;
 use bundle_fetch::bundle_of;
 use config_bundle::bundle_code;
 use drain_loop::{Opening, drain_book, open_turns};
 use edge_memory::{MemClock, MemDisk, MemShelf, MemSink};
-use edge_traits::Shelf;
-use journal_book::{Book, BookFault};
+use edge_traits::{Disk, Shelf};
+use journal_book::Book;
 use state_texts::summary_text;
 use std::alloc::Global;
 use std::test::Fail;
@@ -22,8 +23,6 @@ pub type MemBook = Book<MemDisk, IntelRules>;
 /// A moment of November 2023.
 pub const NOW: u64 = 1_700_000_000;
 
-const STEP_BYTES: u64 = 67_108_864;
-
 pub fn text(alloc: Global, word: &str) -> Result<Text, Fail> {
     Ok(Text::from(String::from_str(alloc, word)?))
 }
@@ -31,7 +30,7 @@ pub fn text(alloc: Global, word: &str) -> Result<Text, Fail> {
 /// The numbers from 1 to this one.
 pub fn first_numbers(alloc: Global, many: u64) -> Result<NumberList, Fail> {
     let mut list = NumberList::new(alloc);
-    for number in 1..=many {
+    'numbers: for number in 1..=many {
         if list.push(number).is_err() {
             return Err(Fail::from("memory"));
         }
@@ -42,7 +41,7 @@ pub fn first_numbers(alloc: Global, many: u64) -> Result<NumberList, Fail> {
 /// A shelf with these files, of whose fetches the first so many fail.
 pub fn shelf_of(alloc: Global, files: &[(&str, &[u8])], failing: u64) -> Result<MemShelf, Fail> {
     let mut shelf = MemShelf::new(alloc, first_numbers(alloc, failing)?);
-    for (name, content) in files {
+    'files: for (name, content) in files {
         shelf.put(
             alloc,
             &text(alloc, name)?,
@@ -78,33 +77,26 @@ pub fn made(alloc: Global, bundle: &Blob) -> Result<MemBook, Fail>
     }
 }
 
-/// The store of a disk; or why it can't be opened, and the disk.
-pub fn opened(alloc: Global, disk: MemDisk) -> Result<MemBook, (BookFault, MemDisk)>
-    ensures { IfOk result (λ book. book.broken ≡ false) }
-{
-    Book::reopen(alloc, disk, IntelRules::new(), STEP_BYTES)
-}
-
 /// The store of a disk.
 pub fn reopened(alloc: Global, disk: MemDisk) -> Result<MemBook, Fail>
     ensures { IfOk result (λ book. book.broken ≡ false) }
 {
-    match opened(alloc, disk) {
+    match opened(alloc, disk, IntelRules::new()) {
         Ok(book) => Ok(book),
         Err(_) => Err(Fail::from("no store is left")),
     }
 }
 
 /// What a call on a store opens with, and then turns.
-pub fn drain_from<H: Shelf>(
+pub fn drain_from<D: Disk, R: Rules, H: Shelf>(
     alloc: Global,
-    book: &mut MemBook,
+    book: &mut Book<D, R>,
     shelf: &mut H,
     opening: Opening,
     left: Option<u64>,
 ) -> Ended
     requires whole { book.old.broken ≡ false }
-    requires loads { (code : List ℕ) → opening.bundle ≡ Some code → IsSome (facts_in code) }
+    requires loads { (code : List ℕ) → opening.bundle ≡ Some code → IsSome (R.meaning.facts code) }
     ensures broken { (result ≡ Ended.Disk) ↔ (book.new.broken ≡ true) }
 {
     let clock = MemClock::new(NOW);
@@ -157,7 +149,11 @@ pub struct Seen {
     pub dumps: MemSink,
 }
 
-fn seen_of(alloc: Global, book: &MemBook, ended: Ended) -> Result<Seen, Fail> {
+fn seen_of<D: Disk, R: Rules>(
+    alloc: Global,
+    book: &Book<D, R>,
+    ended: Ended,
+) -> Result<Seen, Fail> {
     Ok(Seen {
         ended,
         summary: summary_text(alloc, book.state())?,
@@ -184,13 +180,13 @@ pub fn drained<H: Shelf>(
 }
 
 // The lines of the first output, each with a newline.
-fn output(alloc: Global, book: &MemBook) -> Result<Vec<u8>, Fail> {
+fn output<D: Disk, R: Rules>(alloc: Global, book: &Book<D, R>) -> Result<Vec<u8>, Fail> {
     let core = book.state();
     let mut text = Vec::new(alloc);
     if core.outs_len() == 0 {
         return Ok(text);
     }
-    for line in core.out_at(0).lines {
+    'lines: for line in core.out_at(0).lines {
         text.extend_from_slice(line.bytes())?;
         text.push(b'\n')?;
     }
@@ -198,7 +194,7 @@ fn output(alloc: Global, book: &MemBook) -> Result<Vec<u8>, Fail> {
 }
 
 /// What is printed of the dumps.
-pub fn dumps(alloc: Global, book: &MemBook) -> Result<MemSink, Fail> {
+pub fn dumps<D: Disk, R: Rules>(alloc: Global, book: &Book<D, R>) -> Result<MemSink, Fail> {
     let mut out = MemSink::new(alloc, NumberList::new(alloc));
     match book.state().dumps().export(&mut out) {
         Ok(()) => Ok(out),

@@ -1,6 +1,6 @@
 -- The strict reading finds each message in its text, and nothing else.
-use Rattle.std.proofs.Common.{◌≡◌, ◌<◌, ◌≤◌, ◌+◌, ◌⊎◌, ⊎_elim, inl, inr, codes, ℕ, zero, suc, List, [], ◌∷◌, ◌++◌, ◌&&◌, length, drop, Bool, true, false, Option, Some, None, option_map, option_and_then, if◌then◌else◌, refl, sym, ap, subst, ◌∙◌, arith, append_assoc}
-use Rattle.std.specs.FinMap.{entries, from_entries, is_sorted}
+use Rattle.std.proofs.Common.{◌≡◌, ◌<◌, ◌⊎◌, ⊎_elim, inl, inr, codes, ℕ, zero, suc, [], ◌∷◌, ◌++◌, ◌&&◌, length, drop, Bool, true, false, Option, Some, None, option_map, option_and_then, if◌then◌else◌, refl, sym, ap, subst, ◌∙◌, arith, append_assoc}
+use Rattle.std.specs.FinMap.{entries, is_sorted}
 use Rattle.std.specs.List.{list_all}
 use Rattle.std.specs.Option.{option_or}
 use Rattle.std.specs.Str.{bytes_eq}
@@ -16,7 +16,7 @@ use Rattle.field_types.specs.declared.kind.FieldType.{FieldType}
 use Rattle.field_types.specs.declared.value.Value.{Value}
 use Rattle.field_types.proofs.CleanedTwice.{cleaned_stays}
 use Rattle.field_types.proofs.Twice.{mapped}
-use Rattle.event_model.specs.Fields.{AreFields, AreFieldsInOrder, FieldMap, IsField, value_for}
+use Rattle.event_model.specs.Fields.{AreFields, FieldMap, IsField, value_for}
 use Rattle.event_model.specs.declared.message.Kind.{Kind}
 use Rattle.event_model.specs.declared.message.Kind.TheVariants.{Report, Event}
 use Rattle.event_model.specs.declared.message.Message.{Message}

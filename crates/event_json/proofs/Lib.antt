@@ -14,4 +14,6 @@ pub mod Runs
 pub mod Slices
 pub mod Strings
 pub mod Unescaped
+pub mod Unquoted
 pub mod Values
+pub mod WholeTokens

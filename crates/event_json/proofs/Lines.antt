@@ -1,11 +1,10 @@
 -- A pair that was put into a text: its name, and then its value.
-use Rattle.std.proofs.Common.{◌≡◌, [], ◌∷◌, ◌++◌, Bool, true, false, Option, Some, None, flat_map, if◌then◌else◌, refl, sym, ap, ap₂, subst, ◌∙◌, append_assoc}
-use Rattle.std.specs.Ordering.{is_lt}
+use Rattle.std.proofs.Common.{◌≡◌, [], ◌∷◌, ◌++◌, Bool, true, false, Option, Some, None, flat_map, if◌then◌else◌, refl, sym, ap, ap₂, ◌∙◌, append_assoc}
 use Rattle.std.specs.Str.{is_utf8}
 use Rattle.std.specs.Option.{option_or}
 use Rattle.std.proofs.lemmas.Bool.{and_from, false≢true}
 use Rattle.std.proofs.lemmas.Option.{none-some, same_Some}
-use Rattle.base_types.proofs.Places.{Key, order}
+use Rattle.base_types.proofs.Places.{Key}
 use Rattle.field_types.specs.Field.{field_table, is_extra_name, kind_in, type_of}
 use Rattle.field_types.specs.Writing.{escaped, is_utf8_value, quoted, value_text}
 use Rattle.field_types.specs.declared.kind.FieldType.{FieldType}
@@ -18,12 +17,12 @@ use Rattle.event_json.specs.Direct.{is_extra, PutsName, PutsPair, Written}
 regrouped : (old name value : Key) → ((old ++ 44 ∷ name) ++ 58 ∷ []) ++ value ≡ old ++ 44 ∷ (name ++ 58 ∷ value)
 regrouped old name value = append_assoc (old ++ 44 ∷ name) (58 ∷ []) value ∙ append_assoc old (44 ∷ name) (58 ∷ value)
 
-pub pair_put : (name bytes text last new : Key) (v : Value) (old entered : Written) → bytes ≡ name → PutsName bytes old entered → entered ≡ (text, last) → is_utf8 name ≡ true → is_utf8_value v ≡ true → new ≡ text ++ value_text v
+pub pair_put : (name text last new : Key) (v : Value) (old entered : Written) → PutsName name old entered → entered ≡ (text, last) → is_utf8 name ≡ true → is_utf8_value v ≡ true → new ≡ text ++ value_text v
     → PutsPair (name, v) old (new, last)
-pair_put name bytes text last new v old entered same named seen good value_good is =
-    let now : (text, last) ≡ (old.0 ++ 44 ∷ quoted name ++ 58 ∷ [], name) = sym seen ∙ named.line ∙ ap (λ (k : Key). (old.0 ++ 44 ∷ quoted k ++ 58 ∷ [], k)) same in
+pair_put name text last new v old entered named seen good value_good is =
+    let now : (text, last) ≡ (old.0 ++ 44 ∷ quoted name ++ 58 ∷ [], name) = sym seen ∙ named.line in
     record {
-      above = subst (λ k. is_lt (order old.1 k) ≡ true) same named.above;
+      above = named.above;
       texts = and_from _ _ good value_good;
       line = ap₂ (λ (t l : Key). (t, l)) (is ∙ ap (λ (w : Written). w.0 ++ value_text v) now ∙ regrouped old.0 (quoted name) (value_text v)) (ap (λ (w : Written). w.1) now);
     }

@@ -1,5 +1,5 @@
 -- What leaves put into a text.
-use Rattle.std.proofs.Common.{◌≡◌, ℕ, ℤ, pos, ◌≤◌, List, [], ◌∷◌, ◌++◌, length, Bool, true, false, not, ◌&&◌, Bor, is_some, Option, Some, None, Result, Ok, Err, IfOk, option_map, option_and_then, if◌then◌else◌, refl, sym, ap, ap₂, subst, ◌∙◌, append_assoc, arith}
+use Rattle.std.proofs.Common.{◌≡◌, ℕ, ℤ, pos, ◌≤◌, List, [], ◌∷◌, ◌++◌, length, Bool, true, false, Bor, Option, Some, None, Result, Ok, Err, IfOk, option_map, option_and_then, if◌then◌else◌, refl, sym, ap, ap₂, subst, ◌∙◌, append_assoc, arith}
 use Rattle.std.specs.declared.alloc.Global.{Global}
 use Rattle.std.proofs.Math.Bool.{and-false}
 use Rattle.std.proofs.lemmas.Grind.{flat_map-append}
@@ -12,7 +12,7 @@ use Rattle.json.specs.Value.{value_view, members_view}
 use Rattle.json.specs.declared.value.Value.{Value as Tree}
 use Rattle.scalar_text.specs.Number.{decimal_in}
 use Rattle.serde_json.specs.Data.{Data, null, boolean, number, unsigned, string, array, object, no_members, member}
-use Rattle.serde_json.specs.Read.{of_json, of_members}
+use Rattle.serde_json.specs.Read.{of_json}
 use Rattle.base_types.specs.declared.memory.OutOfMemory.{OutOfMemory}
 use Rattle.field_types.specs.Cleaning.{clean, is_short, of_text, IsCleaned}
 use Rattle.field_types.specs.Field.{type_of}
@@ -32,7 +32,7 @@ use Rattle.event_model.proofs.Gathering.{Leaves, pairs_of-append, bad_names-appe
 use Rattle.event_model.proofs.Pairs.{Pairs}
 use Rattle.event_model.proofs.Parts.{part_field}
 use Rattle.event_json.specs.Decode.{pairs_text}
-use Rattle.event_json.specs.Direct.{data_of, data_members, named_values, or_null, Named, AreData, AreItems, IsDecimal, IsWhole, PutsCleaned, PutsKept, PutsLeaves, PutsAll, PutsAt, PutsMembers, PutsTree, PutsValue, Rise, Written}
+use Rattle.event_json.specs.Direct.{data_of, data_members, named_values, or_null, Named, AreItems, IsDecimal, IsWhole, PutsCleaned, PutsKept, PutsLeaves, PutsAll, PutsAt, PutsMembers, PutsTree, PutsValue, Rise, Written}
 use Rattle.event_json.specs.Strict.{AreTyped, is_utf8_pair}
 use Rattle.event_json.specs.Text.{pair_text}
 use Rattle.event_json.proofs.Placing.{Held}

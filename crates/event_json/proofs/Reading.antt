@@ -1,5 +1,5 @@
 -- A text that is read as a message without a tree that owns its texts.
-use Rattle.std.proofs.Common.{◌≡◌, ℕ, List, [], ◌∷◌, ◌++◌, Bool, true, Option, Some, None, Result, Ok, Err, IfOk, OnOk, IsUtf8, is_some, option_map, option_and_then, if◌then◌else◌, sym, ap, subst, ◌∙◌}
+use Rattle.std.proofs.Common.{◌≡◌, ℕ, List, [], ◌∷◌, ◌++◌, Bool, true, Option, Some, None, Result, Ok, Err, IfOk, IfSome, OnOk, IsUtf8, is_some, option_map, option_and_then, if◌then◌else◌, sym, ap, subst, ◌∙◌}
 use Rattle.json.specs.Json as json
 use Rattle.json.specs.Json.{if_last, value}
 use Rattle.json.specs.Lex.{tokens}
@@ -20,7 +20,7 @@ use Rattle.event_json.specs.Direct.{Named, data_members, AreData, HasText, IsMes
 use Rattle.event_json.specs.Lenient.{lenient, of_tree, PutsText}
 use Rattle.event_json.proofs.Putting.{if_taken}
 use Rattle.event_json.proofs.Rising.{entries_of, sorted_of, text_of_rising}
-use Rattle.event_json.specs.Strict.{AreTyped, IsTextOf}
+use Rattle.event_json.specs.Strict.{AreTyped}
 
 -- the text that was put together is that of the message
 pub message_is : (js : json.Members) (ordered : List Named) (kind : Kind) (opened put : Written) (text : List ℕ) → (AreData ordered → of_members js no_members ≡ Some (data_members ordered)) → lexeme_in (data_members ordered) ≡ None
@@ -89,3 +89,11 @@ all_objects j js line r is = text_on r line _ _ (λ m of. subst (λ k. IsMessage
 pub puts_text : {A E : Type 0} (r : Result A E) (bytes line text old new : List ℕ) → HasText (λ m. lenient bytes ≡ Ok m) line → text ≡ line → OnOk r (new ≡ old ++ text) → OnOk r (PutsText (lenient bytes) old new)
 puts_text (Ok a) bytes line text old new has same is = record { message = has.message; read = has.is; text = is ∙ ap (λ (t : List ℕ). old ++ t) (same ∙ has.text_is) }
 puts_text (Err e) bytes line text old new has same is = tt
+
+-- the same of a text that was read without a look for decimals
+pub found_lenient : (bytes text line : List ℕ) (r : Result (Option Bool) OutOfMemory) → text ≡ bytes → IsUtf8 bytes → IfOk r (λ found. IfSome found (λ taken. taken ≡ true → HasText (ReadsAs text) line))
+    → IfOk r (λ found. IfSome found (λ taken. taken ≡ true → quote text ≡ text)) → IfOk r (λ found. IfSome found (λ taken. taken ≡ true → HasText (λ m. lenient bytes ≡ Ok m) line))
+found_lenient bytes text line (Err e) same good has stays = tt
+found_lenient bytes text line (Ok None) same good has stays = tt
+found_lenient bytes text line (Ok (Some taken)) same good has stays = λ is.
+    all_lenient bytes bytes line (Ok taken) (sym same ∙ sym (stays is) ∙ ap quote same) (all_quoted bytes text line (Ok taken) same good has) is

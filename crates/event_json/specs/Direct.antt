@@ -76,8 +76,8 @@ abbrev pub Named : Type 0
 Named = List ℕ × json.Json
 
 -- names and values of members
-abbrev pub named_values : List (Bor (List ℕ) × Bor (Tree Global)) → List Named
-named_values ms = map (λ m. (m.0.now, value_view m.1.now)) ms
+abbrev pub named_values : List (List ℕ × Bor (Tree Global)) → List Named
+named_values ms = map (λ m. (m.0, value_view m.1.now)) ms
 
 -- the members of their data
 abbrev pub data_members : List Named → Members
@@ -106,6 +106,11 @@ ReadsInOrder members ordered = AreData ordered → of_members (members_view memb
 -- a text so far, and the last name in it
 abbrev pub Written : Type 0
 Written = List ℕ × List ℕ
+
+-- the last name is one that is known, or else the other
+abbrev pub last_name : Option (List ℕ) → List ℕ → List ℕ
+last_name (Some known) other = known
+last_name None other = other
 
 -- the name of a pair was put, which is above the last
 pub record PutsName (name : List ℕ) (old new : Written) : Type 0 where

@@ -6,3 +6,4 @@ pub mod Text
 -- what only proofs and private contracts use
 pub mod Decode
 pub mod Direct
+pub mod Plain

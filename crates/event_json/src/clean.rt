@@ -1,11 +1,11 @@
 //! The lenient reading of messages.
-ghost use Rattle.std.specs.Prelude.{◌≡◌, ◌++◌, Ok, Err, IfErr, IfOk, IsErr, MatchResult, OnErr, OnOk, true};
+ghost use Rattle.std.specs.Prelude.{◌≡◌, ◌++◌, Ok, Err, IfErr, IfOk, IfSome, IsErr, MatchResult, OnErr, OnOk, true};
 ghost use Rattle.event_model.specs.Lenient.{IsFaultOf};
 ghost use Rattle.event_model.specs.Trees.{json_of};
 ghost use Rattle.event_json.specs.Direct.{HasText};
 ghost use Rattle.event_json.specs.Lenient.{lenient, of_tree, PutsText};
 
-use crate::direct::write_text;
+use crate::direct::{write_plain, write_text};
 use crate::line::Line;
 use crate::strict::message_in;
 use base_types::OutOfMemory;
@@ -30,8 +30,8 @@ fn write_quoted(
     }
 }
 
-// Makes the line the text of the message of bytes of the usual forms.
-fn write_usual(
+// Makes the line the text of the message of bytes of the usual forms, after a look for decimals.
+fn write_scanned(
     alloc: Global,
     bytes: &[u8],
     scratch: &mut Scratch,
@@ -44,6 +44,21 @@ fn write_usual(
     }
     let quoted = quote_decimals(alloc, bytes)?;
     write_quoted(alloc, quoted.bytes(), scratch, line)
+}
+
+// The same without that look: nothing where there may be decimals.
+fn write_unscanned(
+    alloc: Global,
+    bytes: &[u8],
+    scratch: &mut Scratch,
+    line: &mut Line,
+) -> Result<Option<bool>, OutOfMemory>
+    ensures { IfOk result (λ found. IfSome found (λ taken. taken ≡ true → HasText (λ message. lenient bytes.now ≡ Ok message) line.new.0)) }
+{
+    match str::from_utf8(bytes) {
+        Ok(text) => write_plain(alloc, text, scratch, line),
+        Err(_) => Ok(Some(false)),
+    }
 }
 
 /// The message of any bytes, or their first fault, by a tree.
@@ -96,11 +111,16 @@ fn put_behind(out: &mut Vec<u8>, text: &[u8]) -> Result<(), ReadFault>
     }
 }
 
+// Behind a message with decimals, so many are looked through for decimals ahead of their reading.
+const SCANS: u8 = 64;
+
 /// Reads messages leniently, one after the other, in memory that it keeps.
 #[derive(Drop)]
 pub struct Cleaner {
     scratch: Scratch,
     line: Line,
+    // How many of the next messages are looked through for decimals first. Where there are none, reading shows it.
+    scans: u8,
 }
 
 impl Cleaner {
@@ -109,6 +129,24 @@ impl Cleaner {
         Cleaner {
             scratch: Scratch::new(alloc),
             line: Line::new(alloc),
+            scans: 0,
+        }
+    }
+
+    // Makes the line the text of the message of bytes of the usual forms.
+    fn write_usual(&mut self, alloc: Global, bytes: &[u8]) -> Result<bool, OutOfMemory>
+        ensures { IfOk result (λ taken. taken ≡ true → HasText (λ message. lenient bytes.now ≡ Ok message) self.new.line.0) }
+    {
+        if self.scans > 0 {
+            self.scans -= 1;
+            return write_scanned(alloc, bytes, &mut self.scratch, &mut self.line);
+        }
+        match write_unscanned(alloc, bytes, &mut self.scratch, &mut self.line)? {
+            Some(taken) => Ok(taken),
+            None => {
+                self.scans = SCANS;
+                write_scanned(alloc, bytes, &mut self.scratch, &mut self.line)
+            }
         }
     }
 
@@ -117,7 +155,7 @@ impl Cleaner {
         ensures text { OnOk result (HasText (λ message. lenient bytes.now ≡ Ok message) self.new.line.0) }
         ensures fault { IfErr result (IsFaultOf (lenient bytes.now)) }
     {
-        match write_usual(alloc, bytes, &mut self.scratch, &mut self.line) {
+        match self.write_usual(alloc, bytes) {
             Ok(true) => Ok(()),
             Ok(false) => write_any(alloc, bytes, &mut self.line),
             Err(OutOfMemory) => Err(ReadFault::OutOfMemory),
@@ -147,7 +185,7 @@ impl Cleaner {
     pub fn clean_message(&mut self, alloc: Global, bytes: &[u8]) -> Result<Message, ReadFault>
         ensures { MatchResult result (λ message. lenient bytes.now ≡ Ok message) (IsFaultOf (lenient bytes.now)) }
     {
-        match write_usual(alloc, bytes, &mut self.scratch, &mut self.line) {
+        match self.write_usual(alloc, bytes) {
             Ok(true) => message_of(alloc, bytes, self.line.text()),
             Ok(false) => clean_any(alloc, bytes),
             Err(OutOfMemory) => Err(ReadFault::OutOfMemory),

@@ -4,14 +4,17 @@ ghost use Rattle.json.specs.Json.{value};
 ghost use Rattle.json.specs.Lex.{tokens};
 ghost use Rattle.json.specs.Value.{value_view, members_view};
 ghost use Rattle.serde_json.specs.Find.{get_member};
+ghost use Rattle.scalar_text.specs.Quote.{quote};
 ghost use Rattle.event_model.specs.Lenient.{kind_of, type_key};
 ghost use Rattle.event_json.specs.Direct.{data_members, named_values, kind_in, HasText, IsMessageOf, IsMessageOfTree, ReadsAs, PutsAt, PutsAll};
 
 use crate::leaf::{may_be_decimal, push_tree};
 use crate::line::Line;
+use crate::numbers::is_plain;
 use crate::ordered::{Member, in_order};
 use base_types::OutOfMemory;
 use event_model::{Kind, kind_of_word};
+use field_types::FieldKey;
 use json::{Error, Reader, Scratch, Value as Tree};
 use std::alloc::Global;
 
@@ -19,6 +22,9 @@ const TYPE_KEY: &str = "__type";
 
 // As deep as `serde_json` reads.
 const READ_DEPTH: usize = 127;
+
+// What has fields nests no deeper, a list in an object below the others.
+const PLAIN_DEPTH: usize = 18;
 
 // Objects of fields nest less.
 const FIELD_DEPTH: usize = 16;
@@ -39,7 +45,7 @@ fn kind_of(members: &[Member<'_, '_>]) -> Option<Kind>
 {
     let mut rest = members;
     'members: while let [member, more @ ..] = rest {
-        if member.0 == TYPE_KEY {
+        if member.0.as_str() == TYPE_KEY {
             return kind_of_value(member.1);
         }
         rest = more;
@@ -50,13 +56,13 @@ fn kind_of(members: &[Member<'_, '_>]) -> Option<Kind>
 // Puts what a member of a message sets, which its kind doesn't.
 fn push_member<'m, 't>(
     alloc: Global,
-    name: &str,
+    name: &FieldKey<'_>,
     value: &'m Tree<'t>,
     line: &mut Line,
 ) -> Result<bool, OutOfMemory>
     ensures { IfOk result (λ taken. taken ≡ true → PutsAt name.now (value_view value.now) line.old line.new) }
 {
-    if name == TYPE_KEY {
+    if name.as_str() == TYPE_KEY {
         return Ok(matches!(value, Tree::String(_)));
     }
     push_tree(alloc, name, value, FIELD_DEPTH, line)
@@ -71,7 +77,7 @@ fn push_all<'m, 't>(
 {
     let mut rest = members;
     'members: while let [member, more @ ..] = rest {
-        if !push_member(alloc, member.0, member.1, line)? {
+        if !push_member(alloc, &member.0, member.1, line)? {
             return Ok(false);
         }
         rest = more;
@@ -154,4 +160,26 @@ pub fn write_text(
         return Ok(false);
     };
     write_tree(alloc, &tree, line)
+}
+
+/// As `write_text`, of a text in which there is no decimal to put under quotes: nothing where there may be one.
+pub fn write_plain(
+    alloc: Global,
+    text: &str,
+    scratch: &mut Scratch,
+    line: &mut Line,
+) -> Result<Option<bool>, OutOfMemory>
+    ensures text { IfOk result (λ found. IfSome found (λ taken. taken ≡ true → HasText (ReadsAs text.now) line.new.0)) }
+    ensures plain { IfOk result (λ found. IfSome found (λ taken. taken ≡ true → quote text.now ≡ text.now)) }
+{
+    let Some(tree) = tree_of(alloc, text, scratch)? else {
+        return Ok(Some(false));
+    };
+    if !is_plain(&tree, PLAIN_DEPTH) {
+        return Ok(None);
+    }
+    match write_tree(alloc, &tree, line) {
+        Ok(taken) => Ok(Some(taken)),
+        Err(OutOfMemory) => Err(OutOfMemory),
+    }
 }

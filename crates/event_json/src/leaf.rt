@@ -16,7 +16,7 @@ use base_types::{OutOfMemory, Text};
 use event_model::{flattens, is_dropped_text};
 use fast_float::Numeral;
 use field_types::{
-    FieldFault, FieldType, Item, ItemList, Kept, Value, keep, sanitise_own, strip, type_of_bytes,
+    FieldFault, FieldKey, FieldType, Item, ItemList, Kept, Value, keep, sanitise_own, strip,
 };
 use json::Value as Tree;
 use scalar_text::read_decimal;
@@ -111,7 +111,7 @@ fn is_extra(kind: FieldType) -> bool
 }
 
 // Whether a field is one of the table. Their names stand in JSON strings as they are.
-fn is_of_table(key: &str, kind: FieldType) -> bool
+fn is_of_table(key: &FieldKey<'_>, kind: FieldType) -> bool
     requires { type_of key.now ≡ Some kind }
     ensures { result ≡ true → flat_map escaped key.now ≡ key.now }
 {
@@ -120,7 +120,7 @@ fn is_of_table(key: &str, kind: FieldType) -> bool
 
 // Puts a field with what cleaning gave.
 fn push_cleaned(
-    key: &str,
+    key: &FieldKey<'_>,
     plain: bool,
     cleaned: Result<Value, FieldFault>,
     line: &mut Line,
@@ -136,10 +136,15 @@ fn push_cleaned(
 }
 
 // Puts a field with its canonical value for a value.
-fn push_value(alloc: Global, key: &str, value: Value, line: &mut Line) -> Result<bool, OutOfMemory>
+fn push_value(
+    alloc: Global,
+    key: &FieldKey<'_>,
+    value: Value,
+    line: &mut Line,
+) -> Result<bool, OutOfMemory>
     ensures { IfOk result (λ taken. taken ≡ true → PutsValue key.now value line.old line.new) }
 {
-    let Some(kind) = type_of_bytes(key.as_bytes()) else {
+    let Some(kind) = key.kind() else {
         return Ok(false);
     };
     push_cleaned(
@@ -152,7 +157,7 @@ fn push_value(alloc: Global, key: &str, value: Value, line: &mut Line) -> Result
 
 // Puts a field with what its kind made of a stripped text, which isn't copied before.
 fn push_kept(
-    key: &str,
+    key: &FieldKey<'_>,
     plain: bool,
     text: &str,
     kept: Result<Kept, FieldFault>,
@@ -170,14 +175,19 @@ fn push_kept(
 }
 
 // Puts a field with its canonical value for a text.
-fn push_text(alloc: Global, key: &str, text: &str, line: &mut Line) -> Result<bool, OutOfMemory>
+fn push_text(
+    alloc: Global,
+    key: &FieldKey<'_>,
+    text: &str,
+    line: &mut Line,
+) -> Result<bool, OutOfMemory>
     ensures { IfOk result (λ taken. taken ≡ true → PutsLeaves ((key.now, string text.now) ∷ []) line.old line.new) }
 {
     let stripped = strip(text);
     if is_dropped_text(stripped) {
         return Ok(true);
     }
-    let Some(kind) = type_of_bytes(key.as_bytes()) else {
+    let Some(kind) = key.kind() else {
         return Ok(false);
     };
     push_kept(
@@ -208,7 +218,7 @@ pub fn may_be_decimal(members: &[Member<'_, '_>]) -> bool
     ensures { result ≡ false → lexeme_in (data_members (named_values members.now)) ≡ None }
 {
     match members {
-        [member] => member.0 == DEC_KEY,
+        [member] => member.0.as_str() == DEC_KEY,
         _ => false,
     }
 }
@@ -218,7 +228,7 @@ pub fn may_be_decimal(members: &[Member<'_, '_>]) -> bool
 #[cycle(direct)]
 pub fn push_tree<'m, 't>(
     alloc: Global,
-    key: &str,
+    key: &FieldKey<'_>,
     value: &'m Tree<'t>,
     depth: usize,
     line: &mut Line,
@@ -244,7 +254,7 @@ pub fn push_tree<'m, 't>(
 #[cycle(direct)]
 fn push_object<'m, 't>(
     alloc: Global,
-    key: &str,
+    key: &FieldKey<'_>,
     members: &'m [(&'t str, Tree<'t>)],
     depth: usize,
     line: &mut Line,
@@ -256,7 +266,7 @@ fn push_object<'m, 't>(
             return push_value(alloc, key, Value::Decimal(n), line);
         }
     }
-    if depth == 0 || !flattens(key.as_bytes()) {
+    if depth == 0 || !flattens(key.as_str().as_bytes()) {
         return Ok(false);
     }
     let Some(ordered) = in_order(alloc, members)? else {
@@ -271,7 +281,7 @@ fn push_object<'m, 't>(
 #[cycle(direct)]
 fn push_members<'m, 't>(
     alloc: Global,
-    key: &str,
+    key: &FieldKey<'_>,
     members: &[Member<'m, 't>],
     depth: usize,
     line: &mut Line,
@@ -280,10 +290,10 @@ fn push_members<'m, 't>(
 {
     let mut rest = members;
     'members: while let [member, more @ ..] = rest {
-        let Some(name) = member_name(alloc, key, member.0)? else {
+        let Some(name) = member_name(alloc, key.as_str(), member.0.as_str())? else {
             return Ok(false);
         };
-        if !push_tree(alloc, &name, member.1, depth, line)? {
+        if !push_tree(alloc, &FieldKey::new(&name), member.1, depth, line)? {
             return Ok(false);
         }
         rest = more;

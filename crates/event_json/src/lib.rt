@@ -6,6 +6,7 @@ mod direct;
 pub mod laws;
 mod leaf;
 mod line;
+mod numbers;
 mod ordered;
 mod pairs;
 mod strict;

@@ -2,6 +2,7 @@
 ghost use Rattle.std.specs.Prelude.{◌≡◌, ◌++◌, ◌∷◌, [], true, flat_map, IfOk, OnOk};
 ghost use Rattle.std.specs.Ordering.{nat_cmp, is_lt};
 ghost use Rattle.std.specs.Cmp.Lexicographic.{slice_cmp};
+ghost use Rattle.std.specs.Str.{is_utf8};
 ghost use Rattle.field_types.specs.Writing.{escaped, quoted};
 ghost use Rattle.field_types.specs.declared.value.Value.TheVariants as as_value;
 ghost use Rattle.event_model.specs.Lenient.{type_key};
@@ -13,7 +14,7 @@ ghost use Rattle.event_json.specs.Text.{message_text};
 use crate::write::{opening, push_message};
 use base_types::OutOfMemory;
 use event_model::{Kind, Message};
-use field_types::{Value, push_quoted, push_value};
+use field_types::{FieldKey, Value, push_quoted, push_value};
 use std::alloc::Global;
 use std::marker::Model;
 
@@ -24,18 +25,22 @@ const TYPE_KEY: &[u8] = b"__type";
 #[derive(Drop)]
 pub struct Line {
     text: Vec<u8>,
+    // The last name where it is known as one of the table of fields, which takes no copy of it.
+    known: Option<FieldKey<'static>>,
+    // The last name, where it isn't.
     last: Vec<u8>,
 }
 
 impl Model for Line {
     ghost use Rattle.std.specs.Prelude.{List, ℕ};
     ghost use Rattle.std.specs.Coded.{coded_ℕ, coded_list, coded×};
+    ghost use Rattle.event_json.specs.Direct.{last_name};
 
     ghost Value = { List ℕ × List ℕ };
 
     ghost coded = { coded× (coded_list coded_ℕ) (coded_list coded_ℕ) };
 
-    ghost view = { λ l. (l.text.items, l.last.items) };
+    ghost view = { λ l. (l.text.items, last_name l.known l.last.items) };
 }
 
 // Makes a buffer these bytes.
@@ -91,6 +96,7 @@ impl Line {
     {
         Line {
             text: Vec::new(alloc),
+            known: None,
             last: Vec::new(alloc),
         }
     }
@@ -107,31 +113,65 @@ impl Line {
         ensures { OnOk result (self.new ≡ (opening kind, type_key)) }
     {
         overwrite(&mut self.text, opening(kind))?;
+        self.known = None;
         overwrite(&mut self.last, TYPE_KEY)
     }
 
-    // Puts the name of a pair, if it is above the last.
-    fn enter(&mut self, name: &[u8], plain: bool) -> Result<bool, OutOfMemory>
-        requires { plain ≡ true → flat_map escaped name.now ≡ name.now }
-        ensures { IfOk result (λ is_above. is_above ≡ true → PutsName name.now self.old self.new) }
+    // Whether the last name is below this one.
+    fn is_below(&self, name: &FieldKey<'_>) -> bool
+        ensures { result ≡ is_lt (slice_cmp nat_cmp self.now.1 name.now) }
     {
-        if !is_below(&self.last, name) {
+        match &self.known {
+            Some(last) => last.compare(name).is_lt(),
+            None => is_below(&self.last, name.as_str().as_bytes()),
+        }
+    }
+
+    // Makes this the last name.
+    fn keep_name(&mut self, name: &FieldKey<'_>) -> Result<(), OutOfMemory>
+        ensures { OnOk result (self.new ≡ (self.old.0, name.now)) }
+    {
+        match name.known() {
+            Some(known) => {
+                self.known = Some(known);
+                Ok(())
+            }
+            None => {
+                self.known = None;
+                overwrite(&mut self.last, name.as_str().as_bytes())
+            }
+        }
+    }
+
+    // Puts the name of a pair, if it is above the last.
+    fn enter(&mut self, name: &FieldKey<'_>, plain: bool) -> Result<bool, OutOfMemory>
+        requires { plain ≡ true → flat_map escaped name.now ≡ name.now }
+        ensures name { IfOk result (λ is_above. is_above ≡ true → PutsName name.now self.old self.new) }
+        ensures utf8 { OnOk result (is_utf8 name.now ≡ true) }
+    {
+        let text = name.as_str().as_bytes();
+        if !self.is_below(name) {
             return Ok(false);
         }
-        overwrite(&mut self.last, name)?;
+        self.keep_name(name)?;
         self.text.push(b',')?;
-        push_string(&mut self.text, name, plain)?;
+        push_string(&mut self.text, text, plain)?;
         self.text.push(b':')?;
         Ok(true)
     }
 
     /// Puts a field and its value, a text, if its name is above the last. A name that stands in a JSON string as it is is
     /// said to be plain.
-    pub fn push_text(&mut self, name: &str, plain: bool, text: &str) -> Result<bool, OutOfMemory>
+    pub fn push_text(
+        &mut self,
+        name: &FieldKey<'_>,
+        plain: bool,
+        text: &str,
+    ) -> Result<bool, OutOfMemory>
         requires { plain ≡ true → flat_map escaped name.now ≡ name.now }
         ensures { IfOk result (λ is_above. is_above ≡ true → PutsPair (name.now, as_value.Text text.now) self.old self.new) }
     {
-        if !self.enter(name.as_bytes(), plain)? {
+        if !self.enter(name, plain)? {
             return Ok(false);
         }
         push_quoted(&mut self.text, text.as_bytes())?;
@@ -139,11 +179,16 @@ impl Line {
     }
 
     /// Puts a field and its value, as `push_text`.
-    pub fn push(&mut self, name: &str, plain: bool, value: &Value) -> Result<bool, OutOfMemory>
+    pub fn push(
+        &mut self,
+        name: &FieldKey<'_>,
+        plain: bool,
+        value: &Value,
+    ) -> Result<bool, OutOfMemory>
         requires { plain ≡ true → flat_map escaped name.now ≡ name.now }
         ensures { IfOk result (λ is_above. is_above ≡ true → PutsPair (name.now, value.now) self.old self.new) }
     {
-        if !self.enter(name.as_bytes(), plain)? {
+        if !self.enter(name, plain)? {
             return Ok(false);
         }
         push_value(&mut self.text, value)?;

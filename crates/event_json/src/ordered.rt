@@ -8,25 +8,26 @@ ghost use Rattle.json.specs.Value.{value_view};
 ghost use Rattle.event_json.specs.Direct.{named_values, PutsMember, ReadsInOrder};
 
 use base_types::OutOfMemory;
+use field_types::FieldKey;
 use json::Value;
 use std::alloc::Global;
 use std::cmp::Ordering;
 
 /// A member of an object: its name and its value.
-pub type Member<'m, 't> = (&'t str, &'m Value<'t>);
+pub type Member<'m, 't> = (FieldKey<'t>, &'m Value<'t>);
 
 // More members than this aren't put in order one by one, which takes quadratic time.
 const MOST_MEMBERS: usize = 64;
 
-fn compare(member: &Member<'_, '_>, name: &str) -> Ordering
-    ensures { result ≡ slice_cmp nat_cmp member.now.0.now name.now }
+fn compare(member: &Member<'_, '_>, name: &FieldKey<'_>) -> Ordering
+    ensures { result ≡ slice_cmp nat_cmp member.now.0 name.now }
 {
-    member.0.as_bytes().cmp(name.as_bytes())
+    member.0.compare(name)
 }
 
 // How many of members in byte order of their names stand before a name, if none has it. It looks from the end, since
 // most names rise.
-fn place_of(members: &[Member<'_, '_>], name: &str) -> Option<usize>
+fn place_of(members: &[Member<'_, '_>], name: &FieldKey<'_>) -> Option<usize>
     requires { is_sorted (slice_cmp nat_cmp) (named_values members.now) ≡ true }
     ensures { IfSome result (BelongsAt name.now (named_values members.now)) }
 {
@@ -44,13 +45,13 @@ fn place_of(members: &[Member<'_, '_>], name: &str) -> Option<usize>
 // Puts a member to its place, unless its name is there already.
 fn put<'m, 't>(
     found: &mut Vec<Member<'m, 't>>,
-    name: &'t str,
+    name: FieldKey<'t>,
     value: &'m Value<'t>,
 ) -> Result<bool, OutOfMemory>
     requires { is_sorted (slice_cmp nat_cmp) (named_values found.old.items) ≡ true }
-    ensures { IfOk result (λ is_new. is_new ≡ true → PutsMember name.now (value_view value.now) (named_values found.old.items) (named_values found.new.items)) }
+    ensures { IfOk result (λ is_new. is_new ≡ true → PutsMember name.entry (value_view value.now) (named_values found.old.items) (named_values found.new.items)) }
 {
-    match place_of(found, name) {
+    match place_of(found, &name) {
         Some(at) => {
             found.insert(at, (name, value))?;
             Ok(true)
@@ -72,7 +73,7 @@ pub fn in_order<'m, 't>(
     let mut found = Vec::with_capacity(alloc, members.len())?;
     let mut rest = members;
     'members: while let [member, more @ ..] = rest {
-        if !put(&mut found, member.0, &member.1)? {
+        if !put(&mut found, FieldKey::new(member.0), &member.1)? {
             return Ok(None);
         }
         rest = more;

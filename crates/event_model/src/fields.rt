@@ -8,7 +8,7 @@ ghost use Rattle.event_model.specs.Edits.{wanted, set_to, added, updated, is_kep
 use crate::EventFault;
 use crate::place::{is_above_all, place_of};
 use base_types::{OutOfMemory, Text, TextList};
-use field_types::{FieldFault, FieldName, Value, is_canonical, sanitise, type_of};
+use field_types::{FieldFault, FieldKey, FieldName, Value, is_canonical, sanitise, type_of};
 use std::alloc::Global;
 use std::marker::Model;
 
@@ -167,7 +167,7 @@ impl Fields {
     pub fn get_named(&self, key: &FieldName) -> Option<&Value>
         ensures { option_copied result ≡ get self.now key.now }
     {
-        match place_of(&self.pairs, key.bytes()) {
+        match place_of(&self.pairs, &key.as_key()) {
             Ok(i) => Some(&self.pairs[i].1),
             Err(_) => None,
         }
@@ -178,7 +178,7 @@ impl Fields {
         ensures value { option_copied result ≡ get self.now key.now }
         ensures field { IfSome result (λ value. IsField key.now value.now) }
     {
-        match place_of(&self.pairs, key.bytes()) {
+        match place_of(&self.pairs, &FieldKey::new(key.as_str())) {
             Ok(i) => Some(&self.pairs[i].1),
             Err(_) => None,
         }
@@ -191,7 +191,7 @@ impl Fields {
         ensures ok { OnOk result (self.new ≡ insert self.old key value) }
         ensures err { OnErr result (self.new ≡ self.old) }
     {
-        match place_of(&self.pairs, key.bytes()) {
+        match place_of(&self.pairs, &key.as_key()) {
             Ok(i) => overwrite(&mut self.pairs, i, (key, value)),
             Err(i) => self.pairs.insert(i, (key, value))?,
         }
@@ -212,7 +212,7 @@ impl Fields {
         ensures was_there { result ≡ is_some (get self.old key.now) }
         ensures map { self.new ≡ remove self.old key.now }
     {
-        match place_of(&self.pairs, key.bytes()) {
+        match place_of(&self.pairs, &FieldKey::new(key.as_str())) {
             Ok(i) => {
                 take_out(&mut self.pairs, i);
                 true
@@ -275,7 +275,7 @@ impl Fields {
         ensures ok { IfOk result (λ pushed. IsPush pushed key value self.old self.new) }
         ensures err { OnErr result (self.new ≡ self.old) }
     {
-        if !is_above_all(&self.pairs, key.bytes()) {
+        if !is_above_all(&self.pairs, &key.as_key()) {
             return Ok(false);
         }
         self.pairs.push((key, value))?;

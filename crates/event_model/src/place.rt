@@ -4,17 +4,17 @@ ghost use Rattle.std.specs.Ordering.{nat_cmp};
 ghost use Rattle.std.specs.Cmp.Lexicographic.{slice_cmp};
 ghost use Rattle.base_types.specs.Place.{is_above_all, IsPlace};
 
-use field_types::{FieldName, Value};
+use field_types::{FieldKey, FieldName, Value};
 use std::cmp::Ordering;
 
-fn compare(pair: &(FieldName, Value), key: &[u8]) -> Ordering
+fn compare(pair: &(FieldName, Value), key: &FieldKey<'_>) -> Ordering
     ensures { result ≡ slice_cmp nat_cmp pair.now.0 key.now }
 {
-    pair.0.bytes().cmp(key)
+    pair.0.as_key().compare(key)
 }
 
 /// Where a name stands among pairs in byte order of their names, or else where it would stand.
-pub fn place_of(pairs: &[(FieldName, Value)], key: &[u8]) -> Result<usize, usize>
+pub fn place_of(pairs: &[(FieldName, Value)], key: &FieldKey<'_>) -> Result<usize, usize>
     requires { is_sorted (slice_cmp nat_cmp) pairs.now ≡ true }
     ensures { IsPlace key.now pairs.now result }
 {
@@ -22,7 +22,7 @@ pub fn place_of(pairs: &[(FieldName, Value)], key: &[u8]) -> Result<usize, usize
 }
 
 /// Whether a name is above all of pairs in byte order of their names: it is above the last.
-pub fn is_above_all(pairs: &[(FieldName, Value)], key: &[u8]) -> bool
+pub fn is_above_all(pairs: &[(FieldName, Value)], key: &FieldKey<'_>) -> bool
     requires { is_sorted (slice_cmp nat_cmp) pairs.now ≡ true }
     ensures { result ≡ is_above_all key.now pairs.now }
 {

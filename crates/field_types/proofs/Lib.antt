@@ -3,6 +3,7 @@ pub mod CleanedTwice
 pub mod Ends
 pub mod Joined
 pub mod KindByKind
+pub mod Order
 pub mod Unchanged
 pub mod Utf8
 pub mod Plain

@@ -7,6 +7,7 @@ use Rattle.std.proofs.lemmas.Slice.Eq.{bytes_eq-Decides}
 use Rattle.base_types.proofs.Places.{Key}
 use Rattle.field_types.specs.Field.{kind_in, field_table, is_extra_name, type_of}
 use Rattle.field_types.specs.Hash.{hash, if_named}
+use Rattle.field_types.specs.Names.{rows}
 use Rattle.field_types.specs.Writing.{escaped, is_plain}
 use Rattle.field_types.specs.declared.field.TheConstants as table
 use Rattle.field_types.specs.declared.kind.FieldType.{FieldType}
@@ -18,41 +19,37 @@ Table = List (Key × FieldType)
 
 -- for the name of each row, the answer is its kind
 abbrev AreAnswered : (Key → Option FieldType) → Table → Type 0
-AreAnswered answer rows = map (λ row. answer row.0) rows ≡ map (λ row. Some row.1) rows
+AreAnswered answer all = map (λ row. answer row.0) all ≡ map (λ row. Some row.1) all
 
-found_at : (answer : Key → Option FieldType) (row : Key × FieldType) (rows : Table) (key : Key) (kind : FieldType) (t : Bool) → bytes_eq row.0 key ≡ t → (if t then Some row.1 else kind_in rows key) ≡ Some kind → answer row.0 ≡ Some row.1
-    → (kind_in rows key ≡ Some kind → answer key ≡ Some kind) → answer key ≡ Some kind
-found_at answer row rows key kind true e found here later = ap answer (sym ((bytes_eq-Decides row.0 key).0 e)) ∙ here ∙ found
-found_at answer row rows key kind false e found here later = later found
+found_at : (answer : Key → Option FieldType) (row : Key × FieldType) (all : Table) (key : Key) (kind : FieldType) (t : Bool) → bytes_eq row.0 key ≡ t → (if t then Some row.1 else kind_in all key) ≡ Some kind → answer row.0 ≡ Some row.1
+    → (kind_in all key ≡ Some kind → answer key ≡ Some kind) → answer key ≡ Some kind
+found_at answer row all key kind true e found here later = ap answer (sym ((bytes_eq-Decides row.0 key).0 e)) ∙ here ∙ found
+found_at answer row all key kind false e found here later = later found
 
 -- what is found in the rows is answered
-found_in : (answer : Key → Option FieldType) (rows : Table) (key : Key) (kind : FieldType) → AreAnswered answer rows → kind_in rows key ≡ Some kind → answer key ≡ Some kind
+found_in : (answer : Key → Option FieldType) (all : Table) (key : Key) (kind : FieldType) → AreAnswered answer all → kind_in all key ≡ Some kind → answer key ≡ Some kind
 found_in answer [] key kind are found = absurd (none-some kind found)
-found_in answer (row ∷ rows) key kind are found =
+found_in answer (row ∷ all) key kind are found =
     let here : answer row.0 ≡ Some row.1 = cc in
-    let rest : AreAnswered answer rows = cc in
-    found_at answer row rows key kind (bytes_eq row.0 key) refl found here (found_in answer rows key kind rest)
+    let rest : AreAnswered answer all = cc in
+    found_at answer row all key kind (bytes_eq row.0 key) refl found here (found_in answer all key kind rest)
 
 -- ---- by the hash
 
 abbrev Row : Type 0
 Row = Key × FieldType
 
--- the rows of the code
-abbrev rows : Table
-rows = map (λ row. (row.0.now, row.1)) table.FIELDS
-
 -- the kind in the row at the place of the hash
 abbrev pub hashed : Key → Option FieldType
 hashed key = option_and_then (if_named key) (slice_get rows (get_or table.ROWS (hash key) 0))
 
 rows_hashed : AreAnswered hashed field_table
-unfolding field_table hash
+unfolding field_table hash rows
 rows_hashed = refl
 
 -- each row of the code stands in the definition's table
 rows_defined : AreAnswered (kind_in field_table) rows
-unfolding field_table
+unfolding field_table rows
 rows_defined = refl
 
 row_at : (f g : Row → Option FieldType) (all : Table) (n : ℕ) (row : Row) → map f all ≡ map g all → slice_get all n ≡ Some row → f row ≡ g row
@@ -63,17 +60,24 @@ row_at f g (first ∷ all) zero row same at =
     ap f (sym is) ∙ here ∙ ap g is
 row_at f g (first ∷ all) (suc n) row same at = let rest : map f all ≡ map g all = cc in row_at f g all n row rest at
 
-defined_at : (key : Key) (kind : FieldType) (row : Row) (b : Bool) → bytes_eq row.0 key ≡ b → (if b then Some row.1 else None) ≡ Some kind → kind_in field_table row.0 ≡ Some row.1 → kind_in field_table key ≡ Some kind
-defined_at key kind row true e is found = ap (kind_in field_table) (sym ((bytes_eq-Decides row.0 key).0 e)) ∙ found ∙ is
-defined_at key kind row false e is found = absurd (none-some kind is)
+named_at : (key : Key) (kind : FieldType) (row : Row) (b : Bool) → bytes_eq row.0 key ≡ b → (if b then Some row.1 else None) ≡ Some kind → row ≡ (key, kind)
+named_at key kind row true e is =
+    let name : row.0 ≡ key = (bytes_eq-Decides row.0 key).0 e in
+    let of_kind : row.1 ≡ kind = cc in
+    ap (λ n. (n, row.1)) name ∙ ap (λ k. (key, k)) of_kind
+named_at key kind row false e is = absurd (none-some kind is)
 
-defined : (key : Key) (kind : FieldType) (n : ℕ) (o : Option Row) → slice_get rows n ≡ o → option_and_then (if_named key) o ≡ Some kind → kind_in field_table key ≡ Some kind
-defined key kind n None at is = absurd (none-some kind is)
-defined key kind n (Some row) at is =
-    defined_at key kind row (bytes_eq row.0 key) refl is (row_at (λ r. kind_in field_table r.0) (λ r. Some r.1) rows n row rows_defined at)
+-- what answers a kind is the row of the name
+pub named_row : (key : Key) (kind : FieldType) (o : Option Row) → option_and_then (if_named key) o ≡ Some kind → o ≡ Some (key, kind)
+named_row key kind None is = absurd (none-some kind is)
+named_row key kind (Some row) is = ap (λ r. Some r) (named_at key kind row (bytes_eq row.0 key) refl is)
+
+-- a row of the code has the kind of its name
+pub row_kind : (key : Key) (kind : FieldType) (n : ℕ) → slice_get rows n ≡ Some (key, kind) → kind_in field_table key ≡ Some kind
+row_kind key kind n at = row_at (λ r. kind_in field_table r.0) (λ r. Some r.1) rows n (key, kind) rows_defined at
 
 same_answer : (key : Key) (a b : Option FieldType) → hashed key ≡ a → kind_in field_table key ≡ b → a ≡ b
-same_answer key (Some kind) b e f = sym (defined key kind (get_or table.ROWS (hash key) 0) (slice_get rows (get_or table.ROWS (hash key) 0)) refl e) ∙ f
+same_answer key (Some kind) b e f = sym (row_kind key kind (get_or table.ROWS (hash key) 0) (named_row key kind (slice_get rows (get_or table.ROWS (hash key) 0)) e)) ∙ f
 same_answer key None None e f = refl
 same_answer key None (Some kind) e f = sym e ∙ found_in hashed field_table key kind rows_hashed f
 

@@ -10,7 +10,6 @@ use Rattle.std.proofs.lemmas.Bool.Decides.{Decides-int_eq}
 use Rattle.std.proofs.lemmas.Fmt.{decimal_is_IsNumeral, decimal-digits_value}
 use Rattle.std.proofs.lemmas.Str.Parse.{digit_from_value}
 use Rattle.base_types.proofs.Numerals.{digits_model}
-use Rattle.std.specs.Str.{all_ascii_digits}
 use Rattle.jiff_core.proofs.SignedLemmas.{signed_arith}
 use Rattle.base_types.specs.Digits.{digits_in}
 use Rattle.scalar_text.specs.Number.{part_text, decimal_text, signed}

@@ -1,8 +1,10 @@
 ghost use Rattle.std.specs.Prelude.{◌≡◌, ◌<◌, true, IfSome, OnSome, nat_le, map, option_map, option_and_then, slice_get};
 ghost use Rattle.std.specs.List.{list_all};
+ghost use Rattle.std.specs.Option.{option_copied};
 ghost use Rattle.std.specs.Str.{is_utf8};
 ghost use Rattle.field_types.specs.Field.{type_of, kind_in, field_table, is_extra_name, is_extra_part};
 ghost use Rattle.field_types.specs.Hash.{hash, if_named};
+ghost use Rattle.field_types.specs.Names.{rows, row_name, IsRow};
 
 use crate::FieldType;
 use base_types::Text;
@@ -167,6 +169,29 @@ fn hash(name: &[u8]) -> usize
     sum % 256
 }
 
+/// A row of the table: its number, and its kind.
+#[derive(Clone, Copy, Debug)]
+pub(crate) struct Row {
+    pub number: u8,
+    pub kind: FieldType,
+}
+
+// The name there.
+fn name_at(rows: &[(&'static str, FieldType)], at: usize) -> Option<&'static str>
+    ensures { option_copied result ≡ option_map row_name (slice_get (map (λ row. (row.0.now, row.1)) rows.now) at) }
+{
+    let row = rows.get(at)?;
+    Some(row.0)
+}
+
+/// The name of a row.
+#[tactic(auto, unfolding(crate::specs::Names::rows))]
+pub(crate) fn name_of(row: Row) -> Option<&'static str>
+    ensures { option_copied result ≡ option_map row_name (slice_get rows row.number) }
+{
+    name_at(&FIELDS, usize::from(row.number))
+}
+
 // The row there, if its name is that one.
 fn row_at(
     rows: &[(&'static str, FieldType)],
@@ -185,13 +210,18 @@ fn row_at(
     }
 }
 
-/// The row of that name in the table. The names of the table stand in JSON strings as they are.
-pub(crate) fn row_of(name: &[u8]) -> Option<(&'static str, FieldType)>
-    ensures kind { option_map (λ row. row.1) result ≡ kind_in field_table name.now }
+/// The row of that name in the table, and the name. The names of the table stand in JSON strings as they are.
+pub(crate) fn row_of(name: &[u8]) -> Option<(&'static str, Row)>
+    ensures kind { option_map (λ row. row.1.kind) result ≡ kind_in field_table name.now }
+    ensures row { IfSome result (λ row. IsRow row.1 name.now) }
     ensures named { IfSome result (λ row. row.0.now ≡ name.now) }
     ensures utf8 { OnSome result (is_utf8 name.now ≡ true) }
 {
-    row_at(&FIELDS, usize::from(ROWS[hash(name)]), name)
+    let number = ROWS[hash(name)];
+    match row_at(&FIELDS, usize::from(number), name) {
+        Some((known, kind)) => Some((known, Row { number, kind })),
+        None => None,
+    }
 }
 
 /// The kind of a field, by the bytes of its name; None exactly where there is no such field. It takes no memory.
@@ -200,7 +230,7 @@ pub fn type_of_bytes(key: &[u8]) -> Option<FieldType>
     ensures { result ≡ type_of key.now }
 {
     match row_of(key) {
-        Some(row) => Some(row.1),
+        Some(row) => Some(row.1.kind),
         None if is_extra_name(key) => Some(FieldType::Extra),
         None => None,
     }

@@ -3,10 +3,11 @@ ghost use Rattle.std.specs.Str.{bytes_eq, is_utf8};
 ghost use Rattle.std.proofs.Common.{rules};
 ghost use Rattle.std.specs.Cmp.Rules.{comparing};
 ghost use Rattle.field_types.specs.Field.{type_of};
+ghost use Rattle.field_types.specs.Names.{IsRowOf};
 ghost use Rattle.field_types.specs.Writing.{escaped};
 
-use crate::FieldType;
-use crate::field::{row_of, type_of};
+use crate::field::{Row, row_of, type_of};
+use crate::{FieldKey, FieldType};
 use base_types::{OutOfMemory, Text};
 use std::alloc::Global;
 use std::marker::Model;
@@ -14,7 +15,7 @@ use std::marker::Model;
 // Names of the table of fields take no memory.
 #[derive(Debug, Drop)]
 enum Name {
-    Known(&'static str, FieldType),
+    Known(&'static str, Row),
     Other(Text),
 }
 
@@ -26,13 +27,13 @@ pub struct FieldName {
 
 impl Model for FieldName {
     ghost use Rattle.std.specs.Prelude.{List, ℕ};
-    ghost use Rattle.field_types.specs.Names.{name_bytes, IsRow};
+    ghost use Rattle.field_types.specs.Names.{name_bytes, IsKnown};
 
     ghost Value = { List ℕ };
 
     ghost view = { λ n. name_bytes n.name };
 
-    ghost invariant = { λ n. IsRow n.name };
+    ghost invariant = { λ n. IsKnown n.name };
 }
 
 impl PartialEq for FieldName {
@@ -77,8 +78,8 @@ impl FieldName {
         ensures plain { OnSome result (flat_map escaped name.now ≡ name.now) }
     {
         match row_of(name) {
-            Some((known, kind)) => Some(FieldName {
-                name: Name::Known(known, kind),
+            Some((known, row)) => Some(FieldName {
+                name: Name::Known(known, row),
             }),
             None => None,
         }
@@ -89,7 +90,7 @@ impl FieldName {
         ensures { result ≡ type_of self.now }
     {
         match &self.name {
-            Name::Known(_, kind) => Some(*kind),
+            Name::Known(_, row) => Some(row.kind),
             Name::Other(name) => type_of(name),
         }
     }
@@ -109,9 +110,30 @@ impl FieldName {
         self.as_str().as_bytes()
     }
 
+    fn row(&self) -> Option<Row>
+        ensures { IsRowOf result self.now }
+    {
+        match &self.name {
+            Name::Known(_, row) => Some(*row),
+            Name::Other(_) => None,
+        }
+    }
+
+    /// The name, to look for.
+    pub fn as_key(&self) -> FieldKey<'_>
+        ensures { result ≡ self.now }
+    {
+        FieldKey::with_row(self.as_str(), self.row())
+    }
+
     pub fn copy(&self, alloc: Global) -> Result<FieldName, OutOfMemory>
         ensures { IfOk result (λ copied. copied ≡ self.now) }
     {
-        FieldName::new(alloc, self.as_str())
+        match &self.name {
+            Name::Known(known, row) => Ok(FieldName {
+                name: Name::Known(known, *row),
+            }),
+            Name::Other(text) => FieldName::new(alloc, text.as_str()),
+        }
     }
 }

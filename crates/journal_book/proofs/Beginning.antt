@@ -99,12 +99,11 @@ replayed_created m base state steps none same sound writable = record {
   coded = subst (λ (ss : List Step). AllByRecursion IsWritable ss) (sym none) tt;
 }
 
-pub pending_created : (steps : List Step) (pending : List ℕ) (limit : ℕ) (journal : JournalView) → steps ≡ [] → limit ≤ greatest_limit → journal.length ≤ longest_waiting → IsPending steps 0 pending 0 0 limit journal
+pub pending_created : (steps : List Step) (pending : List ℕ) (limit : ℕ) (journal : JournalView) → steps ≡ [] → limit ≤ greatest_limit → journal.length ≤ longest_waiting → IsPending steps 0 pending 0 limit journal
 pending_created steps pending limit journal none bound long = record {
   code = ap codes_of (sym none);
   within = omega arith;
   has_room = omega arith;
-  total = omega (arith, ap (λ (ss : List Step). length (codes_of ss)) none);
   bound = bound;
   small = inl none;
   long = omega (arith, long);

@@ -195,23 +195,23 @@ long_record (step ∷ steps) some = omega (arith, length-append (code_of_step st
 pub some_wait : (kept : ℕ) (steps : List Step) → kept ≤ length steps → (kept ≡ length steps → ⊥) → 1 ≤ length (drop kept steps)
 some_wait kept steps within apart = omega (arith, within, apart, length-drop kept steps)
 
-pub record_is : (m : Meaning) (base : Base) (steps : List Step) (kept : ℕ) (state : Base) (pending bytes : List ℕ) (used total limit : ℕ) (journal : JournalView) → IsReplayed m base steps kept state → IsPending steps kept pending used total limit journal
+pub record_is : (m : Meaning) (base : Base) (steps : List Step) (kept : ℕ) (state : Base) (pending bytes : List ℕ) (used limit : ℕ) (journal : JournalView) → IsReplayed m base steps kept state → IsPending steps kept pending used limit journal
     → (kept ≡ length steps → ⊥) → bytes ≡ pending → IsRecord (take used bytes) (drop kept steps)
-record_is m base steps kept state pending bytes used total limit journal replayed pends apart same =
+record_is m base steps kept state pending bytes used limit journal replayed pends apart same =
     record { some = some_wait kept steps replayed.within apart; writable = replayed.coded; code = ap (take used) same ∙ pends.code }
 
-pub room_left : (m : Meaning) (base : Base) (steps : List Step) (kept : ℕ) (state : Base) (pending bytes : List ℕ) (used total limit : ℕ) (journal : JournalView) → IsReplayed m base steps kept state → IsPending steps kept pending used total limit journal
+pub room_left : (m : Meaning) (base : Base) (steps : List Step) (kept : ℕ) (state : Base) (pending bytes : List ℕ) (used limit : ℕ) (journal : JournalView) → IsReplayed m base steps kept state → IsPending steps kept pending used limit journal
     → (kept ≡ length steps → ⊥) → bytes ≡ pending → journal.length + length (take used bytes) + frame_length ≤ longest_journal
-room_left m base steps kept state pending bytes used total limit journal replayed pends apart same =
+room_left m base steps kept state pending bytes used limit journal replayed pends apart same =
     ⊎_elim
     (λ none. absurd (omega (arith, ap length none, some_wait kept steps replayed.within apart)))
     (λ small. omega (arith, small, pends.bound, pends.long, codes_split kept steps, ap length (ap (take used) same ∙ pends.code)))
     pends.small
 
-pub pending_flushed : (m : Meaning) (base : Base) (steps : List Step) (kept len : ℕ) (state : Base) (pending bytes : List ℕ) (used total limit : ℕ) (journal later : JournalView) → IsReplayed m base steps kept state
-    → IsPending steps kept pending used total limit journal → (kept ≡ length steps → ⊥) → bytes ≡ pending → len ≡ length steps → later.length ≡ journal.length + length (take used bytes) + frame_length
-    → IsPending steps len pending 0 total limit later
-pending_flushed m base steps kept len state pending bytes used total limit journal later replayed pends apart same size longer =
+pub pending_flushed : (m : Meaning) (base : Base) (steps : List Step) (kept len : ℕ) (state : Base) (pending bytes : List ℕ) (used limit : ℕ) (journal later : JournalView) → IsReplayed m base steps kept state
+    → IsPending steps kept pending used limit journal → (kept ≡ length steps → ⊥) → bytes ≡ pending → len ≡ length steps → later.length ≡ journal.length + length (take used bytes) + frame_length
+    → IsPending steps len pending 0 limit later
+pending_flushed m base steps kept len state pending bytes used limit journal later replayed pends apart same size longer =
     let none : drop len steps ≡ [] = ap (λ n. drop n steps) size ∙ drop_all (length steps) steps (omega arith) in
     let all : take len steps ≡ steps = take_all len steps (omega (arith, size)) in
     let more : length (take used bytes) ≡ length (codes_of (drop kept steps)) = ap length (ap (take used) same ∙ pends.code) in
@@ -219,7 +219,6 @@ pending_flushed m base steps kept len state pending bytes used total limit journ
       code = ap codes_of (sym none);
       within = omega arith;
       has_room = omega arith;
-      total = pends.total;
       bound = pends.bound;
       small = inl none;
       long = omega (arith, longer, more, pends.long, codes_split kept steps, long_record (drop kept steps) (some_wait kept steps replayed.within apart), ap (λ ss. length (codes_of ss)) all);

@@ -45,10 +45,10 @@ replayed_more m base steps kept state step was writable time = record {
 codes_more : (steps : List Step) (step : Step) → codes_of (steps ++ step ∷ []) ≡ codes_of steps ++ code_of_step step
 codes_more steps step = flat_map-append code_of_step steps (step ∷ []) ∙ ap (λ c. codes_of steps ++ c) (append-nil (code_of_step step))
 
-pub pending_more : (steps : List Step) (step : Step) (kept : ℕ) (pending more : List ℕ) (used len bytes limit : ℕ) (journal later : JournalView) → kept ≤ length steps
-    → IsPending steps kept pending used bytes limit journal → more ≡ take used pending ++ code_of_step step → len ≡ length more → len ≤ later.room → later.length ≡ journal.length
-    → nat_lt limit (bytes_with steps step) ≡ false → IsPending (steps ++ step ∷ []) kept more len (bytes_with steps step) limit later
-pending_more steps step kept pending more used len bytes limit journal later within was code size room same fits =
+pub pending_more : (steps : List Step) (step : Step) (kept : ℕ) (pending more : List ℕ) (used len limit : ℕ) (journal later : JournalView) → kept ≤ length steps
+    → IsPending steps kept pending used limit journal → more ≡ take used pending ++ code_of_step step → len ≡ length more → len ≤ later.room → later.length ≡ journal.length
+    → nat_lt limit (bytes_with steps step) ≡ false → IsPending (steps ++ step ∷ []) kept more len limit later
+pending_more steps step kept pending more used len limit journal later within was code size room same fits =
     let codes = codes_more steps step in
     let waiting : drop kept (steps ++ step ∷ []) ≡ drop kept steps ++ step ∷ [] = drop-append-le kept steps (step ∷ []) within in
     let durable : take kept (steps ++ step ∷ []) ≡ take kept steps = take-append-le kept steps (step ∷ []) within in
@@ -58,20 +58,18 @@ pending_more steps step kept pending more used len bytes limit journal later wit
       code = whole ∙ code ∙ ap (λ c. c ++ code_of_step step) was.code ∙ sym (codes_more (drop kept steps) step) ∙ ap codes_of (sym waiting);
       within = omega (arith, size);
       has_room = room;
-      total = omega (arith, total);
       bound = was.bound;
       small = inr (omega (arith, total, was.bound, ltb-false limit (bytes_with steps step) fits));
       long = omega (arith, same, was.long, ap (λ ss. length (codes_of ss)) durable);
     }
 
 -- a step that isn't committed leaves the codes of those before it
-pub pending_still : (steps : List Step) (kept : ℕ) (pending other : List ℕ) (used bytes limit : ℕ) (journal later : JournalView) → IsPending steps kept pending used bytes limit journal
-    → take used other ≡ take used pending → used ≤ length other → journal.room ≤ later.room → later.length ≡ journal.length → IsPending steps kept other used bytes limit later
-pending_still steps kept pending other used bytes limit journal later was same within room length = record {
+pub pending_still : (steps : List Step) (kept : ℕ) (pending other : List ℕ) (used limit : ℕ) (journal later : JournalView) → IsPending steps kept pending used limit journal
+    → take used other ≡ take used pending → used ≤ length other → journal.room ≤ later.room → later.length ≡ journal.length → IsPending steps kept other used limit later
+pending_still steps kept pending other used limit journal later was same within room length = record {
   code = same ∙ was.code;
   within = within;
   has_room = omega (arith, was.has_room, room);
-  total = was.total;
   bound = was.bound;
   small = was.small;
   long = omega (arith, length, was.long);

@@ -46,13 +46,12 @@ replayed_reopened m base state steps len is same size = record {
   coded = subst (λ (ss : List Step). AllByRecursion IsWritable ss) (sym (none_wait len steps size)) tt;
 }
 
-pub pending_reopened : (steps : List Step) (len : ℕ) (pending : List ℕ) (bytes limit : ℕ) (journal : JournalView) → len ≡ length steps → bytes ≡ min (sum_by (λ step. length (code_of_step step)) steps) last_u64 → limit ≤ greatest_limit
-    → journal.length ≤ longest_waiting + 2 * length (codes_of steps) → IsPending steps len pending 0 bytes limit journal
-pending_reopened steps len pending bytes limit journal size total bound long = record {
+pub pending_reopened : (steps : List Step) (len : ℕ) (pending : List ℕ) (limit : ℕ) (journal : JournalView) → len ≡ length steps → limit ≤ greatest_limit
+    → journal.length ≤ longest_waiting + 2 * length (codes_of steps) → IsPending steps len pending 0 limit journal
+pending_reopened steps len pending limit journal size bound long = record {
   code = ap codes_of (sym (none_wait len steps size));
   within = omega arith;
   has_room = omega arith;
-  total = total ∙ ap (λ n. min n last_u64) (sym (length-flat_map code_of_step steps));
   bound = bound;
   small = inl (none_wait len steps size);
   long = omega (arith, long, ap (λ ss. length (codes_of ss)) (all_durable len steps size));

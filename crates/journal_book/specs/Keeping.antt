@@ -1,11 +1,10 @@
 -- What a book keeps between calls.
-use Rattle.std.specs.Prelude.{◌≡◌, ◌⊎◌, ◌≤◌, ◌+◌, ◌*◌, ◌^◌, ℕ, List, [], ◌∷◌, ◌++◌, length, take, drop, map, min}
+use Rattle.std.specs.Prelude.{◌≡◌, ◌⊎◌, ◌≤◌, ◌+◌, ◌*◌, ◌^◌, ℕ, List, [], ◌∷◌, ◌++◌, length, take, drop, map}
 use Rattle.std.specs.List.{AllByRecursion}
 use Rattle.edge_traits.specs.Disk.{Image}
 use Rattle.disk_journal.specs.GateFile.{heading_of}
 use Rattle.disk_journal.specs.Journal.{JournalView, IsAtRest}
 use Rattle.stored_types.specs.Code.{number}
-use Rattle.base_types.specs.Number.{last_u64}
 use Rattle.step_code.specs.declared.base.Base.{Base}
 use Rattle.step_code.specs.declared.output.Output.{Output}
 use Rattle.step_code.specs.declared.step.Step.{Step}
@@ -49,11 +48,10 @@ longest_waiting = 2 ^ 29
 
 -- the codes of the steps that wait stand in a buffer, and there is room to append them to the journal; all codes together
 -- are within the limit where any waits
-pub record IsPending (steps : List Step) (kept : ℕ) (pending : List ℕ) (used bytes limit : ℕ) (journal : JournalView) : Type 0 where
+pub record IsPending (steps : List Step) (kept : ℕ) (pending : List ℕ) (used limit : ℕ) (journal : JournalView) : Type 0 where
   pub code : take used pending ≡ codes_of (drop kept steps)
   pub within : used ≤ length pending
   pub has_room : used ≤ journal.room
-  pub total : bytes ≡ min (length (codes_of steps)) last_u64
   pub bound : limit ≤ greatest_limit
   pub small : (drop kept steps ≡ []) ⊎ (length (codes_of steps) ≤ limit)
   pub long : journal.length ≤ longest_waiting + 2 * length (codes_of (take kept steps))

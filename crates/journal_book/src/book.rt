@@ -19,15 +19,15 @@ ghost use Rattle.journal_book.specs.Faults.{IsCreateFault};
 ghost use Rattle.journal_book.specs.Outputs.{AreCompleted, AreWritten, HaveNoneSealed, IsBringUpFault, IsNoDamage, LeavesOuts};
 ghost use Rattle.store_image.specs.Opens.{Opens};
 ghost use Rattle.journal_book.specs.Opening.{opened, IsReopened, IsReopenFault, StandsNow, TellsLong};
-ghost use Rattle.journal_book.specs.Staged.{bytes_with, cause_of, greatest_limit, most_waiting, most_waiting_bytes, staged, stamp, step_cause, IsMove, IsStageRefusal};
+ghost use Rattle.journal_book.specs.Staged.{cause_of, greatest_limit, most_waiting, most_waiting_bytes, staged, stamp, step_cause, IsMove, IsStageRefusal};
 
 use crate::create::{Opened, make_store};
-use crate::entering::{drop_last, enter, last_step, push_step};
+use crate::entering::enter;
 use crate::history::History;
 use crate::opening::{Reopened, open_store};
 use crate::outputs::complete_all;
 use crate::staging::{Move, next_step};
-use crate::{BookFault, StageRefusal, StepList};
+use crate::{BookFault, StageRefusal};
 use ack_steps::Core;
 use base_types::{Blob, OutOfMemory};
 use disk_journal::Journal;
@@ -36,7 +36,7 @@ use std::alloc::Global;
 use std::marker::Model;
 use std::snapshot::Snapshot;
 use step_code::{Base, Rules, Step};
-use stored_types::codes_len;
+use step_log::StepLog;
 
 /// Why staged steps could not be made durable.
 #[derive(Clone, Copy, Debug, PartialEq, Eq)]
@@ -58,13 +58,11 @@ pub struct Book<D: Disk, R: Rules> {
     generation: u64,
     // The state that the generation begins with.
     base: Snapshot<Base>,
-    steps: StepList,
+    steps: StepLog,
     durable: usize,
     // The codes of the steps that aren't durable are its first so many bytes.
     pending: Blob,
     used: usize,
-    // The lengths of the codes of all steps together.
-    bytes: u64,
     limit: u64,
     broken: bool,
 }
@@ -81,7 +79,7 @@ impl<D: Disk, R: Rules> Model for Book<D, R> {
 
     ghost invariant = { λ b. AreStoreFiles b.root b.journal b.generation
         × IsReplayed R.meaning b.base.value b.steps b.durable b.core.state
-        × IsPending b.steps b.durable b.pending b.used b.bytes b.limit b.journal
+        × IsPending b.steps b.durable b.pending b.used b.limit b.journal
         × AreShort b.core.state.outs
         × (b.broken ≡ false → b.journal.broken ≡ false)
         × (b.broken ≡ false → (files : Image) → (D.disk b.disk).told ≡ Some files → AreAtRest b.root b.journal (D.may_leave b.disk) b.generation b.base.value (take b.durable b.steps) files) };
@@ -138,11 +136,10 @@ impl<D: Disk, R: Rules> Book<D, R> {
                 journal,
                 generation: 0,
                 base,
-                steps: StepList::new(alloc),
+                steps: StepLog::new(),
                 durable: 0,
                 pending: Blob::from(Vec::new(alloc)),
                 used: 0,
-                bytes: 0,
                 limit,
                 broken: false,
             }),
@@ -198,7 +195,6 @@ impl<D: Disk, R: Rules> Book<D, R> {
                 },
             ) => {
                 let durable = steps.len();
-                let bytes = codes_len(steps.as_slice());
                 Ok(Book {
                     alloc,
                     disk,
@@ -211,7 +207,6 @@ impl<D: Disk, R: Rules> Book<D, R> {
                     durable,
                     pending: Blob::from(Vec::new(alloc)),
                     used: 0,
-                    bytes,
                     limit,
                     broken: false,
                 })
@@ -237,13 +232,6 @@ impl<D: Disk, R: Rules> Book<D, R> {
         &self.core
     }
 
-    /// The steps of the generation in force, the first one first.
-    pub fn steps(&self) -> &StepList
-        ensures { result.now ≡ self.now.steps }
-    {
-        &self.steps
-    }
-
     /// The number of the last step that is durable.
     pub fn durable(&self) -> u64
         ensures { result ≡ self.now.base.steps + self.now.kept }
@@ -257,6 +245,13 @@ impl<D: Disk, R: Rules> Book<D, R> {
         ensures bytes { result.1 ≡ length (codes_of (waiting_steps self.now)) }
     {
         ((self.steps.len() - self.durable) as u64, self.used as u64)
+    }
+
+    /// The codes of the steps that wait for a flush, one behind the other.
+    pub fn waiting(&self) -> &[u8]
+        ensures { result.now ≡ codes_of (waiting_steps self.now) }
+    {
+        &self.pending.bytes()[..self.used]
     }
 
     pub fn disk(&self) -> &D
@@ -281,7 +276,6 @@ impl<D: Disk, R: Rules> Book<D, R> {
             durable: _,
             pending: _,
             used: _,
-            bytes: _,
             limit: _,
             broken: _,
         } = self;
@@ -311,41 +305,44 @@ impl<D: Disk, R: Rules> Book<D, R> {
         if self.broken {
             return Err(StageRefusal::Broken);
         }
-        match next_step(self.alloc, &self.core, self.bytes, self.limit, now, what) {
-            Ok((step, bytes)) => self.commit(step, bytes),
+        match next_step(
+            self.alloc,
+            &self.core,
+            self.steps.code_len(),
+            self.limit,
+            now,
+            what,
+        ) {
+            Ok(step) => self.commit(&step),
             Err(refusal) => Err(refusal),
         }
     }
 
-    // Commits a step that nothing refuses, and with which all codes are so many bytes long.
-    fn commit(&mut self, step: Step, bytes: u64) -> Result<u64, StageRefusal>
+    // Commits a step that nothing refuses.
+    fn commit(&mut self, step: &Step) -> Result<u64, StageRefusal>
         requires whole { self.old.broken ≡ false }
-        requires bytes { bytes ≡ bytes_with self.old.steps step }
-        requires causes { step_cause R.meaning self.old.state self.old.steps self.old.limit step ≡ None }
-        requires may { May R.meaning self.old.state step }
-        ensures ok { OnOk result (self.new ≡ record self.old { state = after R.meaning self.old.state step; steps = self.old.steps ++ step ∷ [] }) }
+        requires causes { step_cause R.meaning self.old.state self.old.steps self.old.limit step.now ≡ None }
+        requires may { May R.meaning self.old.state step.now }
+        ensures ok { OnOk result (self.new ≡ record self.old { state = after R.meaning self.old.state step.now; steps = self.old.steps ++ step.now ∷ [] }) }
         ensures number { IfOk result (λ number. number ≡ self.new.state.steps) }
         ensures memory { IfErr result (λ refusal. refusal ≡ StageRefusal.OutOfMemory) }
         ensures err { OnErr result (self.new ≡ self.old) }
     {
-        push_step(&mut self.steps, step)?;
+        let steps = self.steps.with(step)?;
         match enter(
             self.alloc,
             &mut self.pending,
             self.used,
             &mut self.journal,
             &mut self.core,
-            last_step(&self.steps),
+            step,
         ) {
             Ok(used) => {
                 self.used = used;
-                self.bytes = bytes;
+                self.steps = steps;
                 Ok(self.core.steps())
             }
-            Err(OutOfMemory) => {
-                drop_last(&mut self.steps);
-                Err(StageRefusal::OutOfMemory)
-            }
+            Err(OutOfMemory) => Err(StageRefusal::OutOfMemory),
         }
     }
 

@@ -1,45 +1,16 @@
 //! Taking a step in: its code behind those that wait, and the state that it leads to.
-ghost use Rattle.std.specs.Prelude.{◌≡◌, ◌≤◌, ◌+◌, ◌++◌, ◌∷◌, [], List, length, take, None, IfOk, OnOk, OnErr};
-ghost use Rattle.step_code.specs.declared.step.Step.{Step};
+ghost use Rattle.std.specs.Prelude.{◌≡◌, ◌≤◌, ◌+◌, ◌++◌, length, take, None, IfOk, OnOk, OnErr};
 ghost use Rattle.step_code.specs.After.{after};
 ghost use Rattle.step_code.specs.Code.{code_of_step, IsWritable};
 ghost use Rattle.step_code.specs.Content.{May};
 ghost use Rattle.step_code.specs.Spent.{spent};
 
 use ack_steps::Core;
-use base_types::{Blob, ListOf, OutOfMemory};
+use base_types::{Blob, OutOfMemory};
 use disk_journal::Journal;
 use history_laws::what_may_be_taken_may_be_replayed;
 use std::alloc::Global;
 use step_code::{Rules, Step, encode_step};
-
-pub type StepList = ListOf<Step>;
-
-/// Puts a step at the end.
-pub fn push_step(steps: &mut StepList, step: Step) -> Result<(), OutOfMemory>
-    ensures ok { OnOk result (steps.new ≡ steps.old ++ step ∷ []) }
-    ensures err { OnErr result (steps.new ≡ steps.old) }
-{
-    match steps.push(step) {
-        Ok(()) => Ok(()),
-        Err(_) => Err(OutOfMemory),
-    }
-}
-
-/// The last step.
-pub fn last_step(steps: &StepList) -> &Step
-    requires { 1 ≤ length steps.now }
-    ensures { (front : List Step) (last : Step) → steps.now ≡ front ++ last ∷ [] → result.now ≡ last }
-{
-    steps.at(steps.len() - 1)
-}
-
-/// Drops the last step.
-pub fn drop_last(steps: &mut StepList)
-    ensures { (front : List Step) (last : Step) → steps.old ≡ front ++ last ∷ [] → steps.new ≡ front }
-{
-    steps.pop();
-}
 
 // Drops what an earlier call left behind the first so many bytes.
 fn cut_back(alloc: Global, pending: &mut Blob, used: usize) -> Result<(), OutOfMemory>

@@ -4,7 +4,6 @@ ghost use Rattle.step_code.specs.History.{replay};
 ghost use Rattle.store_image.specs.Damage.{behind_bodies, AreNoHistory};
 ghost use Rattle.journal_book.specs.Reading.{AreHistory, IsBodyFault};
 
-use crate::entering::StepList;
 use crate::reading::{FRAME, HEADER, base_of};
 use crate::replaying::replay_bodies;
 use ack_steps::Core;
@@ -13,6 +12,7 @@ use disk_journal::JournalFault;
 use std::alloc::Global;
 use std::snapshot::Snapshot;
 use step_code::{Base, Rules};
+use step_log::StepLog;
 use stored_types::CodeFault;
 
 /// A state, steps behind it, and a core with the state behind all.
@@ -20,7 +20,7 @@ use stored_types::CodeFault;
 pub struct History<R: Rules> {
     pub core: Core<R>,
     pub base: Snapshot<Base>,
-    pub steps: StepList,
+    pub steps: StepLog,
 }
 
 /// The history that these bodies hold.

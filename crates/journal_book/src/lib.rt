@@ -18,6 +18,5 @@ mod staging;
 
 pub use book::{Book, FlushFault};
 pub use book_fault::BookFault;
-pub use entering::StepList;
 pub use stage_refusal::StageRefusal;
 pub use staging::Move;

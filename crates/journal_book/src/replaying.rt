@@ -8,13 +8,13 @@ ghost use Rattle.store_image.specs.Damage.{BeginsWithNoStep, HoldNoSteps, IsNoSt
 ghost use Rattle.store_image.specs.Opens.{IsReplayable};
 ghost use Rattle.journal_book.specs.Reading.{BeginsWithStep, HoldReplayable, HoldsReplayable, IsBodyFault};
 
-use crate::entering::{StepList, push_step};
 use crate::reading::FRAME;
 use ack_steps::Core;
 use base_types::{Blob, OutOfMemory};
 use disk_journal::JournalFault;
 use std::alloc::Global;
 use step_code::{Rules, Step, decode_step, steps_have_one_code};
+use step_log::StepLog;
 use stored_types::CodeFault;
 
 // Whether a stored step can be replayed, and brings no number past the last one.
@@ -42,7 +42,7 @@ fn apply<R: Rules>(core: &mut Core<R>, step: &Step) -> Result<(), OutOfMemory>
 fn replay_step<R: Rules>(
     alloc: Global,
     core: &mut Core<R>,
-    steps: &mut StepList,
+    steps: &mut StepLog,
     bytes: &[u8],
 ) -> Result<usize, CodeFault>
     ensures step { IfOk result (λ len. (step : Step) × BeginsWithStep R.meaning core.old.state bytes.now step len
@@ -55,7 +55,7 @@ fn replay_step<R: Rules>(
         return Err(CodeFault::Bad);
     }
     apply(core, &step)?;
-    push_step(steps, step)?;
+    *steps = steps.with(&step)?;
     Ok(len)
 }
 
@@ -71,7 +71,7 @@ fn behind(bytes: &[u8], len: usize) -> &[u8]
 fn replay_body<R: Rules>(
     alloc: Global,
     core: &mut Core<R>,
-    steps: &mut StepList,
+    steps: &mut StepLog,
     body: &[u8],
     start: u64,
 ) -> Result<(), JournalFault>
@@ -106,13 +106,13 @@ pub fn replay_bodies<R: Rules>(
     core: &mut Core<R>,
     bodies: &[Blob],
     start: u64,
-) -> Result<StepList, JournalFault>
+) -> Result<StepLog, JournalFault>
     requires { start + length (open_records bodies.now) < 2 ^ 64 }
     ensures steps { IfOk result (λ steps. HoldReplayable R.meaning core.old.state bodies.now steps) }
     ensures core { IfOk result (λ steps. core.new ≡ record core.old { state = replay R.meaning core.old.state steps }) }
     ensures fault { IfErr result (IsBodyFault (HoldNoSteps R.meaning core.old.state start bodies.now)) }
 {
-    let mut steps = StepList::new(alloc);
+    let mut steps = StepLog::new();
     let mut at = start;
     'bodies: for body in bodies {
         let body = body.bytes();

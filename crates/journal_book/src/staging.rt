@@ -114,8 +114,8 @@ fn checked<R: Rules>(
     }
 }
 
-/// The step that a move comes to when the clock shows this moment, if nothing refuses it behind these steps, whose codes
-/// are so many bytes long together; and the length of all codes with its own.
+/// The step that a move comes to when the clock shows this moment, if nothing refuses it behind steps whose codes are so
+/// many bytes long together.
 pub fn next_step<R: Rules>(
     alloc: Global,
     core: &Core<R>,
@@ -123,9 +123,8 @@ pub fn next_step<R: Rules>(
     limit: u64,
     now: u64,
     what: Move,
-) -> Result<(Step, u64), StageRefusal>
-    ensures step { IfOk result (λ next. next.0 ≡ staged R.meaning core.now.state now what) }
-    ensures bytes { (steps : List Step) → bytes ≡ min (length (codes_of steps)) last_u64 → IfOk result (λ next. next.1 ≡ bytes_with steps next.0) }
+) -> Result<Step, StageRefusal>
+    ensures step { IfOk result (λ step. step ≡ staged R.meaning core.now.state now what) }
     ensures ok { (steps : List Step) → bytes ≡ min (length (codes_of steps)) last_u64 → OnOk result (step_cause R.meaning core.now.state steps limit (staged R.meaning core.now.state now what) ≡ None) }
     ensures refused { (steps : List Step) → bytes ≡ min (length (codes_of steps)) last_u64
         → IfErr result (IsStageRefusal (step_cause R.meaning core.now.state steps limit (staged R.meaning core.now.state now what))) }
@@ -133,7 +132,7 @@ pub fn next_step<R: Rules>(
     let step = staged(alloc, core, now, what);
     let bytes = bytes_with(bytes, &step);
     match checked(core, bytes, limit, &step) {
-        Ok(()) => Ok((step, bytes)),
+        Ok(()) => Ok(step),
         Err(refusal) => Err(refusal),
     }
 }

@@ -22,7 +22,7 @@ use sink::WriterSink;
 use std::os::unix::fs::FileExt;
 use std::process::ExitCode;
 use std::rt::{Clock, Env, Files};
-use std::{env, io};
+use std::{env, fs, io};
 
 const HELP: &str = "\
 intelpipe STORE COMMAND [--NAME VALUE]...
@@ -69,7 +69,15 @@ Exit status:
 
 const VERSION: &str = "intelpipe 0.1.0\n";
 
+// A file that is there on any system, and of which nothing is read.
+const NO_FILE: &str = "/dev/null";
+
+// Where standard input, output or error is closed, the system gives its number to the next file that is opened. These three are
+// opened first, for reading alone, so that no file of a store gets such a number: what is printed there fails then.
 fn main(rt: HostRuntime) -> ExitCode {
+    let _first = fs::open(&rt, NO_FILE);
+    let _second = fs::open(&rt, NO_FILE);
+    let _third = fs::open(&rt, NO_FILE);
     ExitCode::from(run(&rt))
 }
 

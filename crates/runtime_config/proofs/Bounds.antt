@@ -4,12 +4,12 @@ use Rattle.std.specs.Prelude.{◌&&◌, ◌==◌, codes, nat_lt, not, option_and
 use Rattle.std.proofs.lemmas.Bool.{and_parts, ltb-true}
 use Rattle.serde_json.specs.Data.{Data, Members}
 use Rattle.serde_json.specs.Find.{as_str}
-use Rattle.runtime_config.specs.Parameters.{byte_of, is_delimiter, parameters_of, row, taken_as, Parameter}
-use Rattle.runtime_config.specs.Runtime.{given, module_of, parameter_named, set_as, setting_of, whole_in, Entry}
-use Rattle.runtime_config.specs.declared.form.Form.TheVariants as form
-use Rattle.runtime_config.specs.declared.module.ModuleWord.{ModuleWord}
-use Rattle.runtime_config.specs.declared.module.ModuleWord.TheVariants as modules
-use Rattle.runtime_config.specs.declared.setting.Setting.TheVariants as as_setting
+use Rattle.module_settings.specs.Parameters.{byte_of, is_delimiter, parameters_of, row, setting_of, taken_as, Parameter}
+use Rattle.runtime_config.specs.Runtime.{given, module_of, parameter_named, set_as, whole_in, Entry}
+use Rattle.module_settings.specs.declared.form.Form.TheVariants as form
+use Rattle.module_settings.specs.declared.module.ModuleWord.{ModuleWord}
+use Rattle.module_settings.specs.declared.module.ModuleWord.TheVariants as modules
+use Rattle.module_settings.specs.declared.setting.Setting.TheVariants as as_setting
 use Rattle.runtime_config.proofs.Numbers.{whole_is_within}
 
 -- a number that may be given or not

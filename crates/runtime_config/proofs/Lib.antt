@@ -1,7 +1,6 @@
 pub mod Adding
 pub mod Bots
 pub mod Bounds
-pub mod Cells
 pub mod Faulty
 pub mod Lists
 pub mod Loads
@@ -15,6 +14,5 @@ pub mod Reached
 pub mod ReadAs
 pub mod Searches
 pub mod Sieved
-pub mod Tables
 pub mod Ways
 pub mod Within

@@ -5,7 +5,7 @@ use Rattle.serde_json.specs.View.{view, members_view}
 use Rattle.event_model.specs.Trees.{both}
 use Rattle.event_model.proofs.TreeLemmas.{Entry}
 use Rattle.event_model.proofs.Written.{front_push, in_front}
-use Rattle.runtime_config.specs.Parameters.{texts_in}
+use Rattle.module_settings.specs.Parameters.{texts_in}
 use Rattle.runtime_config.specs.Runtime.{routes_in}
 
 -- one more item is read behind others

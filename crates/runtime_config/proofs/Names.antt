@@ -6,10 +6,10 @@ use Rattle.std.proofs.lemmas.List.{map-append}
 use Rattle.std.proofs.lemmas.List.Elements.{filter-append}
 use Rattle.event_model.specs.Lenient.{least, lesser}
 use Rattle.runtime_config.specs.Faults.{name_when}
-use Rattle.runtime_config.specs.Parameters.{Parameter}
-use Rattle.runtime_config.specs.Rows.{parameter_of}
+use Rattle.module_settings.specs.Parameters.{Parameter}
+use Rattle.module_settings.specs.Rows.{parameter_of}
 use Rattle.runtime_config.specs.Runtime.{parameter_named}
-use Rattle.runtime_config.specs.declared.parameter.Parameter.{Parameter as Row}
+use Rattle.module_settings.specs.declared.parameter.Parameter.{Parameter as Row}
 
 -- ---- the least
 

@@ -14,7 +14,7 @@ use Rattle.base_types.proofs.Places.{order, same_key}
 use Rattle.event_model.specs.Trees.{tree_in}
 use Rattle.event_model.proofs.TreeLemmas.{Entry}
 use Rattle.runtime_config.specs.Named.{are_objects, file_given, file_name, file_named, is_first, is_first_below, named_files, named_from, named_in, placed, reads_file, with_file, with_name}
-use Rattle.runtime_config.specs.Parameters.{is_file_name}
+use Rattle.module_settings.specs.Parameters.{is_file_name}
 use Rattle.runtime_config.specs.Runtime.{given, global_key, object_of, object_under}
 
 abbrev Names : Type 0

@@ -5,10 +5,10 @@ use Rattle.std.proofs.lemmas.Bool.{and_parts, leb-true}
 use Rattle.std.proofs.lemmas.Option.{cond_some}
 use Rattle.serde_json.specs.Data.{Data}
 use Rattle.serde_json.specs.Find.{as_number, as_u64}
-use Rattle.runtime_config.specs.Parameters.{taken_as, whole_within}
+use Rattle.module_settings.specs.Parameters.{taken_as, whole_within}
 use Rattle.runtime_config.specs.Runtime.{whole_in}
-use Rattle.runtime_config.specs.declared.form.Form.TheVariants as form
-use Rattle.runtime_config.specs.declared.setting.Setting.TheVariants as setting
+use Rattle.module_settings.specs.declared.form.Form.TheVariants as form
+use Rattle.module_settings.specs.declared.setting.Setting.TheVariants as setting
 
 within : (o : Option ℕ) (least most n : ℕ) → option_and_then (whole_within least most) o ≡ Some (setting.Whole n) → (least ≤ n) × (n ≤ most)
 within None least most n is = absurd (cc)

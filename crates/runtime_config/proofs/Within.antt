@@ -11,16 +11,16 @@ use Rattle.config_bundle.specs.declared.bundle.Bundle.{Bundle}
 use Rattle.event_model.specs.Lenient.{least}
 use Rattle.runtime_config.specs.Faults.{bad_members, bad_names, fault_of, first_fault, first_some, is_bad, places_from, Place}
 use Rattle.runtime_config.specs.Load.{module_as, planned}
-use Rattle.runtime_config.specs.Parameters.{own, parameters_of, row, taken_as, Parameter}
-use Rattle.runtime_config.specs.Runtime.{given, is_collector, module_of, parameter_named, parameters, set_as, setting_of, whole_in, Entry, Runtime}
+use Rattle.module_settings.specs.Parameters.{own, parameters_of, row, setting_of, taken_as, Parameter}
+use Rattle.runtime_config.specs.Runtime.{given, is_collector, module_of, parameter_named, parameters, set_as, whole_in, Entry, Runtime}
 use Rattle.runtime_config.specs.Within.{IsBotWithin, IsModuleWithin}
 use Rattle.runtime_config.specs.declared.fault.LoadFault.{LoadFault}
 use Rattle.runtime_config.specs.declared.fault.LoadFault.TheVariants as fault
-use Rattle.runtime_config.specs.declared.form.Form.TheVariants as form
-use Rattle.runtime_config.specs.declared.module.ModuleWord.{ModuleWord}
-use Rattle.runtime_config.specs.declared.module.ModuleWord.TheVariants as modules
-use Rattle.runtime_config.specs.declared.setting.Setting.{Setting}
-use Rattle.runtime_config.specs.declared.setting.Setting.TheVariants as as_setting
+use Rattle.module_settings.specs.declared.form.Form.TheVariants as form
+use Rattle.module_settings.specs.declared.module.ModuleWord.{ModuleWord}
+use Rattle.module_settings.specs.declared.module.ModuleWord.TheVariants as modules
+use Rattle.module_settings.specs.declared.setting.Setting.{Setting}
+use Rattle.module_settings.specs.declared.setting.Setting.TheVariants as as_setting
 use Rattle.runtime_config.proofs.Bounds.{few_instances, few_retries, short_delay, small_chunk}
 use Rattle.runtime_config.proofs.Numbers.{least_within}
 

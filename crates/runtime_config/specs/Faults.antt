@@ -7,14 +7,14 @@ use Rattle.serde_json.specs.Data.{Data, Members}
 use Rattle.serde_json.specs.Find.{as_bool, get_member}
 use Rattle.event_model.specs.Lenient.{least}
 use Rattle.config_bundle.specs.declared.bundle.Bundle.{Bundle}
-use Rattle.runtime_config.specs.Parameters.{Parameter}
+use Rattle.module_settings.specs.Parameters.{Parameter}
 use Rattle.runtime_config.specs.Reaches.{is_queue_of, reaches, targets}
 use Rattle.runtime_config.specs.Runtime.{given, is_output, is_prefix, is_sieve, line_in, lines_in, module_key, module_of, object_of, parameters, reads_file, routes, routes_key, routes_of_value, set_as, setting, whole_in, Entry, Route, Runtime}
 use Rattle.runtime_config.specs.Sieves.{refusal_of, sieve_of}
-use Rattle.runtime_config.specs.Table.{row_count, table_in}
+use Rattle.module_settings.specs.Table.{row_count, table_in}
 use Rattle.runtime_config.specs.declared.fault.LoadFault.{LoadFault}
 use Rattle.runtime_config.specs.declared.fault.LoadFault.TheVariants as fault
-use Rattle.runtime_config.specs.declared.table.Table.{Table}
+use Rattle.module_settings.specs.declared.table.Table.{Table}
 use Rattle.sieve_reader.specs.SieveView.{SieveView}
 
 -- one bot of a bundle, as loading looks at it

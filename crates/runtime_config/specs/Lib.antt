@@ -1,8 +1,5 @@
 -- what public contracts cite
-pub mod Parameters
 pub mod Runtime
-pub mod Networks
-pub mod Table
 pub mod SieveIn
 pub mod Sieves
 pub mod Reaches
@@ -11,7 +8,6 @@ pub mod Load
 pub mod Within
 pub mod Named
 -- what private contracts use
-pub mod Rows
 pub mod Read
 pub mod Wires
 pub mod Sums

@@ -6,17 +6,17 @@ use Rattle.serde_json.specs.Data.{Members}
 use Rattle.config_bundle.specs.declared.bundle.Bundle.{Bundle}
 use Rattle.runtime_config.specs.Faults.{bot_sieve, first_fault, instances, table_text}
 use Rattle.runtime_config.specs.Runtime.{defaults_in, line, line_in, lines_in, module_of, routes, runtime_of, set_as, switch_in, whole_in, Entry, Route as Path, Runtime}
-use Rattle.runtime_config.specs.Table.{table_in}
+use Rattle.module_settings.specs.Table.{table_in}
 use Rattle.runtime_config.specs.declared.fault.LoadFault.{LoadFault}
 use Rattle.runtime_config.specs.declared.fault.LoadFault.TheVariants as fault
-use Rattle.runtime_config.specs.declared.module.ModuleWord.{ModuleWord}
-use Rattle.runtime_config.specs.declared.module.ModuleWord.TheVariants as modules
+use Rattle.module_settings.specs.declared.module.ModuleWord.{ModuleWord}
+use Rattle.module_settings.specs.declared.module.ModuleWord.TheVariants as modules
 use Rattle.runtime_config.specs.declared.plan.Module.{Module}
 use Rattle.runtime_config.specs.declared.plan.Module.TheVariants as as_module
 use Rattle.runtime_config.specs.declared.plan.Plan.{Plan}
 use Rattle.runtime_config.specs.declared.plan.Planned.{Planned}
 use Rattle.runtime_config.specs.declared.plan.Route.{Route}
-use Rattle.runtime_config.specs.declared.table.Table.{Table}
+use Rattle.module_settings.specs.declared.table.Table.{Table}
 
 -- ---- one bot
 

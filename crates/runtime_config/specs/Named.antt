@@ -8,7 +8,7 @@ use Rattle.std.specs.Str.{bytes_eq}
 use Rattle.serde_json.specs.Data.{Data, Members, no_members, member}
 use Rattle.serde_json.specs.Find.{as_str, get_member}
 use Rattle.event_model.specs.Trees.{tree_in}
-use Rattle.runtime_config.specs.Parameters.{is_file_name}
+use Rattle.module_settings.specs.Parameters.{is_file_name}
 use Rattle.runtime_config.specs.Runtime.{given, global_key, module_key, object_of, object_under}
 
 -- ---- names in byte order

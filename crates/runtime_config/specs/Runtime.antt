@@ -4,16 +4,16 @@ use Rattle.std.specs.FinMap.{empty}
 use Rattle.std.specs.Option.{option_or}
 use Rattle.std.specs.Str.{bytes_eq}
 use Rattle.serde_json.specs.Data.{Data, Members, no_members, member}
-use Rattle.serde_json.specs.Find.{as_array, as_object, as_str, get_member}
+use Rattle.serde_json.specs.Find.{as_array, as_object, get_member}
 use Rattle.base_types.specs.Name.{is_bot_name}
 use Rattle.event_model.specs.Fields.{FieldMap}
 use Rattle.event_model.specs.Trees.{both, lexeme_in, tree_in}
 use Rattle.config_bundle.specs.declared.bundle.Bundle.{Bundle}
-use Rattle.runtime_config.specs.Parameters.{module_words, parameters_of, taken_as, texts_in, Parameter}
-use Rattle.runtime_config.specs.declared.module.ModuleWord.{ModuleWord}
-use Rattle.runtime_config.specs.declared.module.ModuleWord.TheVariants as modules
-use Rattle.runtime_config.specs.declared.setting.Setting.{Setting}
-use Rattle.runtime_config.specs.declared.setting.Setting.TheVariants.{Whole, Switch, Line, Lines, Defaults}
+use Rattle.module_settings.specs.Parameters.{module_of_value, parameters_of, setting_of, texts_in, Parameter}
+use Rattle.module_settings.specs.declared.module.ModuleWord.{ModuleWord}
+use Rattle.module_settings.specs.declared.module.ModuleWord.TheVariants as modules
+use Rattle.module_settings.specs.declared.setting.Setting.{Setting}
+use Rattle.module_settings.specs.declared.setting.Setting.TheVariants.{Whole, Switch, Line, Lines, Defaults}
 
 -- a bot's name and its members
 abbrev pub Entry : Type 0
@@ -59,14 +59,6 @@ runtime_of bundle =
     else option_and_then runtime_in (option_and_then object_of (tree_in bundle.runtime))
 
 -- ---- a bot's module and its paths
-
-abbrev pub named_module : List (List ℕ × ModuleWord) → List ℕ → Option ModuleWord
-named_module [] word = None
-named_module (row ∷ rows) word = if bytes_eq word row.0 then Some row.1 else named_module rows word
-
--- the module that a value of JSON names
-abbrev pub module_of_value : Data → Option ModuleWord
-module_of_value d = option_and_then (named_module module_words) (as_str d)
 
 abbrev pub module_key : List ℕ
 module_key = codes "module"
@@ -130,11 +122,6 @@ routes bot = unwrap_or (routes_given bot.1) []
 -- the value of a parameter: the bot's own, or that of all bots
 abbrev pub given : Members → Entry → List ℕ → Option Data
 given global bot name = option_or (get_member name (object_under (codes "parameters") bot.1)) (get_member name global)
-
--- what a parameter is taken as: nothing where its value is of another form, or where it must be given and isn't
-abbrev pub setting_of : Parameter → Option Data → Option Setting
-setting_of q None = q.otherwise
-setting_of q (Some d) = taken_as q.form d
 
 abbrev pub setting : Members → Entry → Parameter → Option Setting
 setting global bot q = setting_of q (given global bot q.name)

@@ -2,14 +2,13 @@
 ghost use Rattle.std.specs.Prelude.{◌≡◌, option_map, option_and_then, is_some, IfOk};
 ghost use Rattle.serde_json.specs.Find.{as_array, get_member};
 ghost use Rattle.serde_json.specs.View.{view, members_view};
-ghost use Rattle.runtime_config.specs.Parameters.{texts_in};
+ghost use Rattle.module_settings.specs.Parameters.{texts_in};
 ghost use Rattle.runtime_config.specs.Faults.{is_given_badly};
 ghost use Rattle.runtime_config.specs.Runtime.{module_of, object_under, routes, routes_given, routes_in, routes_key, routes_of_value};
 
 use crate::object::{Object, member, object_of};
-use crate::texts::{text_of, texts_in};
-use crate::{ModuleWord, module_of};
 use base_types::{BotName, ListOf, OutOfMemory, Text, TextList};
+use module_settings::{ModuleWord, module_of, text_of, texts_in};
 use serde_json::{Map, Value as Tree};
 use std::alloc::Global;
 

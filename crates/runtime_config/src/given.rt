@@ -3,16 +3,18 @@ ghost use Rattle.std.specs.Prelude.{◌≡◌, ◌++◌, [], map, option_map, un
 ghost use Rattle.std.specs.Option.{option_or};
 ghost use Rattle.serde_json.specs.Find.{get_member};
 ghost use Rattle.serde_json.specs.View.{view};
-ghost use Rattle.runtime_config.specs.Parameters.{parameters_of};
+ghost use Rattle.module_settings.specs.Parameters.{parameters_of};
 ghost use Rattle.runtime_config.specs.Read.{entry_of, members_of};
-ghost use Rattle.runtime_config.specs.Rows.{parameter_of};
+ghost use Rattle.module_settings.specs.Rows.{parameter_of};
 ghost use Rattle.runtime_config.specs.Runtime.{defaults_in, given, line, line_in, lines_in, parameter_named, parameters, set_as, setting, switch_in, whole_in};
 
 use crate::bot::Bot;
 use crate::object::Object;
-use crate::{ModuleWord, Parameter, Setting, own_parameters, setting_of, shared_parameters};
 use base_types::{OutOfMemory, Text, TextList};
 use event_model::Fields;
+use module_settings::{
+    ModuleWord, Parameter, Setting, own_parameters, setting_of, shared_parameters,
+};
 use serde_json::Value as Tree;
 use std::alloc::Global;
 

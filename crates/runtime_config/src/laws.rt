@@ -6,14 +6,14 @@ ghost use Rattle.sieve_reader.specs.Answer.{IsGivenBy};
 ghost use Rattle.sieve_reader.specs.SieveView.{SieveView};
 ghost use Rattle.sieve_reader.specs.declared.sieve.SieveFault.{SieveFault as AnyFault};
 ghost use Rattle.runtime_config.specs.Load.{load};
-ghost use Rattle.runtime_config.specs.Parameters.{taken_as};
+ghost use Rattle.module_settings.specs.Parameters.{taken_as};
 ghost use Rattle.runtime_config.specs.Reaches.{reaches, Reaches};
 ghost use Rattle.runtime_config.specs.Runtime.{Entry};
 ghost use Rattle.runtime_config.specs.SieveIn.{sieve_in};
 ghost use Rattle.runtime_config.specs.Within.{AreWithin};
-ghost use Rattle.runtime_config.specs.declared.form.Form.TheVariants as form;
+ghost use Rattle.module_settings.specs.declared.form.Form.TheVariants as form;
 ghost use Rattle.runtime_config.specs.declared.plan.Plan.{Plan as AnyPlan};
-ghost use Rattle.runtime_config.specs.declared.setting.Setting.TheVariants as setting;
+ghost use Rattle.module_settings.specs.declared.setting.Setting.TheVariants as setting;
 
 /// What is taken as a number is one from the least to the most.
 pub fn numbers_are_within()

@@ -5,15 +5,15 @@ ghost use Rattle.std.specs.Str.{bytes_eq};
 ghost use Rattle.runtime_config.specs.Faults.{is_route, pass_together, passes_own};
 ghost use Rattle.runtime_config.specs.Read.{entries_of, entry_of, members_of};
 ghost use Rattle.runtime_config.specs.Sums.{new_bytes, passes_by, with_file, AreNumbers, AreSmall, AreSums};
-ghost use Rattle.runtime_config.specs.Table.{row_count};
+ghost use Rattle.module_settings.specs.Table.{row_count};
 
 use crate::bot::Bot;
 use crate::given::{lines, whole};
 use crate::object::Object;
 use crate::rules::{content, file_of, table_text};
-use crate::table::row_count;
 use base_types::{OutOfMemory, Text, TextList};
 use config_bundle::Bundle;
+use module_settings::row_count;
 use std::alloc::Global;
 
 const MOST_BOTS: usize = 64;

@@ -8,9 +8,8 @@ ghost use Rattle.runtime_config.specs.Runtime.{global_key, object_under};
 use crate::given::given_in;
 use crate::object::{Object, member, object_of};
 use crate::runtime::tree_in;
-use crate::taken::is_file_name;
-use crate::texts::text_of;
 use base_types::{OutOfMemory, Text, TextList};
+use module_settings::{is_file_name, text_of};
 use serde_json::{Map, Value as Tree};
 use std::alloc::Global;
 

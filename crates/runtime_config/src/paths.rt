@@ -9,10 +9,10 @@ ghost use Rattle.runtime_config.specs.Read.{entries_of, entry_of};
 ghost use Rattle.runtime_config.specs.Runtime.{routes, Entry};
 
 use crate::bot::Bot;
-use crate::texts::text_of;
 use crate::wires::owner;
 use crate::{Route, RouteList};
 use base_types::{OutOfMemory, QueueList, QueueName, Text, TextList, queue_of};
+use module_settings::text_of;
 use std::alloc::Global;
 
 fn queue_at(bots: &[Bot], i: usize) -> QueueName

@@ -1,13 +1,10 @@
 use base_types::{BotName, ListOf, QueueList, Text, TextList};
 use event_model::Fields;
+use module_settings::{FieldsList, NetworkList};
 use scalar_net::Network;
 use sieve_reader::Sieve;
 
 pub type NamesList = ListOf<TextList>;
-
-pub type NetworkList = ListOf<Network>;
-
-pub type FieldsList = ListOf<Fields>;
 
 /// A path of a bot, and the queues that it leads to.
 #[derive(Debug, Drop)]

@@ -9,9 +9,9 @@ ghost use Rattle.runtime_config.specs.Read.{entries_of, entry_of};
 ghost use Rattle.runtime_config.specs.Runtime.{is_collector, module_of};
 ghost use Rattle.runtime_config.specs.Wires.{graph_of, owner, wires_of};
 
-use crate::ModuleWord;
 use crate::bot::Bot;
 use base_types::{OutOfMemory, Text, TextList};
+use module_settings::ModuleWord;
 use std::alloc::Global;
 use std::cmp::Ordering;
 

@@ -8,7 +8,7 @@ ghost use Rattle.sieve_eval.specs.Runs.{is_set, put, set_to, set_to_other, with_
 use crate::fault::EvalFault;
 use crate::state::State;
 use base_types::{OutOfMemory, Text};
-use field_types::{FieldFault, Value, sanitise, type_of};
+use field_types::{FieldFault, FieldName, Value, sanitise, type_of};
 use sieve_reader::{How, PutSource};
 use std::alloc::Global;
 
@@ -42,8 +42,8 @@ fn set(alloc: Global, state: &mut State, key: &Text, value: Value) -> Result<(),
     requires { IsField key.now value }
     ensures { OnOk result (state.new ≡ with_value key.now state.old value) }
 {
-    let key = key.copy(alloc)?;
-    state.fields.put(key, value)
+    let key = FieldName::new(alloc, key.as_str())?;
+    state.fields.put_named(key, value)
 }
 
 // Sets a field to the value of another field.

@@ -23,6 +23,9 @@ pub enum Flow {
     Drop,
 }
 
+// Most sieves add no more fields than this.
+const ADDED_FIELDS: usize = 8;
+
 fn default_paths(alloc: Global) -> Result<TextList, OutOfMemory>
     ensures { IfOk result (λ paths. paths ≡ default_path ∷ []) }
 {
@@ -39,7 +42,7 @@ pub fn at_first(alloc: Global, fields: &Fields) -> Result<State, OutOfMemory>
     ensures { IfOk result (λ state. state ≡ at_first fields.now) }
 {
     Ok(State {
-        fields: fields.copy(alloc)?,
+        fields: fields.copy_with_room(alloc, ADDED_FIELDS)?,
         paths: default_paths(alloc)?,
     })
 }

@@ -1,17 +1,12 @@
-use crate::fixtures::{NOW, break_book, fill, flush_three, flush_two, latest, make, new_store};
-use base_types::{Blob, NumberList};
-use disk_journal::Journal;
-use edge_memory::{Choice, MemDisk};
-use edge_traits::Disk;
+use crate::fixtures::{NOW, break_book, fill, flush_two, latest_behind};
+use base_types::Blob;
+use book_fixtures::{GENERATION, ROOT, create_fault, fail_at, front, new_store};
+use edge_memory::MemDisk;
+use journal_book::BookFault;
 use std::alloc::Global;
 use std::process::Abort;
 use std::test::Fail;
 use tests_rules::TinyRules;
-
-const ROOT: u64 = 0;
-
-// The file of the first generation.
-const FIRST: u64 = 17;
 
 // Making a store takes seven calls of the disk, and a flush four.
 const MADE: u64 = 7;
@@ -20,16 +15,27 @@ fn tiny(alloc: Global) -> Result<Blob, Fail> {
     Ok(Blob::new(alloc, b"tiny")?)
 }
 
+// A new store, and the code of its state.
+fn made(alloc: Global) -> Result<(Blob, MemDisk), Fail> {
+    new_store(alloc, MemDisk::new(alloc), TinyRules, &tiny(alloc)?)
+}
+
+const NEW_ROOT: &[u8] = b"IMQJ\0\0\0\x01\0\0\0\0\0\0\0\0\x01\0\0\0\0\0\0\0\x08\0\0\0\0\0\0\0\0\0";
+
 #[test]
 fn a_new_store_has_its_generation_and_then_its_root(rt: HostRuntime) -> Result<(), Fail> {
     let alloc = rt.alloc();
-    let (code, disk) = new_store(alloc, MemDisk::new(alloc), TinyRules, &tiny(alloc)?)?;
-    let root = b"IMQJ\0\0\0\x01\0\0\0\0\0\0\0\0\x01\0\0\0\0\0\0\0\x08\0\0\0\0\0\0\0\0\0";
-    assert_eq!(rt; root.len(), 34);
-    assert_eq!(rt; disk.file(alloc, ROOT)?.as_slice(), root.as_slice());
-    let generation = disk.file(alloc, FIRST)?;
-    assert_eq!(rt; generation.len(), 16 + 9 + code.bytes().len() + 1);
-    assert_eq!(rt; &generation[25..generation.len() - 1], code.bytes());
+    let (code, disk) = made(alloc)?;
+    assert_eq!(rt; NEW_ROOT.len(), 34);
+    assert_eq!(rt; disk.file(alloc, ROOT)?.as_slice(), NEW_ROOT);
+    let generation = disk.file(alloc, GENERATION)?;
+
+    // Behind a header, a gate and a length stands the state, and a closed gate behind that.
+    let body = generation.get(25..).unwrap_or(&[]);
+    assert_eq!(rt;
+        body.strip_prefix(code.bytes()).unwrap_or(&[]),
+        [0].as_slice()
+    );
     assert_eq!(rt; disk.calls(), MADE);
     assert!(rt; !disk.starved());
     Ok(())
@@ -38,8 +44,30 @@ fn a_new_store_has_its_generation_and_then_its_root(rt: HostRuntime) -> Result<(
 #[test]
 fn a_store_is_not_made_over_another(rt: HostRuntime) -> Result<(), Fail> {
     let alloc = rt.alloc();
-    let (_, disk) = new_store(alloc, MemDisk::new(alloc), TinyRules, &tiny(alloc)?)?;
-    assert_eq!(rt; make(alloc, disk, TinyRules, &tiny(alloc)?)?, Some(34));
+    let (_, disk) = made(alloc)?;
+    let fault = create_fault(alloc, disk, TinyRules, &tiny(alloc)?);
+    assert_eq!(rt; fault, Some(BookFault::Store { have: 34 }));
+    Ok(())
+}
+
+#[test]
+fn a_bundle_without_a_plan_makes_no_store(rt: HostRuntime) -> Result<(), Fail> {
+    let alloc = rt.alloc();
+    let bundle = Blob::new(alloc, b"none")?;
+    let fault = create_fault(alloc, MemDisk::new(alloc), TinyRules, &bundle);
+    assert_eq!(rt; fault, Some(BookFault::Refused));
+    Ok(())
+}
+
+#[test]
+fn no_store_is_made_where_a_call_fails(rt: HostRuntime) -> Result<(), Fail> {
+    let alloc = rt.alloc();
+    'calls: for call in 1..=MADE {
+        let mut disk = MemDisk::new(alloc);
+        fail_at(alloc, &mut disk, call)?;
+        let fault = create_fault(alloc, disk, TinyRules, &tiny(alloc)?);
+        assert_eq!(rt; fault, Some(BookFault::Disk), "call {call}");
+    }
     Ok(())
 }
 
@@ -49,18 +77,23 @@ fn codes_of_steps_stay_within_the_limit(rt: HostRuntime) -> Result<(), Fail> {
     fill(&rt, alloc, MemDisk::new(alloc), TinyRules, &tiny(alloc)?)
 }
 
+// The codes of two starts at `NOW`, and their record with the gates before and behind it.
+const STARTS: &[u8] = b"\x01\0\0\0\0eS\xf1\0\x01\0\0\0\0eS\xf1\0";
+
+const RECORD: &[u8] = b"\x01\0\0\0\0\0\0\0\x12\x01\0\0\0\0eS\xf1\0\x01\0\0\0\0eS\xf1\0\0";
+
 #[test]
 fn a_flush_is_one_record_of_all_that_waits(rt: HostRuntime) -> Result<(), Fail> {
     let alloc = rt.alloc();
-    let (_, disk) = new_store(alloc, MemDisk::new(alloc), TinyRules, &tiny(alloc)?)?;
-    let before = disk.file(alloc, FIRST)?.len();
-    let (code, disk) = flush_two(&rt, alloc, MemDisk::new(alloc), TinyRules, &tiny(alloc)?)?;
-    let after = disk.file(alloc, FIRST)?;
-    if before > 1_000_000 || after.len() != before + 27 {
-        return Err(Fail::from("no record of two steps"));
-    }
-    assert_eq!(rt; &after[before + 8..before + 17], code.bytes());
-    assert_eq!(rt; &after[before + 17..before + 26], code.bytes());
+    let (_, new) = made(alloc)?;
+    let new = new.file(alloc, GENERATION)?;
+    let (codes, disk) = flush_two(&rt, alloc, MemDisk::new(alloc), TinyRules, &tiny(alloc)?)?;
+    assert_eq!(rt; codes.as_slice(), STARTS);
+
+    // Before the gate of the record the file is as it was.
+    let past = front(&new, new.len().saturating_sub(1));
+    let file = disk.file(alloc, GENERATION)?;
+    assert_eq!(rt; file.strip_prefix(past).unwrap_or(&[]), RECORD);
 
     // A flush of nothing makes no call.
     assert_eq!(rt; disk.calls(), MADE + 4);
@@ -77,106 +110,20 @@ const MOMENTS: [(u64, u64); 3] = [
 #[test]
 fn a_clock_that_goes_back_is_not_followed(rt: HostRuntime) -> Result<(), Fail> {
     let alloc = rt.alloc();
-    for (clock, moment) in &MOMENTS {
-        let latest = latest(alloc, MemDisk::new(alloc), TinyRules, &tiny(alloc)?, *clock)?;
+    'clocks: for (clock, moment) in &MOMENTS {
+        let latest = latest_behind(alloc, MemDisk::new(alloc), TinyRules, &tiny(alloc)?, *clock)?;
         assert_eq!(rt; latest, *moment, "a clock at {clock}");
     }
     Ok(())
 }
 
-// A disk whose call with this number is to fail.
-fn failing_disk(alloc: Global, number: u64) -> Result<MemDisk, Fail> {
-    let mut fail = NumberList::new(alloc);
-    if fail.push(number).is_err() {
-        return Err(Fail::from("memory"));
-    }
-    let mut disk = MemDisk::new(alloc);
-    disk.plan(fail, None);
-    Ok(disk)
-}
-
 #[test]
 fn a_book_whose_disk_failed_is_broken(rt: HostRuntime) -> Result<(), Fail> {
     let alloc = rt.alloc();
-    for number in MADE + 1..=MADE + 4 {
-        break_book(
-            &rt,
-            alloc,
-            failing_disk(alloc, number)?,
-            TinyRules,
-            &tiny(alloc)?,
-        )?;
-    }
-    Ok(())
-}
-
-// How many records a journal on this disk has, if it is one.
-fn records_of(alloc: Global, disk: &mut MemDisk, file: u64) -> Option<usize> {
-    match Journal::reopen(alloc, disk, file, 0) {
-        Ok((_, bodies)) => Some(bodies.len()),
-        Err(_) => None,
-    }
-}
-
-// What a crash after so many calls leaves has the state and a record for each flush that was done; the one under way may
-// be there.
-fn check_crash(
-    rt: &impl Abort,
-    alloc: Global,
-    disk: &MemDisk,
-    call: u64,
-    choice: &Choice,
-) -> Result<(), Fail> {
-    if call < MADE || call > disk.calls() {
-        return Err(Fail::from("a crash after a call that wasn't made"));
-    }
-    let mut crashed = disk.image(alloc, call, choice)?;
-    let done = 1 + ((call - MADE) / 4) as usize;
-    let Some(records) = records_of(alloc, &mut crashed, FIRST) else {
-        return Err(Fail::from("no generation is left"));
-    };
-    assert!(rt;
-        records == done || records == done + 1,
-        "a crash after {call} calls"
-    );
-    assert_eq!(rt; records_of(alloc, &mut crashed, ROOT), Some(1));
-    Ok(())
-}
-
-// A crash that leaves what a read gave, one that leaves each file as short as may be with closed gates for pending bytes,
-// and two that leave each file as long as may be, with open gates or large lengths.
-const CHOICES: [Choice; 4] = [
-    Choice {
-        keep: true,
-        filler: 0,
-        longest: false,
-    },
-    Choice {
-        keep: false,
-        filler: 0,
-        longest: false,
-    },
-    Choice {
-        keep: false,
-        filler: 1,
-        longest: true,
-    },
-    Choice {
-        keep: false,
-        filler: 255,
-        longest: true,
-    },
-];
-
-#[test]
-fn a_crash_keeps_what_was_flushed(rt: HostRuntime) -> Result<(), Fail> {
-    let alloc = rt.alloc();
-    let disk = flush_three(alloc, MemDisk::new(alloc), TinyRules, &tiny(alloc)?)?;
-    assert_eq!(rt; disk.calls(), MADE + 12);
-    for call in MADE..=disk.calls() {
-        for choice in &CHOICES {
-            check_crash(&rt, alloc, &disk, call, choice)?;
-        }
+    'calls: for call in MADE + 1..=MADE + 4 {
+        let mut disk = MemDisk::new(alloc);
+        fail_at(alloc, &mut disk, call)?;
+        break_book(&rt, alloc, disk, TinyRules, &tiny(alloc)?, call)?;
     }
     Ok(())
 }

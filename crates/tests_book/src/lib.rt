@@ -5,3 +5,5 @@
 mod books;
 #[cfg(test)]
 mod fixtures;
+#[cfg(test)]
+mod sealed;

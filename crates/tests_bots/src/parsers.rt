@@ -140,7 +140,7 @@ const ROWS: [Row; 19] = [
             r#"dump 2 json: {"__type":"Report","raw":"W3siX190eXBlIjoiUmVwb3J0In1d"}"#,
         ],
     ),
-    (ARRAY, r#"{"__type":"Report","raw":"W10="}"#, &[]),
+    (ARRAY, r#"{"__type":"Report","raw":"WyBd"}"#, &[]),
     (
         ARRAY,
         r#"{"__type":"Report","raw":"Ww=="}"#,
@@ -148,7 +148,7 @@ const ROWS: [Row; 19] = [
     ),
     (
         OBJECT,
-        r#"{"__type":"Report","raw":"W10="}"#,
+        r#"{"__type":"Report","raw":"WyBd"}"#,
         &[r#"fault 2 json"#],
     ),
     (

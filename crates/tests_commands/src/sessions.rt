@@ -11,6 +11,10 @@ use std::test::Fail;
 const X: &str =
     r#"{"collect":{"module":"collector.file","parameters":{"file":"feed.csv","name":"Demo","chunk_replicate_header":true},"destination_queues":{"_default":["parse-queue"]}},"parse":{"module":"parser.csv","parameters":{"columns":["source.ip","source.port","classification.type","extra.note"],"skip_header":true},"destination_queues":{"_default":["write-queue"]}},"write":{"module":"output.file"}}"#;
 
+// The same, whose collector cuts pieces of at most 64 bytes with their header, or of one line.
+const X_BY_64: &str =
+    r#"{"collect":{"module":"collector.file","parameters":{"file":"feed.csv","name":"Demo","chunk_replicate_header":true,"chunk_size":64},"destination_queues":{"_default":["parse-queue"]}},"parse":{"module":"parser.csv","parameters":{"columns":["source.ip","source.port","classification.type","extra.note"],"skip_header":true},"destination_queues":{"_default":["write-queue"]}},"write":{"module":"output.file"}}"#;
+
 // A collector that sends to the output, without the parser between.
 const Y: &str =
     r#"{"collect":{"module":"collector.file","parameters":{"file":"feed.csv","name":"Demo","chunk_replicate_header":true},"destination_queues":{"_default":["write-queue"]}},"write":{"module":"output.file"}}"#;
@@ -24,6 +28,7 @@ fn shelf(alloc: Global) -> Result<MemShelf, Fail> {
         &[
             ("feed.csv", FEED),
             ("x.json", X.as_bytes()),
+            ("x_by_64.json", X_BY_64.as_bytes()),
             ("y.json", Y.as_bytes()),
             ("bad.json", b"{\"a\":{\"module\":\"expert.none\"}}"),
         ],
@@ -90,6 +95,36 @@ fn a_feed_is_drained_and_shown(rt: HostRuntime) -> Result<(), Fail> {
             words: "drain --round new",
             status: "done",
             prints: "steps 32\nbundle 1\nmessages 13\nwaiting 0\nin hand 0\ndumped 2\nprocessed 11\nlines 8\n",
+        },
+    ];
+    play_all(&rt, &mut shelf, MemDisk::new(alloc), &plays)?;
+    Ok(())
+}
+
+#[test]
+fn a_feed_in_small_pieces_comes_to_the_same_lines(rt: HostRuntime) -> Result<(), Fail> {
+    let alloc = rt.alloc();
+    let mut shelf = shelf(alloc)?;
+    let plays = [
+        Play {
+            words: "init --bundle x_by_64.json",
+            status: "done",
+            prints: "steps 0\nbundle 1\nmessages 0\nwaiting 0\nin hand 0\ndumped 0\nprocessed 0\nlines 0\n",
+        },
+        Play {
+            words: "drain --steps 2",
+            status: "stopped 2",
+            prints: "steps 2\nbundle 1\nmessages 1\nwaiting 1\nin hand 0\ndumped 0\nprocessed 0\nlines 0\n",
+        },
+        Play {
+            words: "status",
+            status: "done",
+            prints: "steps 2\nbundle 1\nmessages 1\nwaiting 1\nin hand 0\ndumped 0\nprocessed 0\nlines 0\nqueue parse-queue 1\nfeed collect 1 46 going\nout write 0 0\n",
+        },
+        Play {
+            words: "drain",
+            status: "done",
+            prints: "steps 26\nbundle 1\nmessages 10\nwaiting 0\nin hand 0\ndumped 1\nprocessed 9\nlines 4\n",
         },
     ];
     play_all(&rt, &mut shelf, MemDisk::new(alloc), &plays)?;

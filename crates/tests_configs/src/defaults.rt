@@ -1,6 +1,6 @@
 use crate::printing::printed;
 use event_model::read_tree;
-use runtime_config::{
+use module_settings::{
     ModuleWord, Parameter, module_of, own_parameters, setting_of, shared_parameters,
 };
 use std::alloc::Global;

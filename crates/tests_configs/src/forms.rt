@@ -1,6 +1,6 @@
 use crate::printing::printed;
 use event_model::read_tree;
-use runtime_config::{Form, Words, taken_as};
+use module_settings::{Form, Words, taken_as};
 use serde_json::Value as Tree;
 use std::alloc::Global;
 use std::test::Fail;

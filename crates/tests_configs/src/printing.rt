@@ -1,7 +1,7 @@
 use base_types::TextList;
 use event_model::Fields;
 use field_types::Value;
-use runtime_config::Setting;
+use module_settings::Setting;
 use std::alloc::Global;
 use std::test::Fail;
 

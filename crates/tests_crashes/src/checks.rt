@@ -1,10 +1,9 @@
 //! What has to hold behind a crash of a call: no step is lost that a flush had answered for, and the store is drained to the
 //! outputs and the dumps of an undisturbed call.
 
-use crate::calls::{
-    CRASHES, How, KEPT, OUT, Run, call, copy_of, crashed, fail_at, look, mend, stop_after,
-};
-use drain_fixtures::Ended;
+use crate::calls::{CRASHES, Run, call, look};
+use book_fixtures::{OUT, copy_of, crashed, fail_at, mend, row_text, stop_after};
+use drain_fixtures::{Ended, How};
 use edge_memory::{Choice, MemDisk, MemSink};
 use edge_traits::Shelf;
 use std::alloc::Global;
@@ -12,7 +11,7 @@ use std::process::Abort;
 use std::test::Fail;
 
 /// A store at rest, the call that is tried on it, and what an undisturbed one comes to.
-#[derive(Debug, Drop)]
+#[derive(Drop)]
 pub struct Case {
     pub disk: MemDisk,
     /// The codes of its steps.
@@ -53,47 +52,56 @@ impl Case {
 /// A call came to what an undisturbed one comes to, and no crash takes it away.
 pub fn check_end(
     rt: &(impl Abort + Alloc<A = Global>),
+    row: &str,
     case: &Case,
     run: &Run,
     disk: &MemDisk,
 ) -> Result<(), Fail> {
     let alloc = rt.alloc();
-    assert_eq!(rt; run.ended, Ended::Idle);
-    assert_eq!(rt; run.dumps.bytes(), case.dumps.bytes());
-    for choice in &CRASHES {
+    assert_eq!(rt; run.ended, Ended::Idle, "{row}");
+    assert_eq!(rt; run.dumps.bytes(), case.dumps.bytes(), "{row}");
+    'choices: for (name, choice) in &CRASHES {
         let left = crashed(alloc, disk, disk.calls(), choice)?;
-        assert_eq!(rt; left.file(alloc, OUT)?.as_slice(), case.output.as_slice());
+        let output = left.file(alloc, OUT)?;
+        assert_eq!(rt;
+            output.as_slice(),
+            case.output.as_slice(),
+            "{row}, in the end {name}"
+        );
     }
     Ok(())
 }
 
-// A call came to this run, and the disk has what was left of it then.
+// The disk has what was left of it when a call came to this run: the steps that were answered for, and none that wasn't committed.
+// No line comes before its step. Answers the steps.
+fn check_steps(
+    rt: &(impl Abort + Alloc<A = Global>),
+    row: &str,
+    case: &Case,
+    run: &Run,
+    left: MemDisk,
+) -> Result<(Vec<u8>, MemDisk), Fail> {
+    let alloc = rt.alloc();
+    let output = left.file(alloc, OUT)?;
+    let (steps, left) = look(alloc, left);
+    let steps = steps?;
+    assert!(rt; steps.starts_with(&run.answered), "{row}");
+    assert!(rt; run.committed.starts_with(&steps), "{row}");
+    let written = output != case.disk.file(alloc, OUT)?;
+    assert!(rt; !written || steps == run.committed, "{row}");
+    Ok((steps, left))
+}
+
+// The same, and a call behind it comes to what an undisturbed one does.
 fn check_left<H: Shelf>(
     rt: &(impl Abort + Alloc<A = Global>),
+    row: &str,
     case: &Case,
     shelf: &mut H,
     run: &Run,
     left: MemDisk,
 ) -> Result<(), Fail> {
-    let alloc = rt.alloc();
-    let output = left.file(alloc, OUT)?;
-    let (steps, left) = look(alloc, left);
-    let steps = steps?;
-    assert!(rt;
-        steps.starts_with(&run.answered),
-        "a step that was answered for"
-    );
-    assert!(rt;
-        run.committed.starts_with(&steps),
-        "a step that wasn't committed"
-    );
-
-    // No line comes before its step.
-    let written = output != case.disk.file(alloc, OUT)?;
-    assert!(rt;
-        !written || steps == run.committed,
-        "a line without its step"
-    );
+    let (steps, left) = check_steps(rt, row, case, run, left)?;
 
     // New rounds are begun once.
     let how = if steps == case.steps {
@@ -101,12 +109,12 @@ fn check_left<H: Shelf>(
     } else {
         How::Start
     };
-    let (again, end) = call(alloc, left, shelf, how, &steps);
-    check_end(rt, case, &again?, &end)
+    let (again, end) = call(rt.alloc(), left, shelf, how, &steps);
+    check_end(rt, row, case, &again?, &end)
 }
 
 /// The trouble that a disk has in a call on its store.
-#[derive(Clone, Copy, Debug)]
+#[derive(Clone, Copy)]
 pub enum Trouble {
     /// It stops after so many of its calls.
     Stop(u64),
@@ -114,13 +122,20 @@ pub enum Trouble {
     Fault(u64),
 }
 
-fn troubled(alloc: Global, disk: &MemDisk, trouble: Trouble) -> Result<MemDisk, Fail> {
-    let mut disk = copy_of(alloc, disk)?;
+// What the call on a store comes to whose disk has this trouble, and the disk.
+fn troubled<H: Shelf>(
+    alloc: Global,
+    case: &Case,
+    shelf: &mut H,
+    trouble: Trouble,
+) -> Result<(Run, MemDisk), Fail> {
+    let mut disk = copy_of(alloc, &case.disk)?;
     match trouble {
         Trouble::Stop(calls) => stop_after(alloc, &mut disk, calls),
         Trouble::Fault(call) => fail_at(alloc, &mut disk, call)?,
     }
-    Ok(disk)
+    let (run, disk) = call(alloc, disk, shelf, case.how, &case.steps);
+    Ok((run?, disk))
 }
 
 // The last call ahead of the trouble.
@@ -129,6 +144,31 @@ fn calls_before(trouble: Trouble) -> u64 {
         Trouble::Stop(calls) => calls,
         Trouble::Fault(call) => call.saturating_sub(1),
     }
+}
+
+// A call that came to a run, and the disk that it left.
+#[derive(Clone, Copy)]
+struct Left<'a> {
+    case: &'a Case,
+    run: &'a Run,
+    disk: &'a MemDisk,
+}
+
+// Nothing is lost in crashes after so many calls.
+fn check_crashes<H: Shelf>(
+    rt: &(impl Abort + Alloc<A = Global>),
+    trouble: &str,
+    left: &Left,
+    shelf: &mut H,
+    after: u64,
+) -> Result<(), Fail> {
+    let alloc = rt.alloc();
+    'choices: for (name, choice) in &CRASHES {
+        let row = row_text(alloc, trouble, after, *name)?;
+        let disk = crashed(alloc, left.disk, after, choice)?;
+        check_left(rt, &row, left.case, shelf, left.run, disk)?;
+    }
+    Ok(())
 }
 
 /// A call whose disk has this trouble answers that the disk failed, and nothing is lost: behind a crash just before the trouble or
@@ -141,19 +181,20 @@ pub fn check_trouble<H: Shelf>(
 ) -> Result<bool, Fail> {
     let alloc = rt.alloc();
     let before = calls_before(trouble);
-    let disk = troubled(alloc, &case.disk, trouble)?;
-    let (run, disk) = call(alloc, disk, shelf, case.how, &case.steps);
+    let row = row_text(alloc, "trouble after", before, "a crash after")?;
+    let (run, disk) = troubled(alloc, case, shelf, trouble)?;
     let mut disk = disk;
-    let run = run?;
-    assert_eq!(rt; run.ended, Ended::Disk, "trouble after {before} calls");
-    assert_eq!(rt; disk.calls(), before.saturating_add(1));
-    for after in before..=disk.calls() {
-        for choice in &CRASHES {
-            check_left(rt, case, shelf, &run, crashed(alloc, &disk, after, choice)?)?;
-        }
-    }
+    assert_eq!(rt; run.ended, Ended::Disk, "{row}");
+    assert_eq!(rt; disk.calls(), before.saturating_add(1), "{row}");
+    let left = Left {
+        case,
+        run: &run,
+        disk: &disk,
+    };
+    check_crashes(rt, &row, &left, shelf, before)?;
+    check_crashes(rt, &row, &left, shelf, before.saturating_add(1))?;
     mend(alloc, &mut disk);
-    check_left(rt, case, shelf, &run, disk)?;
+    check_left(rt, &row, case, shelf, &run, disk)?;
     Ok(run.answered.len() > case.steps.len())
 }
 
@@ -165,7 +206,7 @@ pub fn check_stops<H: Shelf>(
     from: u64,
 ) -> Result<u64, Fail> {
     let mut answered = 0u64;
-    for calls in from..case.calls {
+    'calls: for calls in from..case.calls {
         if check_trouble(rt, case, shelf, Trouble::Stop(calls))? {
             answered = answered.saturating_add(1);
         }
@@ -180,15 +221,11 @@ pub fn check_faults<H: Shelf>(
     case: &Case,
     shelf: &mut H,
 ) -> Result<(), Fail> {
-    for call in 1..=case.calls {
+    'calls: for call in 1..=case.calls {
         check_trouble(rt, case, shelf, Trouble::Fault(call))?;
     }
-    check_untroubled(
-        rt,
-        case,
-        shelf,
-        Trouble::Fault(case.calls.saturating_add(1)),
-    )
+    let behind = case.calls.saturating_add(1);
+    check_untroubled(rt, case, shelf, Trouble::Fault(behind))
 }
 
 // A call that ends ahead of the trouble of its disk.
@@ -198,13 +235,11 @@ fn check_untroubled<H: Shelf>(
     shelf: &mut H,
     trouble: Trouble,
 ) -> Result<(), Fail> {
-    let alloc = rt.alloc();
-    let disk = troubled(alloc, &case.disk, trouble)?;
-    let (run, disk) = call(alloc, disk, shelf, case.how, &case.steps);
-    check_end(rt, case, &run?, &disk)
+    let (run, disk) = troubled(rt.alloc(), case, shelf, trouble)?;
+    check_end(rt, "trouble behind the end", case, &run, &disk)
 }
 
-/// What a call came to whose disk stopped after so many calls, and what was left of the disk.
+/// What a call came to whose disk stopped after so many calls, and what a crash then left of the disk.
 pub fn left_by<H: Shelf>(
     alloc: Global,
     case: &Case,
@@ -212,8 +247,6 @@ pub fn left_by<H: Shelf>(
     calls: u64,
     choice: &Choice,
 ) -> Result<(Run, MemDisk), Fail> {
-    let disk = troubled(alloc, &case.disk, Trouble::Stop(calls))?;
-    let (run, disk) = call(alloc, disk, shelf, case.how, &case.steps);
-    let run = run?;
+    let (run, disk) = troubled(alloc, case, shelf, Trouble::Stop(calls))?;
     Ok((run, crashed(alloc, &disk, disk.calls(), choice)?))
 }

@@ -1,14 +1,10 @@
-//! Tests of crashes over drains: disks that stop or fail at each of their calls, and stores that were damaged.
+//! Tests of crashes over drains: disks that stop or fail at each of their calls.
 #![tactic(auto)]
 
 #[cfg(test)]
 mod calls;
 #[cfg(test)]
 mod checks;
-#[cfg(test)]
-mod damages;
-#[cfg(test)]
-mod recount;
 #[cfg(test)]
 mod recoveries;
 #[cfg(test)]

@@ -1,11 +1,10 @@
 //! Crashes within the recovery from a crash.
-use crate::calls::{CRASHES, How, call, copy_of, crashed, look, stop_after};
+use crate::calls::{CRASHES, call, look};
 use crate::checks::{Case, check_end, left_by};
-use crate::recount::{GENERATION, ROOT};
 use crate::stores::{feed_shelf, new_store};
-use drain_fixtures::opened;
+use book_fixtures::{GENERATION, LONGEST, ROOT, copy_of, crashed, row_text, stop_after};
+use drain_fixtures::{How, durable_on};
 use edge_memory::{MemDisk, MemShelf};
-use journal_book::BookFault;
 use std::alloc::Global;
 use std::process::Abort;
 use std::test::Fail;
@@ -22,11 +21,8 @@ fn new_case(alloc: Global, shelf: &mut MemShelf) -> Result<Case, Fail> {
 fn open_until(alloc: Global, disk: MemDisk, calls: u64) -> Result<(bool, MemDisk), Fail> {
     let mut disk = disk;
     stop_after(alloc, &mut disk, calls);
-    match opened(alloc, disk) {
-        Ok(book) => Ok((true, book.into_disk())),
-        Err((BookFault::Disk, disk)) => Ok((false, disk)),
-        Err(_) => Err(Fail::from("no store is left")),
-    }
+    let (durable, disk) = durable_on(alloc, disk);
+    Ok((durable?.is_some(), disk))
 }
 
 // A store that a crash has left, and the codes of its steps.
@@ -43,26 +39,22 @@ fn has_same_files(alloc: Global, a: &MemDisk, b: &MemDisk) -> Result<bool, Fail>
     )
 }
 
-// Each crash of this disk, after so many calls or more, leaves a store with the steps that were left. Where it leaves the same files,
-// nothing is to be seen.
+// A crash of this disk after so many calls leaves a store with the steps that were left. Where it leaves the same files, nothing
+// is to be seen.
 fn check_steps(
     rt: &(impl Abort + Alloc<A = Global>),
+    outer: &str,
     disk: &MemDisk,
-    from: u64,
+    after: u64,
     left: &Left,
 ) -> Result<(), Fail> {
     let alloc = rt.alloc();
-    for after in from..=disk.calls() {
-        for choice in &CRASHES {
-            let again = crashed(alloc, disk, after, choice)?;
-            if !has_same_files(alloc, &again, left.disk)? {
-                let (steps, _disk) = look(alloc, again);
-                assert_eq!(rt;
-                    steps?.as_slice(),
-                    left.steps,
-                    "a crash after {after} calls"
-                );
-            }
+    'choices: for (name, choice) in &CRASHES {
+        let again = crashed(alloc, disk, after, choice)?;
+        if !has_same_files(alloc, &again, left.disk)? {
+            let row = row_text(alloc, outer, after, *name)?;
+            let (steps, _disk) = look(alloc, again);
+            assert_eq!(rt; steps?.as_slice(), left.steps, "{row}");
         }
     }
     Ok(())
@@ -73,22 +65,49 @@ const MOST: u64 = 40;
 
 // Opening what a crash has left is stopped after each of its calls: the same steps are opened behind that. Answers how many calls
 // the opening makes.
-fn check_openings(rt: &(impl Abort + Alloc<A = Global>), left: &MemDisk) -> Result<u64, Fail> {
+fn check_opening(
+    rt: &(impl Abort + Alloc<A = Global>),
+    row: &str,
+    left: &Left,
+) -> Result<u64, Fail> {
     let alloc = rt.alloc();
-    let (steps, _disk) = look(alloc, copy_of(alloc, left)?);
-    let steps = steps?;
-    let left = Left {
-        disk: left,
-        steps: &steps,
-    };
-    for calls in 0..MOST {
+    'calls: for calls in 0..MOST {
         let (is_open, disk) = open_until(alloc, copy_of(alloc, left.disk)?, calls)?;
-        check_steps(rt, &disk, calls, &left)?;
+        check_steps(rt, row, &disk, calls, left)?;
         if is_open {
             return Ok(calls);
         }
+        check_steps(rt, row, &disk, disk.calls(), left)?;
     }
     Err(Fail::from("an opening that goes on"))
+}
+
+// What crashes of the call after so many calls of its disk have left is opened, which makes so many calls, or two more where there
+// is a record of steps to be read.
+fn check_openings(
+    rt: &(impl Abort + Alloc<A = Global>),
+    case: &Case,
+    shelf: &mut MemShelf,
+    calls: u64,
+    opening: u64,
+) -> Result<(), Fail> {
+    let alloc = rt.alloc();
+    'choices: for (name, choice) in &CRASHES {
+        let row = row_text(alloc, "a crash after so many calls,", calls, *name)?;
+        let (_run, disk) = left_by(alloc, case, shelf, calls, choice)?;
+        let (steps, _disk) = look(alloc, copy_of(alloc, &disk)?);
+        let steps = steps?;
+        let left = Left {
+            disk: &disk,
+            steps: &steps,
+        };
+        let made = check_opening(rt, &row, &left)?;
+        assert!(rt;
+            made == opening || made == opening.saturating_add(2),
+            "{row}"
+        );
+    }
+    Ok(())
 }
 
 #[test]
@@ -97,38 +116,51 @@ fn a_crash_while_a_store_is_opened_changes_no_step(rt: HostRuntime) -> Result<()
     let mut shelf = feed_shelf(alloc)?;
     let case = new_case(alloc, &mut shelf)?;
     let opening = case.calls.saturating_sub(LAST_CALLS);
-    for calls in opening..=case.calls {
-        for choice in &CRASHES {
-            let (_run, left) = left_by(alloc, &case, &mut shelf, calls, choice)?;
-            let made = check_openings(&rt, &left)?;
-
-            // Two more where there is a record of steps to be read.
-            assert!(rt;
-                made == opening || made == opening.saturating_add(2),
-                "a crash after {calls} calls"
-            );
-        }
+    'calls: for calls in opening..=case.calls {
+        check_openings(&rt, &case, &mut shelf, calls, opening)?;
     }
     Ok(())
 }
 
-// The drain behind a crash is stopped after each of its calls, and drained to the end behind that.
+// The drain behind a crash is stopped after so many calls, and drained to the end behind that.
 fn check_again(
     rt: &(impl Abort + Alloc<A = Global>),
+    outer: &str,
     again: &Case,
     shelf: &mut MemShelf,
+    calls: u64,
 ) -> Result<(), Fail> {
     let alloc = rt.alloc();
-    for calls in 0..=again.calls {
-        let (run, left) = left_by(alloc, again, shelf, calls, &CRASHES[2])?;
-        let (steps, left) = look(alloc, left);
-        let steps = steps?;
-        assert!(rt;
-            steps.starts_with(&run.answered),
-            "a crash after {calls} calls"
-        );
-        let (run, end) = call(alloc, left, shelf, How::Start, &steps);
-        check_end(rt, again, &run?, &end)?;
+    let row = row_text(alloc, outer, calls, "a stop and a crash")?;
+    let (run, left) = left_by(alloc, again, shelf, calls, &LONGEST)?;
+    let (steps, left) = look(alloc, left);
+    let steps = steps?;
+    assert!(rt; steps.starts_with(&run.answered), "{row}");
+    let (run, end) = call(alloc, left, shelf, How::Start, &steps);
+    check_end(rt, &row, again, &run?, &end)
+}
+
+// The drain behind a crash of a drain, after so many calls of that.
+fn check_drains(
+    rt: &(impl Abort + Alloc<A = Global>),
+    case: &Case,
+    shelf: &mut MemShelf,
+    calls: u64,
+) -> Result<(), Fail> {
+    let alloc = rt.alloc();
+    let row = row_text(
+        alloc,
+        "a crash after so many calls,",
+        calls,
+        "another after",
+    )?;
+    let (run, left) = left_by(alloc, case, shelf, calls, &LONGEST)?;
+    let again = Case::new(alloc, left, shelf, How::Start)?;
+    assert!(rt; again.steps.starts_with(&run.answered), "{row}");
+    assert_eq!(rt; again.output.as_slice(), case.output.as_slice(), "{row}");
+    assert_eq!(rt; again.dumps.bytes(), case.dumps.bytes(), "{row}");
+    'calls: for calls in 0..=again.calls {
+        check_again(rt, &row, &again, shelf, calls)?;
     }
     Ok(())
 }
@@ -139,16 +171,8 @@ fn a_crash_of_the_drain_behind_a_crash_loses_nothing(rt: HostRuntime) -> Result<
     let mut shelf = feed_shelf(alloc)?;
     let case = new_case(alloc, &mut shelf)?;
     let opening = case.calls.saturating_sub(LAST_CALLS);
-    for calls in opening..=case.calls {
-        let (run, left) = left_by(alloc, &case, &mut shelf, calls, &CRASHES[2])?;
-        let again = Case::new(alloc, left, &mut shelf, How::Start)?;
-        assert!(rt;
-            again.steps.starts_with(&run.answered),
-            "a crash after {calls} calls"
-        );
-        assert_eq!(rt; again.output.as_slice(), case.output.as_slice());
-        assert_eq!(rt; again.dumps.bytes(), case.dumps.bytes());
-        check_again(&rt, &again, &mut shelf)?;
+    'calls: for calls in opening..=case.calls {
+        check_drains(&rt, &case, &mut shelf, calls)?;
     }
     Ok(())
 }

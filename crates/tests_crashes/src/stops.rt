@@ -1,12 +1,12 @@
 //! Disks that stop, and disks that fail, at each call of a drain.
 
-use crate::calls::{How, OUT, call};
+use crate::calls::call;
 use crate::checks::{Case, check_faults, check_stops};
 use crate::stores::{drained_store, drill_store, feed_shelf, new_store};
-use drain_fixtures::{DUMP, Ended, OUTPUT};
+use book_fixtures::{OUT, put_file};
+use drain_fixtures::{DUMP, Ended, How, OUTPUT};
 use drill_feed::DrillShelf;
 use edge_memory::MemDisk;
-use edge_traits::Disk;
 use std::alloc::Global;
 use std::process::Abort;
 use std::test::Fail;
@@ -80,11 +80,8 @@ fn stop_at_each_call_of_the_flushes_of_a_drill(rt: HostRuntime) -> Result<(), Fa
 
 // A new store whose output's file has so many other bytes.
 fn torn_store(alloc: Global, bytes: usize) -> Result<MemDisk, Fail> {
-    if bytes > 1_000_000 {
-        return Err(Fail::from("more than a million bytes"));
-    }
     let mut disk = new_store(alloc)?;
-    disk.write_at(OUT, 0, &vec![in alloc; b'x'; bytes]?)?;
+    put_file(&mut disk, OUT, &vec![in alloc; b'x'; bytes]?)?;
     Ok(disk)
 }
 
@@ -93,10 +90,10 @@ fn torn_store(alloc: Global, bytes: usize) -> Result<MemDisk, Fail> {
 fn a_torn_output_is_completed(rt: HostRuntime) -> Result<(), Fail> {
     let alloc = rt.alloc();
     let mut shelf = feed_shelf(alloc)?;
-    for bytes in [1, OUTPUT.len(), OUTPUT.len() + 1, 100_000] {
+    'sizes: for bytes in [1, OUTPUT.len(), OUTPUT.len() + 1, 100_000] {
         let disk = torn_store(alloc, bytes)?;
         let (run, disk) = call(alloc, disk, &mut shelf, How::Start, &[]);
-        assert_eq!(rt; run?.ended, Ended::Idle);
+        assert_eq!(rt; run?.ended, Ended::Idle, "{bytes} bytes");
         assert_eq!(rt; disk.file(alloc, OUT)?.as_slice(), OUTPUT, "{bytes} bytes");
     }
     Ok(())

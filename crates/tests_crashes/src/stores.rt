@@ -1,8 +1,8 @@
 //! Stores on which calls are tried.
 
-use crate::calls::{How, call};
+use crate::calls::call;
 use config_bundle::bundle_code;
-use drain_fixtures::{Ended, FEED, X, bundle, made, shelf_of};
+use drain_fixtures::{Ended, FEED, How, X, bundle, made, shelf_of};
 use drill_feed::drill_bundle;
 use edge_memory::{MemDisk, MemShelf};
 use std::alloc::Global;

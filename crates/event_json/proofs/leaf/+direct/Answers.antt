@@ -16,10 +16,13 @@ pub push_members-members-preserved : goal.push_members-members-preserved
 push_members-members-preserved t c =
     let rest = c.members.rest.now in
     let m = c.member-item.result in
-    let named = of_some _ _ (λ name. string_bytes name ≡ member_name c.args.key.now m.0.now) c.in-Some.is c.in_ok-name.ensures in
+    let named =
+    of_some _ _ (λ name. string_bytes name ≡ member_name c.as_str.result.now c.as_str-in-len1-up.result.now) c.in-Some.is c.in_ok-name.ensures
+    ∙ ap (λ k. member_name k c.as_str-in-len1-up.result.now) c.as_str.ensures
+    ∙ ap (member_name c.args.key.now) c.as_str-in-len1-up.ensures in
     let here = c.in_ok-push_tree.ensures c.if-not-branch.false in
-    member_more c.args.key.now (named_values c.args.members.now) (named_values rest) _ (m.0.now, value_view m.1.now) _ _ _ (ap named_values (first_of rest m c.in-len1-up.len_at_least c.member-item.is))
-    (subst (λ k. PutsTree k (value_view m.1.now) c.members.line c.push_tree.new.line) (c.deref.ensures ∙ named) here) c.members.invariant
+    member_more c.args.key.now (named_values c.args.members.now) (named_values rest) _ (m.0, value_view m.1.now) _ _ _ (ap named_values (first_of rest m c.in-len1-up.len_at_least c.member-item.is))
+    (subst (λ k. PutsTree k (value_view m.1.now) c.members.line c.push_tree.new.line) (c.new.ensures ∙ c.deref.ensures ∙ named) here) c.members.invariant
 
 pub push_object-returns-in-Some : goal.push_object-returns-in-Some
 push_object-returns-in-Some t c =

@@ -1,5 +1,3 @@
-use Rattle.std.proofs.Common.{ap, ◌∙◌}
-use Rattle.field_types.specs.Field.{type_of}
 use Rattle.event_json.proofs.Putting.{dropped_text, kept_text}
 use Rattle.event_json.proofs.leaf.push_text.Goals as goal
 
@@ -9,4 +7,4 @@ returns-then-is_dropped_text c = λ taken. dropped_text c.args.key.now c.args.te
 pub returns : goal.returns
 returns c =
     kept_text c.args.key.now c.args.text.now c.strip-stripped.result.now c.in-Some.kind c.keep.result c.args.line.now c.push_kept.new.line c.push_kept.result
-    c.strip-stripped.ensures c.if-is_dropped_text.ensures (c.in-Some.ensures ∙ ap type_of c.as_bytes.ensures.value) c.keep.ensures c.push_kept.ensures
+    c.strip-stripped.ensures c.if-is_dropped_text.ensures c.in-Some.ensures c.keep.ensures c.push_kept.ensures

@@ -1,9 +1,7 @@
-use Rattle.std.proofs.Common.{ap, ◌∙◌}
-use Rattle.field_types.specs.Field.{type_of}
 use Rattle.event_json.proofs.Putting.{cleaned_value}
 use Rattle.event_json.proofs.leaf.push_value.Goals as goal
 
 pub returns : goal.returns
 returns c =
-    cleaned_value c.args.key.now c.in-Some.kind c.args.value c.sanitise_own.result c.args.line.now c.push_cleaned.new.line c.push_cleaned.result (c.in-Some.ensures ∙ ap type_of c.as_bytes.ensures.value) c.sanitise_own.ensures
+    cleaned_value c.args.key.now c.in-Some.kind c.args.value c.sanitise_own.result c.args.line.now c.push_cleaned.new.line c.push_cleaned.result c.in-Some.ensures c.sanitise_own.ensures
     c.push_cleaned.ensures

@@ -8,5 +8,5 @@ members-preserved c =
     let m = c.member-item.result in
     let puts = c.in_ok-put.ensures c.if-not-branch.false in (
       still_sorted _ _ _ _ puts c.members.invariant.0,
-      one_more c.args.members.now rest _ m _ _ (first_of rest m c.in-len1-up.len_at_least c.member-item.is) puts c.members.invariant.1,
+      one_more c.args.members.now rest _ m _ _ _ (first_of rest m c.in-len1-up.len_at_least c.member-item.is) c.new.ensures puts c.members.invariant.1,
     )

@@ -7,5 +7,5 @@ use Rattle.event_json.proofs.ordered.put.Goals as goal
 pub returns-in_ok-insert-in-Some : goal.returns-in_ok-insert-in-Some
 returns-in_ok-insert-in-Some c = λ is_new.
     put_there c.args.found.now.items c.insert.new.self.items (c.args.name, c.args.value) c.in-Some.at
-    (subst (λ ms. BelongsAt c.args.name.now (named_values ms) c.in-Some.at) c.deref.ensures.value c.in-Some.ensures)
+    (subst (λ ms. BelongsAt c.args.name (named_values ms) c.in-Some.at) c.deref.ensures.value c.in-Some.ensures)
     c.in_ok-insert-in-Some.ensures.items

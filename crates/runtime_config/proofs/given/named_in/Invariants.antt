@@ -1,5 +1,5 @@
 use Rattle.std.proofs.Common.{◌≡◌, map, drop}
-use Rattle.runtime_config.specs.Rows.{parameter_of}
+use Rattle.module_settings.specs.Rows.{parameter_of}
 use Rattle.runtime_config.specs.Runtime.{parameter_named}
 use Rattle.runtime_config.proofs.given.named_in.Given as goal
 

@@ -1,6 +1,6 @@
 use Rattle.std.proofs.Common.{map}
 use Rattle.runtime_config.proofs.Names.{named_first, named_second}
-use Rattle.runtime_config.specs.Rows.{parameter_of}
+use Rattle.module_settings.specs.Rows.{parameter_of}
 use Rattle.runtime_config.proofs.given.parameter_named.Goals as goal
 
 pub returns-in-Some : goal.returns-in-Some

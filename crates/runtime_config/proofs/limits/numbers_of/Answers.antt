@@ -2,7 +2,7 @@ use Rattle.std.proofs.Common.{◌≡◌, ◌≤◌, ℕ, List, [], Bor, Option, 
 use Rattle.std.specs.Prelude.{unwrap_or}
 use Rattle.runtime_config.proofs.Bounds.{few_instances}
 use Rattle.runtime_config.specs.Read.{entry_of, members_of}
-use Rattle.runtime_config.specs.Table.{row_count}
+use Rattle.module_settings.specs.Table.{row_count}
 use Rattle.runtime_config.proofs.limits.numbers_of.Goals as goal
 
 counted : (o : Option (Bor (List ℕ))) → option_map (λ (b : Bor (List ℕ)). row_count b.now) o ≡ option_map row_count (option_map (λ (b : Bor (List ℕ)). b.now) o)

@@ -1,7 +1,7 @@
 use Rattle.std.proofs.Common.{◌≡◌, ◌++◌, map, filter, drop}
 use Rattle.runtime_config.specs.Faults.{is_missing}
 use Rattle.runtime_config.specs.Read.{entry_of, members_of}
-use Rattle.runtime_config.specs.Rows.{parameter_of}
+use Rattle.module_settings.specs.Rows.{parameter_of}
 use Rattle.runtime_config.proofs.rules.push_missing.Given as goal
 
 -- the names so far, and those of the parameters that are left

@@ -2,8 +2,11 @@ use Rattle.std.proofs.Common.{sym, ◌∙◌, ap, subst}
 use Rattle.step_code.specs.declared.base.Base.{Base}
 use Rattle.step_code.specs.Rules.{IsPlanOf}
 use Rattle.ack_steps.specs.Core.{HasNearFeeds, HasSoundHands, IsOrderly}
-use Rattle.ack_steps.proofs.Kept.{near_feeds, sound_hands, sound_orderly}
+use Rattle.ack_steps.proofs.Kept.{near_feeds, sound_caches, sound_hands, sound_orderly}
 use Rattle.ack_steps.proofs.pipeline_core.Core.new.Goals as goal
+
+pub from_base-requires-clause-caches : goal.from_base-requires-clause-caches
+from_base-requires-clause-caches g c = sound_caches g.R.Rules.meaning c.args.base c.in_ok-plan.ensures.sound
 
 pub invariant_of-result : goal.invariant_of-result
 invariant_of-result g c =

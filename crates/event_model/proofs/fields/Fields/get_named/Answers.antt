@@ -7,10 +7,10 @@ use Rattle.event_model.proofs.fields.Fields.get_named.Goals as goal
 pub returns-in-Ok : goal.returns-in-Ok
 returns-in-Ok c =
     found_value c.args.key.now c.self.inside.pairs.items c.in-Ok.i c.index.result.now
-    (moved _ _ _ _ _ c.bytes.ensures c.deref.ensures.value c.in-Ok.ensures) c.index.ensures
+    (moved _ _ _ _ _ c.as_key.ensures c.deref.ensures.value c.in-Ok.ensures) c.index.ensures
     ∙ ap (λ (m : FieldMap). get m c.args.key.now) c.self.view_is
 
 pub returns-in-Err : goal.returns-in-Err
 returns-in-Err c =
-    sym (got_none c.args.key.now c.self.inside.pairs.items c.in-Err.field-0 (moved_gap _ _ _ _ _ c.bytes.ensures c.deref.ensures.value c.in-Err.ensures))
+    sym (got_none c.args.key.now c.self.inside.pairs.items c.in-Err.field-0 (moved_gap _ _ _ _ _ c.as_key.ensures c.deref.ensures.value c.in-Err.ensures))
     ∙ ap (λ (m : FieldMap). get m c.args.key.now) c.self.view_is

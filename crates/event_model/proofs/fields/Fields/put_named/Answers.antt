@@ -7,23 +7,23 @@ use Rattle.event_model.proofs.fields.Fields.put_named.Goals as goal
 pub invariant_of-self : goal.invariant_of-self
 invariant_of-self c =
     subst AreFieldsInOrder (sym c.overwrite.ensures) (set_there c.args.key c.args.value c.self.inside.pairs.items c.in-Ok.i
-    (moved _ _ _ _ _ c.bytes.ensures c.deref.ensures.value c.in-Ok.ensures) c.self.invariant c.requires).order
+    (moved _ _ _ _ _ c.as_key.ensures c.deref.ensures.value c.in-Ok.ensures) c.self.invariant c.requires).order
 
 pub invariant_of-self-in-Continue-1 : goal.invariant_of-self-in-Continue-1
 invariant_of-self-in-Continue-1 c =
     subst AreFieldsInOrder (sym c.in_ok-insert-in-Err.ensures.items) (set_between c.args.key c.args.value c.self.inside.pairs.items c.in-Err.i
-    (moved_gap _ _ _ _ _ c.bytes.ensures c.deref.ensures.value c.in-Err.ensures) c.self.invariant c.requires).order
+    (moved_gap _ _ _ _ _ c.as_key.ensures c.deref.ensures.value c.in-Err.ensures) c.self.invariant c.requires).order
 
 pub returns-in-Ok-clause-ok : goal.returns-in-Ok-clause-ok
 returns-in-Ok-clause-ok c =
     ap from_entries c.overwrite.ensures
     ∙ (set_there c.args.key c.args.value c.self.inside.pairs.items c.in-Ok.i
-    (moved _ _ _ _ _ c.bytes.ensures c.deref.ensures.value c.in-Ok.ensures) c.self.invariant c.requires).map_is
+    (moved _ _ _ _ _ c.as_key.ensures c.deref.ensures.value c.in-Ok.ensures) c.self.invariant c.requires).map_is
     ∙ ap (λ (m : FieldMap). insert m c.args.key c.args.value) c.self.view_is
 
 pub returns-in_ok-insert-in-Err-clause-ok : goal.returns-in_ok-insert-in-Err-clause-ok
 returns-in_ok-insert-in-Err-clause-ok c =
     ap from_entries c.in_ok-insert-in-Err.ensures.items
     ∙ (set_between c.args.key c.args.value c.self.inside.pairs.items c.in-Err.i
-    (moved_gap _ _ _ _ _ c.bytes.ensures c.deref.ensures.value c.in-Err.ensures) c.self.invariant c.requires).map_is
+    (moved_gap _ _ _ _ _ c.as_key.ensures c.deref.ensures.value c.in-Err.ensures) c.self.invariant c.requires).map_is
     ∙ ap (λ (m : FieldMap). insert m c.args.key c.args.value) c.self.view_is

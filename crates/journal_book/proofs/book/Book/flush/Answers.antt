@@ -12,7 +12,7 @@ use Rattle.journal_book.proofs.book.Book.flush.Goals as goal
 pub append-requires-clause-small : goal.append-requires-clause-small
 append-requires-clause-small g c =
     let i = c.self.inside in
-    room_left g.R.Rules.meaning i.base.value i.steps i.durable i.core.state i.pending c.bytes.result.now i.used i.bytes i.limit i.journal c.self.invariant.1 c.self.invariant.2
+    room_left g.R.Rules.meaning i.base.value i.steps i.durable i.core.state i.pending c.bytes.result.now i.used i.limit i.journal c.self.invariant.1 c.self.invariant.2
     (λ same. c.if-self-len.false (same ∙ sym c.len.ensures)) c.bytes.ensures
 
 pub append-requires-clause-at_rest : goal.append-requires-clause-at_rest
@@ -26,10 +26,10 @@ invariant_of-self g c =
     let apart : i.durable ≡ length i.steps → ⊥ = λ same. c.if-self-len.false (same ∙ sym c.len.ensures) in
     let grown = c.in-Ok.ensures.ok in
     let longer = ap (λ j. j.length) grown in
-    let record_of = record_is g.R.Rules.meaning i.base.value i.steps i.durable i.core.state i.pending c.bytes.result.now i.used i.bytes i.limit i.journal c.self.invariant.1 c.self.invariant.2 apart c.bytes.ensures in (
+    let record_of = record_is g.R.Rules.meaning i.base.value i.steps i.durable i.core.state i.pending c.bytes.result.now i.used i.limit i.journal c.self.invariant.1 c.self.invariant.2 apart c.bytes.ensures in (
       stores_still i.root i.journal c.append.new.self i.generation c.self.invariant.0 (ap (λ j. j.file) grown) (ap (λ j. j.heading) grown),
       replayed_flushed g.R.Rules.meaning i.base.value i.steps i.durable c.len-self-inside.result i.core.state c.self.invariant.1 c.len-self-inside.ensures,
-      pending_flushed g.R.Rules.meaning i.base.value i.steps i.durable c.len-self-inside.result i.core.state i.pending c.bytes.result.now i.used i.bytes i.limit i.journal c.append.new.self c.self.invariant.1
+      pending_flushed g.R.Rules.meaning i.base.value i.steps i.durable c.len-self-inside.result i.core.state i.pending c.bytes.result.now i.used i.limit i.journal c.append.new.self c.self.invariant.1
           c.self.invariant.2 apart c.bytes.ensures c.len-self-inside.ensures longer,
       c.self.invariant.3,
       λ whole. ap (λ j. j.broken) grown ∙ c.self.invariant.4 whole,
@@ -57,7 +57,7 @@ returns-in-Ok-clause-kept g c = λ first past kept.
     let rest = c.self.invariant.5 c.if-self.false here.files here.tells in
     let grown = c.in-Ok.ensures.ok in
     let changes = c.in-Ok.ensures.elsewhere here.files here.tells in
-    let is = record_is g.R.Rules.meaning i.base.value i.steps i.durable i.core.state i.pending c.bytes.result.now i.used i.bytes i.limit i.journal c.self.invariant.1 c.self.invariant.2
+    let is = record_is g.R.Rules.meaning i.base.value i.steps i.durable i.core.state i.pending c.bytes.result.now i.used i.limit i.journal c.self.invariant.1 c.self.invariant.2
     (λ same. c.if-self-len.false (same ∙ sym c.len.ensures)) c.bytes.ensures in
     let flushed = kept_flushed g.D.Disk.disk g.D.Disk.may_leave g.D.Disk.left_since g.R.Rules.meaning _ i.root i.journal here.files (g.met.D.Disk.honest i.disk here.files here.tells) c.self.invariant.0 c.self.invariant.1.writable rest
     _ is first past c.append.new.disk changes.0 c.append.new.self here changes.1 c.in-Ok.ensures.crash_elsewhere (ap (λ j. j.file) grown) (ap (λ j. j.heading) grown)
@@ -71,7 +71,7 @@ returns-in-Ok-clause-any_moment g c = λ first past kept.
     let i = c.self.inside in
     let here = subst (λ (b : BookView g.row.D.Denot g.row.R.Denot). IsKept g.D.Disk.disk g.D.Disk.may_leave g.R.Rules.meaning first past b) (sym c.self.view_is) kept in
     let rest = c.self.invariant.5 c.if-self.false here.files here.tells in
-    let is = record_is g.R.Rules.meaning i.base.value i.steps i.durable i.core.state i.pending c.bytes.result.now i.used i.bytes i.limit i.journal c.self.invariant.1 c.self.invariant.2
+    let is = record_is g.R.Rules.meaning i.base.value i.steps i.durable i.core.state i.pending c.bytes.result.now i.used i.limit i.journal c.self.invariant.1 c.self.invariant.2
     (λ same. c.if-self-len.false (same ∙ sym c.len.ensures)) c.bytes.ensures in
     let run = flush_leaves g.D.Disk.disk g.D.Disk.may_leave g.D.Disk.left_since g.R.Rules.meaning _ i.root i.journal here.files (g.met.D.Disk.honest i.disk here.files here.tells) c.self.invariant.0 c.self.invariant.1.writable rest
     _ is first past c.append.new.disk here (c.in-Ok.ensures.any_moment here.files _ here.tells rest.journal_rests) in
@@ -90,7 +90,7 @@ returns-in-Err-clause-kept g c = λ first past kept.
     let rest = c.self.invariant.5 c.if-self.false here.files here.tells in
     let changes = c.in-Err.ensures.elsewhere here.files here.tells in
     let honest = g.met.D.Disk.honest i.disk here.files here.tells in
-    let is = record_is g.R.Rules.meaning i.base.value i.steps i.durable i.core.state i.pending c.bytes.result.now i.used i.bytes i.limit i.journal c.self.invariant.1 c.self.invariant.2
+    let is = record_is g.R.Rules.meaning i.base.value i.steps i.durable i.core.state i.pending c.bytes.result.now i.used i.limit i.journal c.self.invariant.1 c.self.invariant.2
     (λ same. c.if-self-len.false (same ∙ sym c.len.ensures)) c.bytes.ensures in
     let run = flush_leaves g.D.Disk.disk g.D.Disk.may_leave g.D.Disk.left_since g.R.Rules.meaning _ i.root i.journal here.files honest c.self.invariant.0 c.self.invariant.1.writable rest
     _ is first past c.append.new.disk here (c.in-Err.ensures.any_moment here.files _ here.tells rest.journal_rests) in
@@ -101,7 +101,7 @@ returns-in-Err-clause-any_moment g c = λ first past kept.
     let i = c.self.inside in
     let here = subst (λ (b : BookView g.row.D.Denot g.row.R.Denot). IsKept g.D.Disk.disk g.D.Disk.may_leave g.R.Rules.meaning first past b) (sym c.self.view_is) kept in
     let rest = c.self.invariant.5 c.if-self.false here.files here.tells in
-    let is = record_is g.R.Rules.meaning i.base.value i.steps i.durable i.core.state i.pending c.bytes.result.now i.used i.bytes i.limit i.journal c.self.invariant.1 c.self.invariant.2
+    let is = record_is g.R.Rules.meaning i.base.value i.steps i.durable i.core.state i.pending c.bytes.result.now i.used i.limit i.journal c.self.invariant.1 c.self.invariant.2
     (λ same. c.if-self-len.false (same ∙ sym c.len.ensures)) c.bytes.ensures in
     let run = flush_leaves g.D.Disk.disk g.D.Disk.may_leave g.D.Disk.left_since g.R.Rules.meaning _ i.root i.journal here.files (g.met.D.Disk.honest i.disk here.files here.tells) c.self.invariant.0 c.self.invariant.1.writable rest
     _ is first past c.append.new.disk here (c.in-Err.ensures.any_moment here.files _ here.tells rest.journal_rests) in

@@ -14,11 +14,10 @@ use Rattle.journal_book.proofs.book.Book.reopen.Goals as goal
 pub invariant_of-result : goal.invariant_of-result
 invariant_of-result g c =
     let m = g.R.Rules.meaning in
-    let state_is = ap (λ core. core.state) c.in-Ok.ensures.core in
-    let total = c.codes_len-bytes.ensures ∙ ap (λ (ss : List Step). min (sum_by (λ step. length (code_of_step step)) ss) last_u64) c.as_slice.ensures in (
+    let state_is = ap (λ core. core.state) c.in-Ok.ensures.core in (
       c.in-Ok.ensures.files,
       replayed_reopened m _ _ _ c.len-durable.result c.in-Ok.ensures.history state_is c.len-durable.ensures,
-      pending_reopened _ c.len-durable.result c.from.result c.codes_len-bytes.result c.args.limit _ c.len-durable.ensures total c.requires c.in-Ok.ensures.length,
+      pending_reopened _ c.len-durable.result c.from.result c.args.limit _ c.len-durable.ensures c.requires c.in-Ok.ensures.length,
       subst (λ (b : Base). AreShort b.outs) (sym state_is) (history_small m _ _ c.in-Ok.ensures.history).short,
       λ whole. c.in-Ok.ensures.whole,
       λ whole after told.

@@ -1,4 +1,4 @@
-use Rattle.std.proofs.Common.{◌≡◌, ◌++◌, [], ◌∷◌, ℕ, List, None, Result, Ok, Err, OnOk, OnErr, refl, sym, ◌∙◌, ap, subst, ◌≤◌, Bool, false}
+use Rattle.std.proofs.Common.{◌≡◌, ◌++◌, [], ◌∷◌, ℕ, List, Option, None, Result, Ok, Err, OnOk, OnErr, refl, sym, ◌∙◌, ap, subst, ◌≤◌, Bool, false}
 use Rattle.edge_traits.specs.Disk.{DiskView}
 use Rattle.step_code.specs.declared.base.Base.{Base}
 use Rattle.step_code.specs.declared.step.Step.{Step}
@@ -9,7 +9,7 @@ use Rattle.step_code.specs.Fits.{Fits}
 use Rattle.step_code.specs.Rules.{last_moment, Meaning}
 use Rattle.journal_book.specs.declared.stage_refusal.StageRefusal.{StageRefusal}
 use Rattle.journal_book.specs.Book.{BookView, IsKept}
-use Rattle.journal_book.specs.Staged.{staged, stamp, step_cause, IsMove}
+use Rattle.journal_book.specs.Staged.{cause_of, staged, stamp, step_cause, IsMove}
 use Rattle.journal_book.proofs.OneMore.{kept_staged, may_stage, nothing_refuses}
 use Rattle.journal_book.proofs.book.Book.stage.Goals as goal
 
@@ -32,12 +32,25 @@ allowed m s now steps limit moment what step whole same latest sound causes is c
     let early : now.latest.0 ≤ last_moment = subst (λ (b : Base). b.latest.0 ≤ last_moment) same latest in
     subst (λ (it : Step). May m now it) (sym is) (may_stage m now moment what early fits (content sound fits))
 
+none_stops : (broken : Bool) (step : Option StageRefusal) → broken ≡ false → step ≡ None → cause_of broken step ≡ None
+none_stops broken step whole none = subst (λ b. cause_of b step ≡ None) (sym whole) none
+
+pub returns-in-Ok-clause-causes : goal.returns-in-Ok-clause-causes
+returns-in-Ok-clause-causes g c =
+    let i = c.self.inside in
+    let m = g.R.Rules.meaning in
+    let whole = sym (ap (λ b. b.broken) c.self.view_is) ∙ c.if-self.false in
+    on_any c.commit.result
+    (none_stops c.args.self.now.broken _ whole
+    (subst (λ (b : BookView g.row.D.Denot g.row.R.Denot). step_cause m b.state b.steps b.limit (staged m b.state c.args.now c.args.what) ≡ None) c.self.view_is
+    (c.in-Ok.ensures.ok i.steps c.code_len.ensures)))
+
 pub commit-requires-clause-may : goal.commit-requires-clause-may
 commit-requires-clause-may g c =
     let i = c.self.inside in
     allowed g.R.Rules.meaning i.core.state c.args.self.now.state i.steps i.limit c.args.now c.args.what c.in-Ok.step c.args.self.now.broken (ap (λ b. b.state) c.self.view_is) c.self.invariant.1.latest
     (sym (ap (λ b. b.broken) c.self.view_is) ∙ c.if-self.false)
-    (subst (λ (s : Base). step_cause g.R.Rules.meaning s i.steps i.limit (staged g.R.Rules.meaning s c.args.now c.args.what) ≡ None) (ap (λ b. b.state) c.self.view_is) (c.in-Ok.ensures.ok i.steps c.self.invariant.2.total))
+    (subst (λ (s : Base). step_cause g.R.Rules.meaning s i.steps i.limit (staged g.R.Rules.meaning s c.args.now c.args.what) ≡ None) (ap (λ b. b.state) c.self.view_is) (c.in-Ok.ensures.ok i.steps c.code_len.ensures))
     (c.in-Ok.ensures.step ∙ ap (λ (s : Base). staged g.R.Rules.meaning s c.args.now c.args.what) (ap (λ b. b.state) c.self.view_is)) c.requires.content
 
 pub returns-in-Ok-clause-may : goal.returns-in-Ok-clause-may
@@ -46,7 +59,7 @@ returns-in-Ok-clause-may g c =
     on_any c.commit.result
     (allowed g.R.Rules.meaning i.core.state c.args.self.now.state i.steps i.limit c.args.now c.args.what _ c.args.self.now.broken (ap (λ b. b.state) c.self.view_is) c.self.invariant.1.latest
     (sym (ap (λ b. b.broken) c.self.view_is) ∙ c.if-self.false)
-    (subst (λ (s : Base). step_cause g.R.Rules.meaning s i.steps i.limit (staged g.R.Rules.meaning s c.args.now c.args.what) ≡ None) (ap (λ b. b.state) c.self.view_is) (c.in-Ok.ensures.ok i.steps c.self.invariant.2.total))
+    (subst (λ (s : Base). step_cause g.R.Rules.meaning s i.steps i.limit (staged g.R.Rules.meaning s c.args.now c.args.what) ≡ None) (ap (λ b. b.state) c.self.view_is) (c.in-Ok.ensures.ok i.steps c.code_len.ensures))
     refl c.requires.content)
 
 pub returns-in-Ok-clause-kept : goal.returns-in-Ok-clause-kept

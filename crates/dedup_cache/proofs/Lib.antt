@@ -1,0 +1,4 @@
+mod Expired
+mod KeptMarks
+pub mod Keys
+mod Updated

@@ -1,0 +1,83 @@
+//! Marks in a queue, and the moments of their keys in a map.
+ghost use Rattle.std.specs.Prelude.{◌≡◌, ◌-◌, drop, nat_lt, List, ℕ, IfOk};
+ghost use Rattle.std.specs.VecDeque.{deque_len};
+ghost use Rattle.stored_types.specs.Mark.{fresh};
+ghost use Rattle.dedup_cache.specs.Cache.{HaveOwnKeys};
+ghost use Rattle.dedup_cache.specs.Kept.{KeepMarks, HaveRoom, found, has_expired, moment_of};
+
+use base_types::{Moment, OutOfMemory};
+use indexmap::IndexMap;
+use std::alloc::Global;
+use std::collections::VecDeque;
+use stored_types::Mark;
+
+/// Whether a key that was marked at this moment, `ttl` seconds being its time to live, still counts.
+pub fn is_fresh(moment: Moment, ttl: u64, now: Moment) -> bool
+    ensures { result ≡ nat_lt (now.0 - moment.0) ttl }
+{
+    now.0.saturating_sub(moment.0) < ttl
+}
+
+// Whether the oldest mark has expired.
+fn has_expired(marks: &VecDeque<Mark>, ttl: u64, now: Moment) -> bool
+    ensures { result ≡ has_expired ttl now.0 marks.now.items }
+{
+    match marks.front() {
+        Some(mark) => !is_fresh(mark.moment, ttl, now),
+        None => false,
+    }
+}
+
+// The oldest mark leaves, and its key. It takes no memory.
+fn drop_oldest(marks: &mut VecDeque<Mark>, moments: &mut IndexMap<Vec<u8>, Moment>)
+    requires kept { KeepMarks marks.old.items moments.old }
+    ensures marks { marks.new.items ≡ drop 1 marks.old.items }
+    ensures len { deque_len marks.new ≡ deque_len marks.old - 1 }
+    ensures kept { KeepMarks marks.new.items moments.new }
+    ensures room { HaveRoom marks.old moments.old → HaveRoom marks.new moments.new }
+{
+    if let Some(mark) = marks.pop_front() {
+        moments.swap_remove(mark.key.bytes());
+    }
+}
+
+/// Marks that have expired leave. Since moments don't fall, they stand in front. It takes no memory.
+pub fn drop_expired(
+    marks: &mut VecDeque<Mark>,
+    moments: &mut IndexMap<Vec<u8>, Moment>,
+    ttl: u64,
+    now: Moment,
+)
+    requires kept { KeepMarks marks.old.items moments.old }
+    ensures fresh { marks.new.items ≡ fresh ttl now.0 marks.old.items }
+    ensures kept { KeepMarks marks.new.items moments.new }
+    ensures room { HaveRoom marks.old moments.old → HaveRoom marks.new moments.new }
+{
+    'expired: while has_expired(marks, ttl, now) {
+        drop_oldest(marks, moments);
+    }
+}
+
+/// So many of the oldest marks leave, or all. It takes no memory.
+pub fn drop_first(marks: &mut VecDeque<Mark>, moments: &mut IndexMap<Vec<u8>, Moment>, count: usize)
+    requires kept { KeepMarks marks.old.items moments.old }
+    ensures left { marks.new.items ≡ drop count marks.old.items }
+    ensures kept { KeepMarks marks.new.items moments.new }
+    ensures room { HaveRoom marks.old moments.old → HaveRoom marks.new moments.new }
+{
+    'oldest: for _ in 0..count {
+        drop_oldest(marks, moments);
+    }
+}
+
+/// The moments of these marks' keys.
+pub fn moments_of(alloc: Global, marks: &[Mark]) -> Result<IndexMap<Vec<u8>, Moment>, OutOfMemory>
+    requires keys { HaveOwnKeys marks.now }
+    ensures { IfOk result (λ moments. (key : List ℕ) → found key moments ≡ moment_of key marks.now) }
+{
+    let mut moments = IndexMap::with_capacity(alloc, marks.len())?;
+    'marks: for mark in marks {
+        moments.insert(mark.key.bytes().to_vec(alloc)?, mark.moment)?;
+    }
+    Ok(moments)
+}

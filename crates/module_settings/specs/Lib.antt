@@ -1,0 +1,5 @@
+-- what public contracts cite
+pub mod Parameters
+pub mod Networks
+pub mod Table
+pub mod Rows

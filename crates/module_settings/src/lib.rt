@@ -1,0 +1,18 @@
+//! The settings of modules: which parameters each has, what a value of JSON is taken as, and tables of networks.
+#![tactic(auto)]
+
+mod form;
+mod module;
+mod parameter;
+mod setting;
+mod table;
+mod taken;
+mod texts;
+
+pub use form::{Form, Words};
+pub use module::{ModuleWord, module_of};
+pub use parameter::{Otherwise, Parameter, own_parameters, setting_of, shared_parameters};
+pub use setting::Setting;
+pub use table::{FieldsList, NetworkList, Table, TableFault, row_count, table_in};
+pub use taken::{is_file_name, taken_as};
+pub use texts::{copies_of, text_of, texts_in, texts_of};

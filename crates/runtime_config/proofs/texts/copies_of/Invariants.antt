@@ -1,5 +1,0 @@
-use Rattle.std.proofs.Common.{◌≡◌, map, take}
-use Rattle.runtime_config.proofs.texts.copies_of.Given as goal
-
-abbrev pub invariant-parts : goal.invariant-parts
-invariant-parts l = l.texts.items ≡ map (λ part. part.now) (take l.part-index l.parts)
