@@ -382,13 +382,9 @@ impl<R: Rules> Core<R> {
     pub fn fits(&self, step: &Step) -> Result<bool, OutOfMemory>
         ensures { IfOk result (λ fits. (fits ≡ true) ↔ MayReplay R.meaning self.now.state step.now) }
     {
-        match self.refusal(step)? {
-            Some(_) => Ok(false),
-            None => Ok(
-                is_in_time(self.state.latest, step.moment)
-                    && shows(&self.state, self.bots(), step.moment, &step.what),
-            ),
-        }
+        let is_fitting = self.refusal(step)?.is_none()
+            && is_in_time(self.state.latest, step.moment);
+        Ok(is_fitting && shows(&self.state, self.bots(), step.moment, &step.what))
     }
 
     /// The first number that the step would bring past the last one that may be given, if it brings one: of the step, of its

@@ -2,7 +2,7 @@
 ghost use Rattle.std.specs.Prelude.{◌≡◌, ◌++◌, List, ℕ, length, min, OnOk, IfOk};
 ghost use Rattle.base_types.specs.Number.{last_u64};
 ghost use Rattle.stored_types.specs.Code.{name, framed_at, front_at};
-ghost use Rattle.stored_types.specs.Coded.{Gives, Reader};
+ghost use Rattle.stored_types.specs.Coded.{Begins, Gives, Reader};
 ghost use Rattle.std.specs.Int.{w16};
 ghost use Rattle.config_bundle.specs.Bundle.{IsFileName, file_name_at};
 
@@ -35,9 +35,11 @@ impl FileName {
 
 /// Appends a text behind its length in two bytes. Where the length can't be written, there is no code, as where memory
 /// runs out.
+#[tactic(auto, using(stored_types::proofs::Begins::begins))]
 pub fn put_name(to: &mut Blob, text: &Text) -> Result<(), OutOfMemory>
     ensures code { OnOk result (to.new ≡ to.old ++ name text.now) }
     ensures writable { OnOk result (IsFileName text.now) }
+    ensures kept { Begins to.old to.new }
 {
     let bytes = text.as_str().as_bytes();
     let Ok(len) = u16::try_from(bytes.len()) else {
@@ -77,6 +79,7 @@ impl Coded for FileName {
         (self.text.bytes().len() as u64).saturating_add(2)
     }
 
+    #[tactic(auto, using(stored_types::proofs::Begins::begins))]
     fn put(&self, to: &mut Blob) -> Result<(), OutOfMemory> {
         put_name(to, &self.text)
     }

@@ -30,10 +30,10 @@ module _ {A B : Type 0} (view : A → B) (p : B → Bool) where
   entry_at : (xs : List A) (i : ℕ) (x : A) → position (λ a. p (view a)) xs ≡ Some i → x ≡ get_or xs i x → get_or (map view xs) i (view x) ≡ view x
   entry_at xs i x is here = get_or-map view xs i x (view x) (first_at (λ a. p (view a)) xs i is).inside ∙ ap view (sym here)
 
-  pub found_at : (xs : List A) (i : ℕ) (x : A) → position (λ a. p (view a)) xs ≡ Some i → x ≡ get_or xs i x → find p (map view xs) ≡ Some (view x)
+  found_at : (xs : List A) (i : ℕ) (x : A) → position (λ a. p (view a)) xs ≡ Some i → x ≡ get_or xs i x → find p (map view xs) ≡ Some (view x)
   found_at xs i x is here = find_first p (map view xs) i (view x) (mapped_first xs i x (first_at (λ a. p (view a)) xs i is)) ∙ ap Some (entry_at xs i x is here)
 
-  pub found_nowhere : (xs : List A) → position (λ a. p (view a)) xs ≡ None → find p (map view xs) ≡ None
+  found_nowhere : (xs : List A) → position (λ a. p (view a)) xs ≡ None → find p (map view xs) ≡ None
   found_nowhere xs none = find_nowhere p (map view xs) (mapped_nowhere xs (nowhere (λ a. p (view a)) xs none))
 
   -- where the item at the place is replaced, its entry is changed

@@ -25,14 +25,8 @@ module _ (key : List ℕ) where
   others_unmarked [] others = refl
   others_unmarked (m ∷ marks) others = rw (nat_list_eq_equiv.symm m.key key ∙ others.0) (others_unmarked marks others.1)
 
-  unmarked_others : (marks : List Mark) → is_marked key marks ≡ false → AreOthers marks
-  unmarked_others [] none = tt
-  unmarked_others (m ∷ marks) none =
-      let both = either_fails (bytes_eq m.key key) (is_marked key marks) none in
-      (nat_list_eq_equiv.symm key m.key ∙ both.0, unmarked_others marks both.1)
-
   -- nor among fewer marks
-  pub unmarked_filter : (p : Mark → Bool) (marks : List Mark) → is_marked key marks ≡ false → is_marked key (filter p marks) ≡ false
+  unmarked_filter : (p : Mark → Bool) (marks : List Mark) → is_marked key marks ≡ false → is_marked key (filter p marks) ≡ false
   unmarked_filter p [] none = refl
   unmarked_filter p (m ∷ marks) none =
       let both = either_fails (bytes_eq m.key key) (is_marked key marks) none in

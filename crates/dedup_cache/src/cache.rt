@@ -1,4 +1,4 @@
-ghost use Rattle.std.specs.Prelude.{◌≡◌, ◌++◌, ◌∷◌, [], false, IfOk, OnOk, Some, None};
+ghost use Rattle.std.specs.Prelude.{◌≡◌, ◌++◌, ◌∷◌, [], false, IfOk, OnOk, OnErr, Some, None};
 ghost use Rattle.stored_types.specs.Mark.{fresh, is_marked, trimmed};
 ghost use Rattle.dedup_cache.specs.Cache.{ArePast, DoNotFall, HaveOwnKeys};
 
@@ -46,7 +46,11 @@ impl Cache {
         }
     }
 
-    /// The cache of these marks, which move.
+    /// The cache of these marks, which move. Their keys are copied for the map.
+    ///
+    /// # Errors
+    ///
+    /// `OutOfMemory`.
     pub fn from_list(marks: MarkList, alloc: Global) -> Result<Cache, OutOfMemory>
         requires order { DoNotFall marks }
         requires keys { HaveOwnKeys marks }
@@ -62,6 +66,10 @@ impl Cache {
     }
 
     /// The marks as a list.
+    ///
+    /// # Errors
+    ///
+    /// `OutOfMemory`.
     pub fn copy(&self, alloc: Global) -> Result<MarkList, OutOfMemory>
         ensures { IfOk result (λ marks. marks ≡ self.now.marks) }
     {
@@ -79,7 +87,7 @@ impl Cache {
         self.moments.contains_key(key.bytes())
     }
 
-    /// Whether the key is marked, and its mark is younger than `ttl` seconds.
+    /// Whether the key is marked, and its mark is younger than `ttl` seconds at the moment `now`.
     pub fn is_live(&self, key: &Blob, now: Moment, ttl: u64) -> bool
         ensures { result ≡ is_marked key.now (fresh ttl now.0 self.now.marks) }
     {
@@ -89,7 +97,7 @@ impl Cache {
         }
     }
 
-    /// Marks that have reached an age of `ttl` seconds leave. It takes no memory.
+    /// Marks that have reached an age of `ttl` seconds at the moment `now` leave. It takes no memory.
     pub fn due(&mut self, now: Moment, ttl: u64)
         ensures { self.new ≡ record self.old { marks = fresh ttl now.0 self.old.marks } }
     {
@@ -104,14 +112,15 @@ impl Cache {
         drop_first(&mut self.marks, &mut self.moments, count);
     }
 
-    /// Makes room for a mark of this key. The marks stay.
+    /// Makes room for a mark of this key, in the place of room that was made before. The marks stay.
     ///
     /// # Errors
     ///
-    /// `OutOfMemory`.
+    /// `OutOfMemory`: nothing has changed.
     pub fn reserve(&mut self, key: &Blob) -> Result<(), OutOfMemory>
         ensures marks { self.new.marks ≡ self.old.marks }
         ensures ready { OnOk result (self.new.ready ≡ Some key.now) }
+        ensures err { OnErr result (self.new ≡ self.old) }
     {
         let copy = key.bytes().to_vec(self.alloc)?;
         self.marks.reserve(1)?;
@@ -120,7 +129,7 @@ impl Cache {
         Ok(())
     }
 
-    /// Marks a key that room was made for. It takes no memory.
+    /// Marks a key that room was made for, which is used up. It takes no memory.
     pub fn mark(&mut self, key: Blob, now: Moment)
         requires ready { self.old.ready ≡ Some key }
         requires new { is_marked key self.old.marks ≡ false }

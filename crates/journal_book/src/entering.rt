@@ -10,7 +10,8 @@ use base_types::{Blob, OutOfMemory};
 use disk_journal::Journal;
 use history_laws::what_may_be_taken_may_be_replayed;
 use std::alloc::Global;
-use step_code::{Rules, Step, encode_step};
+use step_code::{Rules, Step};
+use stored_types::Coded;
 
 // Drops what an earlier call left behind the first so many bytes.
 fn cut_back(alloc: Global, pending: &mut Blob, used: usize) -> Result<(), OutOfMemory>
@@ -24,8 +25,9 @@ fn cut_back(alloc: Global, pending: &mut Blob, used: usize) -> Result<(), OutOfM
     Ok(())
 }
 
-// Puts the code of a step behind the first so many bytes, and answers the length with it. Where memory runs out, those
-// bytes are as they were.
+// Writes the code of a step behind the first so many bytes, and answers the length with it. Where memory runs out, those
+// bytes are as they were, and a part of the code may stand behind them.
+#[tactic(auto, using(stored_types::proofs::Begins::begins_front, stored_types::proofs::Begins::begins_long))]
 fn put_code(
     alloc: Global,
     pending: &mut Blob,
@@ -39,10 +41,8 @@ fn put_code(
     ensures kept { OnErr result (take used pending.new ≡ take used pending.old) }
     ensures within { OnErr result (used ≤ length pending.new) }
 {
-    // A failed write of a code may leave a part of it, so the code is made first and then put there whole.
-    let code = encode_step(alloc, step)?;
     cut_back(alloc, pending, used)?;
-    pending.append(code.bytes())?;
+    step.put(pending)?;
     Ok(pending.bytes().len())
 }
 

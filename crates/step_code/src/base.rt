@@ -1,6 +1,6 @@
 ghost use Rattle.std.specs.Prelude.{◌≡◌, ◌++◌, OnOk};
 ghost use Rattle.stored_types.specs.Code.{blob, IsBlob, IsMoment, IsNumber};
-ghost use Rattle.stored_types.specs.Coded.{Gives};
+ghost use Rattle.stored_types.specs.Coded.{Begins, Gives};
 ghost use Rattle.step_code.specs.Code.{code_of_base, first_format, heads, IsWritableBase};
 ghost use Rattle.step_code.specs.Reading.{base_at, heads_at};
 
@@ -75,6 +75,7 @@ fn heads_of(alloc: Global, bytes: &[u8]) -> Result<(Heads, &[u8]), CodeFault>
 }
 
 // What stands before the lists.
+#[tactic(auto, using(stored_types::proofs::Begins::begins))]
 fn put_heads(to: &mut Blob, base: &Base) -> Result<(), OutOfMemory>
     ensures code { OnOk result (to.new ≡ to.old ++ heads base.now) }
     ensures steps { OnOk result (IsNumber base.now.steps) }
@@ -83,6 +84,7 @@ fn put_heads(to: &mut Blob, base: &Base) -> Result<(), OutOfMemory>
     ensures latest { OnOk result (IsMoment base.now.latest) }
     ensures bundle_no { OnOk result (IsNumber base.now.bundle_no) }
     ensures bundle { OnOk result (IsBlob base.now.bundle) }
+    ensures kept { Begins to.old to.new }
 {
     base.steps.put(to)?;
     base.next_message.put(to)?;
@@ -114,6 +116,7 @@ impl Coded for Base {
             .saturating_add(self.halted.code_len())
     }
 
+    #[tactic(auto, using(stored_types::proofs::Begins::begins))]
     fn put(&self, to: &mut Blob) -> Result<(), OutOfMemory> {
         if self.discarded != 0 {
             return Err(OutOfMemory);

@@ -25,6 +25,7 @@ impl Coded for BotCache {
         self.bot.code_len().saturating_add(self.marks.code_len())
     }
 
+    #[tactic(auto, using(stored_types::proofs::Begins::begins))]
     fn put(&self, to: &mut Blob) -> Result<(), OutOfMemory> {
         self.bot.put(to)?;
         self.marks.put(to)

@@ -31,6 +31,7 @@ impl Coded for Feed {
             .saturating_add(self.finished.code_len())
     }
 
+    #[tactic(auto, using(stored_types::proofs::Begins::begins))]
     fn put(&self, to: &mut Blob) -> Result<(), OutOfMemory> {
         self.bot.put(to)?;
         self.round.put(to)?;

@@ -31,6 +31,7 @@ impl Coded for Output {
             .saturating_add(self.lines.code_len())
     }
 
+    #[tactic(auto, using(stored_types::proofs::Begins::begins))]
     fn put(&self, to: &mut Blob) -> Result<(), OutOfMemory> {
         self.bot.put(to)?;
         self.sealed_bytes.put(to)?;

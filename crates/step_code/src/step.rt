@@ -1,6 +1,6 @@
 ghost use Rattle.std.specs.Prelude.{◌≡◌, ◌+◌, ◌++◌, ◌∷◌, length, min, OnOk, IfOk};
 ghost use Rattle.stored_types.specs.Code.{byte, flag, list, name, number, optional, IsBot, IsList, IsOptional};
-ghost use Rattle.stored_types.specs.Coded.{Gives};
+ghost use Rattle.stored_types.specs.Coded.{Begins, Gives};
 ghost use Rattle.base_types.specs.Number.{last_u64};
 ghost use Rattle.step_code.specs.Code.{bad_part, code_of_step, kind_byte, kind_fields, send, IsBadPart, IsSend, IsWritable, IsWritableKind};
 ghost use Rattle.step_code.specs.Reading.{collect_at, done_at, fail_at, feed_end_at, kind_at, redo_at, reload_at, retry_at, round_at, step_at, take_at};
@@ -130,6 +130,7 @@ impl Coded for Step {
         fields_len(&self.what).saturating_add(9)
     }
 
+    #[tactic(auto, using(stored_types::proofs::Begins::begins))]
     fn put(&self, to: &mut Blob) -> Result<(), OutOfMemory> {
         kind_byte(&self.what).put(to)?;
         self.moment.put(to)?;
@@ -169,9 +170,11 @@ fn kind_byte(what: &StepKind) -> u8
     }
 }
 
+#[tactic(auto, using(stored_types::proofs::Begins::begins))]
 fn put_kind(to: &mut Blob, what: &StepKind) -> Result<(), OutOfMemory>
     ensures code { OnOk result (to.new ≡ to.old ++ kind_fields what.now) }
     ensures writable { OnOk result (IsWritableKind what.now) }
+    ensures kept { Begins to.old to.new }
 {
     match what {
         StepKind::Start => Ok(()),
@@ -242,9 +245,11 @@ fn put_kind(to: &mut Blob, what: &StepKind) -> Result<(), OutOfMemory>
 }
 
 // A bot's instance, and the message that it has.
+#[tactic(auto, using(stored_types::proofs::Begins::begins))]
 fn put_taken(to: &mut Blob, bot: &BotName, instance: u8, message: u64) -> Result<(), OutOfMemory>
     ensures code { OnOk result (to.new ≡ to.old ++ name bot.now ++ byte instance ++ number message) }
     ensures bot { OnOk result (IsBot bot.now) }
+    ensures kept { Begins to.old to.new }
 {
     bot.put(to)?;
     instance.put(to)?;
@@ -252,6 +257,7 @@ fn put_taken(to: &mut Blob, bot: &BotName, instance: u8, message: u64) -> Result
 }
 
 // What a bot made of a message.
+#[tactic(auto, using(stored_types::proofs::Begins::begins))]
 fn put_given(
     to: &mut Blob,
     sends: &SendList,
@@ -263,6 +269,7 @@ fn put_given(
     ensures sends { OnOk result (IsList IsSend sends.now) }
     ensures dumps { OnOk result (IsList IsBadPart dumps.now) }
     ensures key { OnOk result (IsOptional key.now) }
+    ensures kept { Begins to.old to.new }
 {
     sends.put(to)?;
     dumps.put(to)?;

@@ -1,3 +1,4 @@
+pub mod Begins
 mod Counted
 pub mod FieldLaws
 pub mod Laws

@@ -1,11 +1,15 @@
 -- What has a code: writing it, and reading it back from the front of bytes.
-use Rattle.std.specs.Prelude.{◌≡◌, ℕ, Bool, List, Option, Some, None, option_and_then, Result, Ok, Err, if◌then◌else◌}
+use Rattle.std.specs.Prelude.{◌≡◌, ℕ, Bool, List, length, take, Option, Some, None, option_and_then, Result, Ok, Err, if◌then◌else◌}
 use Rattle.stored_types.specs.declared.code_fault.CodeFault.{CodeFault}
 use Rattle.stored_types.specs.declared.code_fault.CodeFault.TheVariants as fault
 
 infixl 10 ◌>>=◌
 abbrev pub ◌>>=◌ : {A B : Type 0} → Option A → (A → Option B) → Option B
 o >>= f = option_and_then f o
+
+-- these bytes begin those
+unfoldable pub Begins : List ℕ → List ℕ → Type 0
+Begins front bytes = take (length front) bytes ≡ front
 
 -- the value whose code stands in front of bytes and the bytes behind it, or nothing where no code does
 abbrev pub Reader : Type 0 → Type 0

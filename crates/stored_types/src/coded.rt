@@ -4,7 +4,7 @@ ghost use Rattle.std.specs.Int.{w32};
 ghost use Rattle.std.specs.List.{flat_map, AllByRecursion};
 ghost use Rattle.base_types.specs.Number.{last_u64};
 ghost use Rattle.stored_types.specs.Code.{list, list_at, items_at, number_at, IsList};
-ghost use Rattle.stored_types.specs.Coded.{Gives, Reader, both};
+ghost use Rattle.stored_types.specs.Coded.{Begins, Gives, Reader, both};
 
 use crate::CodeFault;
 use base_types::{Blob, ListOf, OutOfMemory, put_u32};
@@ -23,10 +23,12 @@ pub trait Coded: Drop {
     fn code_len(&self) -> u64
         ensures { result ≡ min (length (code self.now)) last_u64 };
 
-    /// Appends the code. Where a length can't be written in its bytes, there is none, as where memory runs out.
+    /// Appends the code. Where a length can't be written in its bytes, there is none, as where memory runs out. A part of
+    /// the code may stand behind the bytes that were there then.
     fn put(&self, to: &mut Blob) -> Result<(), OutOfMemory>
         ensures code { OnOk result (to.new ≡ to.old ++ code self.now) }
-        ensures writable { OnOk result (has_code self.now) };
+        ensures writable { OnOk result (has_code self.now) }
+        ensures kept { Begins to.old to.new };
 
     /// The value whose code stands in front, and the bytes behind it.
     fn take(alloc: Global, bytes: &[u8]) -> Result<(Self, &[u8]), CodeFault>
@@ -48,9 +50,11 @@ pub fn codes_len<T: Coded>(items: &[T]) -> u64
 }
 
 /// Appends the codes of these items.
+#[tactic(auto, using(crate::proofs::Begins::begins))]
 pub fn put_all<T: Coded>(to: &mut Blob, items: &[T]) -> Result<(), OutOfMemory>
     ensures code { OnOk result (to.new ≡ to.old ++ flat_map T.code items.now) }
     ensures writable { OnOk result (AllByRecursion T.has_code items.now) }
+    ensures kept { Begins to.old to.new }
 {
     'items: for item in items {
         item.put(to)?;
@@ -102,6 +106,7 @@ impl<T: Coded> Coded for ListOf<T> {
         codes_len(self.as_slice()).saturating_add(4)
     }
 
+    #[tactic(auto, using(crate::proofs::Begins::begins))]
     fn put(&self, to: &mut Blob) -> Result<(), OutOfMemory> {
         let Ok(count) = u32::try_from(self.len()) else {
             return Err(OutOfMemory);
@@ -133,6 +138,7 @@ impl<A: Coded, B: Coded> Coded for (A, B) {
         self.0.code_len().saturating_add(self.1.code_len())
     }
 
+    #[tactic(auto, using(crate::proofs::Begins::begins))]
     fn put(&self, to: &mut Blob) -> Result<(), OutOfMemory> {
         self.0.put(to)?;
         self.1.put(to)

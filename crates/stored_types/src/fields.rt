@@ -4,7 +4,7 @@ ghost use Rattle.std.specs.Int.{to_be_bytes, w16, w32, w64};
 ghost use Rattle.base_types.specs.Name.{IsQueueName};
 ghost use Rattle.base_types.specs.Number.{last_u64};
 ghost use Rattle.stored_types.specs.Code.{blob, bot_at, byte, byte_at, flag, flag_at, framed_at, front_at, moment, moment_at, name, number, number_at, optional, optional_at, queue_at, text_at, IsBlob, IsBot, IsByte, IsMoment, IsNumber, IsOptional, IsText};
-ghost use Rattle.stored_types.specs.Coded.{Gives};
+ghost use Rattle.stored_types.specs.Coded.{Begins, Gives};
 
 use crate::{CodeFault, Coded};
 use base_types::{
@@ -23,6 +23,7 @@ impl Coded for u8 {
         1
     }
 
+    #[tactic(auto, using(crate::proofs::Begins::begins))]
     fn put(&self, to: &mut Blob) -> Result<(), OutOfMemory> {
         to.append(&[*self])
     }
@@ -51,6 +52,7 @@ impl Coded for u16 {
         2
     }
 
+    #[tactic(auto, using(crate::proofs::Begins::begins))]
     fn put(&self, to: &mut Blob) -> Result<(), OutOfMemory> {
         put_u16(to, *self)
     }
@@ -81,6 +83,7 @@ impl Coded for u32 {
         4
     }
 
+    #[tactic(auto, using(crate::proofs::Begins::begins))]
     fn put(&self, to: &mut Blob) -> Result<(), OutOfMemory> {
         put_u32(to, *self)
     }
@@ -111,6 +114,7 @@ impl Coded for u64 {
         8
     }
 
+    #[tactic(auto, using(crate::proofs::Begins::begins))]
     fn put(&self, to: &mut Blob) -> Result<(), OutOfMemory> {
         put_u64(to, *self)
     }
@@ -143,6 +147,7 @@ impl Coded for bool {
         1
     }
 
+    #[tactic(auto, using(crate::proofs::Begins::begins))]
     fn put(&self, to: &mut Blob) -> Result<(), OutOfMemory> {
         let byte: u8 = if *self { 1 } else { 0 };
         byte.put(to)
@@ -174,6 +179,7 @@ impl Coded for Moment {
         8
     }
 
+    #[tactic(auto, using(crate::proofs::Begins::begins))]
     fn put(&self, to: &mut Blob) -> Result<(), OutOfMemory> {
         self.0.put(to)
     }
@@ -190,8 +196,10 @@ impl Coded for Moment {
 }
 
 // Appends bytes behind their length in two bytes.
+#[tactic(auto, using(crate::proofs::Begins::begins))]
 fn put_name(to: &mut Blob, bytes: &[u8]) -> Result<(), OutOfMemory>
-    ensures { OnOk result (to.new ≡ to.old ++ name bytes.now) }
+    ensures code { OnOk result (to.new ≡ to.old ++ name bytes.now) }
+    ensures kept { Begins to.old to.new }
 {
     let Ok(len) = u16::try_from(bytes.len()) else {
         return Err(OutOfMemory);
@@ -201,9 +209,11 @@ fn put_name(to: &mut Blob, bytes: &[u8]) -> Result<(), OutOfMemory>
 }
 
 // Appends bytes behind their length in four bytes.
+#[tactic(auto, using(crate::proofs::Begins::begins))]
 fn put_blob(to: &mut Blob, bytes: &[u8]) -> Result<(), OutOfMemory>
     ensures code { OnOk result (to.new ≡ to.old ++ blob bytes.now) }
     ensures writable { OnOk result (IsBlob bytes.now) }
+    ensures kept { Begins to.old to.new }
 {
     let Ok(len) = u32::try_from(bytes.len()) else {
         return Err(OutOfMemory);
@@ -251,6 +261,7 @@ impl Coded for Blob {
         (self.bytes().len() as u64).saturating_add(4)
     }
 
+    #[tactic(auto, using(crate::proofs::Begins::begins))]
     fn put(&self, to: &mut Blob) -> Result<(), OutOfMemory> {
         put_blob(to, self.bytes())
     }
@@ -276,6 +287,7 @@ impl Coded for Text {
         (self.bytes().len() as u64).saturating_add(4)
     }
 
+    #[tactic(auto, using(crate::proofs::Begins::begins))]
     fn put(&self, to: &mut Blob) -> Result<(), OutOfMemory> {
         put_blob(to, self.as_str().as_bytes())
     }
@@ -306,6 +318,7 @@ impl Coded for BotName {
         (self.bytes().len() as u64).saturating_add(2)
     }
 
+    #[tactic(auto, using(crate::proofs::Begins::begins))]
     fn put(&self, to: &mut Blob) -> Result<(), OutOfMemory> {
         put_name(to, self.bytes())
     }
@@ -335,6 +348,7 @@ impl Coded for QueueName {
         (self.bytes().len() as u64).saturating_add(2)
     }
 
+    #[tactic(auto, using(crate::proofs::Begins::begins))]
     fn put(&self, to: &mut Blob) -> Result<(), OutOfMemory> {
         put_name(to, self.bytes())
     }
@@ -367,6 +381,7 @@ impl Coded for Option<Blob> {
         }
     }
 
+    #[tactic(auto, using(crate::proofs::Begins::begins))]
     fn put(&self, to: &mut Blob) -> Result<(), OutOfMemory> {
         match self {
             None => 0u8.put(to),

@@ -33,6 +33,7 @@ impl Coded for Hand {
             .saturating_add(self.since.code_len())
     }
 
+    #[tactic(auto, using(crate::proofs::Begins::begins))]
     fn put(&self, to: &mut Blob) -> Result<(), OutOfMemory> {
         self.bot.put(to)?;
         self.instance.put(to)?;

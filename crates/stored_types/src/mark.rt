@@ -24,6 +24,7 @@ impl Coded for Mark {
         self.key.code_len().saturating_add(self.moment.code_len())
     }
 
+    #[tactic(auto, using(crate::proofs::Begins::begins))]
     fn put(&self, to: &mut Blob) -> Result<(), OutOfMemory> {
         self.key.put(to)?;
         self.moment.put(to)

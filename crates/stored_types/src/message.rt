@@ -28,6 +28,7 @@ impl Coded for Msg {
         self.no.code_len().saturating_add(self.body.code_len())
     }
 
+    #[tactic(auto, using(crate::proofs::Begins::begins))]
     fn put(&self, to: &mut Blob) -> Result<(), OutOfMemory> {
         self.no.put(to)?;
         self.body.put(to)
@@ -59,6 +60,7 @@ impl Coded for FaultNote {
         self.code.code_len().saturating_add(self.text.code_len())
     }
 
+    #[tactic(auto, using(crate::proofs::Begins::begins))]
     fn put(&self, to: &mut Blob) -> Result<(), OutOfMemory> {
         self.code.put(to)?;
         self.text.put(to)
@@ -95,6 +97,7 @@ impl Coded for Dump {
             .saturating_add(self.moment.code_len())
     }
 
+    #[tactic(auto, using(crate::proofs::Begins::begins))]
     fn put(&self, to: &mut Blob) -> Result<(), OutOfMemory> {
         self.no.put(to)?;
         self.bot.put(to)?;

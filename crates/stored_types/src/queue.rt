@@ -28,6 +28,7 @@ impl Coded for Queue {
             .saturating_add(self.messages.code_len())
     }
 
+    #[tactic(auto, using(crate::proofs::Begins::begins))]
     fn put(&self, to: &mut Blob) -> Result<(), OutOfMemory> {
         self.name.put(to)?;
         self.messages.put(to)
