@@ -1,9 +1,10 @@
 //! The folder of a store, and the paths in it.
 
+use crate::lock::TryLock;
 use std::alloc::Global;
 use std::fs::{OpenFile, OpenOptions};
+use std::io;
 use std::rt::Files;
-use std::{fs, io};
 
 /// The path of a file in a folder.
 pub(crate) fn path_in(alloc: Global, folder: &str, name: &str) -> io::Result<String> {
@@ -20,15 +21,24 @@ pub(crate) fn parent_of(folder: &str) -> &str {
     }
 }
 
-/// Makes a folder where it isn't there, and makes its name durable: one that is there may have been made by a process that
-/// ended too early.
-pub(crate) fn make_folder<R: Files>(files: &R, folder: &str) -> io::Result<()> {
-    match fs::create_dir(files, folder) {
-        Ok(()) => {}
-        Err(e) if e.kind() == io::ErrorKind::AlreadyExists => {}
-        Err(e) => return Err(e),
+/// Opens a folder and locks it, if it is there. A path that is none of a folder is refused, and not waited for.
+pub(crate) fn lock_folder<R: Files>(
+    alloc: Global,
+    files: &R,
+    folder: &str,
+) -> io::Result<Option<R::File>>
+where
+    R::File: TryLock,
+{
+    let path = path_in(alloc, folder, ".")?;
+    match OpenOptions::new().read(true).open(files, path.as_str()) {
+        Ok(open) => {
+            open.try_lock()?;
+            Ok(Some(open))
+        }
+        Err(e) if e.kind() == io::ErrorKind::NotFound => Ok(None),
+        Err(e) => Err(e),
     }
-    sync_folder(files, parent_of(folder))
 }
 
 /// Makes the names in a folder durable.

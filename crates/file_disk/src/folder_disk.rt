@@ -2,27 +2,43 @@ ghost use Rattle.std.specs.Prelude.{◌≡◌, ◌≢◌, ◌≤◌, ◌<◌, le
 ghost use Rattle.edge_traits.specs.Count.{Rose};
 ghost use Rattle.file_disk.specs.Untold.{untold};
 
-use crate::folder::{make_folder, path_in, sync_folder};
+use crate::folder::{lock_folder, parent_of, path_in, sync_folder};
 use crate::handle::Handle;
+use crate::lock::TryLock;
 use crate::names::file_name;
 use base_types::Text;
 use edge_traits::{Disk, Failed};
 use std::alloc::Global;
 use std::fs::OpenOptions;
-use std::io;
 use std::os::unix::fs::FileExt;
 use std::rt::Files;
+use std::{fs, io};
+
+// What is known of the folder.
+#[derive(Drop)]
+enum FolderState<F> {
+    // It wasn't looked for yet.
+    Unknown,
+    // It wasn't there when it was looked for.
+    Absent,
+    // It is open and locked.
+    Locked { _open: F },
+}
 
 /// The files of a store in a folder of the system. It tells nothing of what they hold: that they keep what the trait says of
 /// a disk is the system's matter.
 ///
 /// Nothing is made before the first write: of a file that isn't there the length is 0. A file that is written first is
 /// made, and its folder where that isn't there. A sync makes a new file's entry in its folder durable too.
+///
+/// The folder is locked before anything is read or written there, until the disk is dropped: two processes that worked on one
+/// store would write over each other's steps. While another has the lock, each call fails.
 #[derive(Drop)]
 pub struct FolderDisk<'a, R: Files> {
     alloc: Global,
     files: &'a R,
     folder: &'a Text,
+    state: FolderState<R::File>,
     // The files that were opened.
     handles: Vec<Handle<R::File>>,
     faults: u64,
@@ -30,7 +46,7 @@ pub struct FolderDisk<'a, R: Files> {
 
 impl<'a, R: Files> FolderDisk<'a, R>
 where
-    R::File: FileExt,
+    R::File: FileExt + TryLock,
 {
     /// The files of this folder, which need not be there. It takes no memory.
     pub fn new(alloc: Global, files: &'a R, folder: &'a Text) -> Self
@@ -42,6 +58,7 @@ where
             alloc,
             files,
             folder,
+            state: FolderState::Unknown,
             handles: Vec::new(alloc),
             faults: 0,
         }
@@ -64,6 +81,47 @@ where
         Failed
     }
 
+    // Locks the folder, if it is there.
+    fn lock(&mut self) -> io::Result<bool>
+        ensures same { self.new ≡ record self.old { state = self.new.state } }
+    {
+        match lock_folder(self.alloc, self.files, self.folder())? {
+            Some(open) => {
+                self.state = FolderState::Locked { _open: open };
+                Ok(true)
+            }
+            None => {
+                self.state = FolderState::Absent;
+                Ok(false)
+            }
+        }
+    }
+
+    // Whether the folder is there. It is locked then. One that wasn't there stays so until it is made here.
+    fn is_locked(&mut self) -> io::Result<bool>
+        ensures same { self.new ≡ record self.old { state = self.new.state } }
+    {
+        match self.state {
+            FolderState::Unknown => self.lock(),
+            FolderState::Absent => Ok(false),
+            FolderState::Locked { .. } => Ok(true),
+        }
+    }
+
+    // Makes the folder where it isn't there, and makes its name durable: one that is there may have been made by a process that
+    // ended too early. One that wasn't there and is there now is another process's, and is refused.
+    fn make_folder(&mut self) -> io::Result<()>
+        ensures same { self.new ≡ record self.old { state = self.new.state } }
+    {
+        if !self.is_locked()? {
+            fs::create_dir(self.files, self.folder())?;
+            if !self.lock()? {
+                return Err(io::ErrorKind::NotFound.into());
+            }
+        }
+        sync_folder(self.files, parent_of(self.folder()))
+    }
+
     // The place of a file's handle. A file that isn't open is opened; one that isn't there has none.
     fn find(&mut self, file: u64) -> io::Result<Option<usize>>
         ensures place { IfOk result (λ place. IfSome place (λ i. i < length self.new.handles.items)) }
@@ -71,6 +129,9 @@ where
     {
         if let Some(i) = self.handles.iter().position(|h| h.number == file) {
             return Ok(Some(i));
+        }
+        if !self.is_locked()? {
+            return Ok(None);
         }
         let Some(name) = file_name(self.alloc, file)? else {
             return Err(io::ErrorKind::InvalidInput.into());
@@ -111,7 +172,7 @@ where
             return Err(io::ErrorKind::InvalidInput.into());
         };
         let path = path_in(self.alloc, self.folder(), &name)?;
-        make_folder(self.files, self.folder())?;
+        self.make_folder()?;
         let open = OpenOptions::new()
             .read(true)
             .write(true)
@@ -174,7 +235,7 @@ where
 
 impl<R: Files> Disk for FolderDisk<'_, R>
 where
-    R::File: FileExt,
+    R::File: FileExt + TryLock,
 {
     ghost disk = { λ d. untold d.faults };
 

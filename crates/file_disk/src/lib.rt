@@ -4,6 +4,8 @@
 mod folder;
 mod folder_disk;
 mod handle;
+mod lock;
 mod names;
 
 pub use folder_disk::FolderDisk;
+pub use lock::TryLock;

@@ -15,7 +15,7 @@ mod tests;
 
 use base_types::Text;
 use clock::SystemClock;
-use file_disk::FolderDisk;
+use file_disk::{FolderDisk, TryLock};
 use pipeline_top::{Status, run_tool};
 use shelf::FileShelf;
 use sink::WriterSink;
@@ -84,7 +84,7 @@ fn main(rt: HostRuntime) -> ExitCode {
 // Does what the command line says. Answers the exit status.
 fn run<R: Files + Env + Clock + Print + Eprint + AllocGlobal + Drop>(rt: &R) -> u8
 where
-    R::File: FileExt,
+    R::File: FileExt + TryLock,
 {
     match command_line(rt) {
         Ok(words) => exit_status(rt, &words),
@@ -95,7 +95,7 @@ where
 // Does what the words say. Answers the exit status, which is 2 exactly where they are no command.
 fn exit_status<R: Files + Clock + Print + Eprint + AllocGlobal + Drop>(rt: &R, words: &[Text]) -> u8
 where
-    R::File: FileExt,
+    R::File: FileExt + TryLock,
     ensures { (result ≡ 2) ↔ (is_command words.now ≡ false) }
 {
     told(rt, &run_words(rt, words))
@@ -130,7 +130,7 @@ fn command_line<R: Env + AllocGlobal>(rt: &R) -> Result<Vec<Text>, Status> {
 
 fn run_words<R: Files + Clock + Print + AllocGlobal + Drop>(rt: &R, words: &[Text]) -> Status
 where
-    R::File: FileExt,
+    R::File: FileExt + TryLock,
     ensures { (result ≡ Status.Words) ↔ (is_command words.now ≡ false) }
 {
     match words {
@@ -169,7 +169,7 @@ fn run_command<R: Files + Clock + Print + AllocGlobal + Drop>(
     words: &[Text],
 ) -> Status
 where
-    R::File: FileExt,
+    R::File: FileExt + TryLock,
     ensures { (result ≡ Status.Words) ↔ (is_some (command_of words.now) ≡ false) }
 {
     let alloc = rt.alloc();

@@ -7,6 +7,7 @@ use crate::shelf::FileShelf;
 use crate::sink::WriterSink;
 use base_types::Text;
 use edge_traits::{Clock, Shelf, Sink, Source};
+use file_disk::TryLock;
 use std::alloc::{Allocator, Global};
 use std::cell::RefCell;
 use std::env::FillError;
@@ -82,7 +83,17 @@ impl FileExt for Page {
     }
 }
 
-// A system in memory: the words of its command line, one file, and what it printed.
+// Another process has each lock.
+impl TryLock for Page {
+    fn try_lock(&self) -> io::Result<()> {
+        Err(io::Error::from(io::ErrorKind::WouldBlock))
+    }
+}
+
+// The path of the one folder that is there.
+const FOLDER: &str = "busy/.";
+
+// A system in memory: the words of its command line, one file and one folder, and what it printed.
 #[derive(Drop)]
 struct Machine {
     alloc: Global,
@@ -186,7 +197,7 @@ impl Files for Machine {
     type Dir = Page;
 
     fn open_file(&self, _how: &OpenOptions, path: &str) -> io::Result<Page> {
-        if path == self.name {
+        if path == self.name || path == FOLDER {
             Ok(Page {
                 bytes: Cursor::new(self.content),
             })
@@ -240,7 +251,7 @@ struct Run {
     told: &'static str,
 }
 
-const RUNS: [Run; 13] = [
+const RUNS: [Run; 15] = [
     Run {
         words: &["intelpipe", "any", "convert", "--feed", "feed.json"],
         content: b"{\"comment\":\" a \"}\n\n{\"status\":\"on\"}\n",
@@ -289,6 +300,21 @@ const RUNS: [Run; 13] = [
         status: 14,
         output: "",
         told: "intelpipe: store 0\n",
+    },
+    // Another process works on the store.
+    Run {
+        words: &["intelpipe", "busy", "status"],
+        content: b"",
+        status: 5,
+        output: "",
+        told: "intelpipe: disk\n",
+    },
+    Run {
+        words: &["intelpipe", "busy", "drain"],
+        content: b"",
+        status: 5,
+        output: "",
+        told: "intelpipe: disk\n",
     },
     Run {
         words: &["intelpipe", "any", "status", "--steps", "3"],
