@@ -1,5 +1,4 @@
 mod Back
-mod Backlog
 mod Orderly
 mod Coming
 mod Counted

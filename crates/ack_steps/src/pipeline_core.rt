@@ -345,17 +345,40 @@ impl<R: Rules> Core<R> {
         match self.refusal(step) {
             Err(OutOfMemory) => Err(StepRefusal::OutOfMemory),
             Ok(Some(refusal)) => Err(refusal),
-            Ok(None) => match act_and_count(
-                &self.rules,
-                &self.plan,
-                &mut self.state,
-                self.alloc,
-                step,
-            ) {
+            Ok(None) => match self.act(step) {
                 Ok(()) => Ok(()),
                 Err(OutOfMemory) => Err(StepRefusal::OutOfMemory),
             },
         }
+    }
+
+    /// Takes a step that fits, without a look at whether it does. It is done whole or not at all.
+    pub fn apply_fitting(&mut self, step: &Step) -> Result<(), OutOfMemory>
+        requires fits { Fits R.meaning self.old.state step.now }
+        requires replay { MayReplay R.meaning self.old.state step.now }
+        requires small { StaysSmall R.meaning self.old.state step.now }
+        ensures ok { OnOk result (self.new ≡ record self.old { state = after R.meaning self.old.state step.now }) }
+        ensures err { OnErr result (self.new ≡ self.old) }
+    {
+        if let StepKind::Reload { .. } = &step.what {
+            return match self.apply(step) {
+                Ok(()) => Ok(()),
+                Err(_) => Err(OutOfMemory),
+            };
+        }
+        self.act(step)
+    }
+
+    // Does what a step says that fits and puts no bundle in force.
+    fn act(&mut self, step: &Step) -> Result<(), OutOfMemory>
+        requires fits { Fits R.meaning self.old.state step.now }
+        requires replay { MayReplay R.meaning self.old.state step.now }
+        requires small { StaysSmall R.meaning self.old.state step.now }
+        requires kind { IsNoReload step.now.what }
+        ensures ok { OnOk result (self.new ≡ record self.old { state = after R.meaning self.old.state step.now }) }
+        ensures err { OnErr result (self.new ≡ self.old) }
+    {
+        act_and_count(&self.rules, &self.plan, &mut self.state, self.alloc, step)
     }
 
     pub(crate) fn bots(&self) -> &[Facts]

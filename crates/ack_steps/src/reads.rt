@@ -12,8 +12,8 @@ ghost use Rattle.step_code.specs.State.{backlog, bots_in_force, hand_of, is_feed
 use crate::content::is_duplicate;
 use crate::failing::is_halted;
 use crate::pipeline_core::Core;
-use crate::refusal::live_bytes;
 use base_types::{Blob, BotName, Moment, QueueName, queue_of};
+use core_state::backlog::live_bytes;
 use core_state::feeds;
 use core_state::outputs::Written;
 use dump_store::Dumps;

@@ -1,25 +1,21 @@
 //! Whether a step fits the state, and which part of the table it fails where it doesn't.
-ghost use Rattle.std.specs.Prelude.{◌≡◌, ◌≤◌, true, false, not, ℕ, Bool, Option, List, IfOk, Some, None, OnErr, min, get_or, length, ◌<◌, [], ◌∷◌, if◌then◌else◌};
-ghost use Rattle.base_types.specs.Number.{last_u64};
+ghost use Rattle.std.specs.Prelude.{◌≡◌, ◌≤◌, true, false, not, ℕ, Bool, Option, List, IfOk, Some, None, OnErr, ◌<◌, [], ◌∷◌};
 ghost use Rattle.step_code.specs.declared.step.StepKind.TheVariants as kind;
 ghost use Rattle.step_code.specs.declared.step.StepRefusal.TheVariants as refusal;
 ghost use Rattle.step_code.specs.Fits.{first_failing, in_hand_parts, may_retry, parts, retries_of};
 ghost use Rattle.step_code.specs.Rules.{Meaning};
-ghost use Rattle.step_code.specs.State.{held, is_live_queue, live_bytes, tries_of};
-ghost use Rattle.stored_types.specs.declared.queue.Queue.{Queue};
-ghost use Rattle.stored_types.specs.Queue.{bytes_in};
+ghost use Rattle.step_code.specs.State.{held, tries_of};
 ghost use Rattle.step_code.specs.declared.base.Base.{Base};
 ghost use Rattle.core_state.specs.State.{state_of};
 
 use crate::failing::is_halted;
 use base_types::{Blob, BotName, OutOfMemory, queue_of};
+use core_state::backlog::live_bytes;
 use core_state::feeds::{has_finished, position_of};
 use core_state::state::State;
-use queue_broker::Broker;
 use std::alloc::Global;
 use step_code::{
     Facts, PlanFault, Rules, StepKind, StepRefusal, bot_named, is_collector, is_instance,
-    is_live_queue,
 };
 
 // Nothing is collected while the bodies in live queues have so many bytes together.
@@ -129,30 +125,6 @@ fn refusal_of_feed(state: &State, bots: &[Facts], bot: &BotName, at: u64) -> Opt
         None
     } else {
         Some(StepRefusal::Behind { position })
-    }
-}
-
-// The lengths of the bodies in all live queues together, or the greatest number where they pass it.
-pub fn live_bytes(broker: &Broker, bots: &[Facts]) -> u64
-    ensures { result ≡ min (live_bytes bots.now broker.now.queues) last_u64 }
-{
-    let mut bytes: u64 = 0;
-    'queues: for k in 0..broker.queues_len() {
-        bytes = bytes.saturating_add(live_bytes_at(broker, bots, k));
-    }
-    bytes
-}
-
-// The same of one queue, and 0 of a queue that isn't live.
-fn live_bytes_at(broker: &Broker, bots: &[Facts], k: usize) -> u64
-    requires { k < length broker.now.queues }
-    ensures { (d : Queue) → result ≡ min (if is_live_queue bots.now (get_or broker.now.queues k d).name then bytes_in (get_or broker.now.queues k d) else 0) last_u64 }
-{
-    let (name, _) = broker.queue_at(k);
-    if is_live_queue(bots, name) {
-        broker.bytes_at(k)
-    } else {
-        0
     }
 }
 

@@ -32,9 +32,6 @@ written_is_lawful message text is typed = ap is_some (strict-reads text message 
 pub read_is_text : (body : List ℕ) (message : Message) → strict body ≡ Some message → body ≡ message_text message
 read_is_text body message is = sym (strict-only body message is).text
 
-pub read_is_lawful : (body : List ℕ) (message : Message) → strict body ≡ Some message → is_lawful body ≡ true
-read_is_lawful body message is = ap is_some is
-
 abbrev Send : Type 0
 Send = List ℕ × List ℕ
 

@@ -8,7 +8,7 @@ use Rattle.edge_traits.specs.Count.{last_count, Rose}
 use Rattle.edge_traits.specs.Named.{find_named}
 use Rattle.config_bundle.specs.declared.bundle.Bundle.{Bundle}
 use Rattle.runtime_config.specs.Named.{named_files}
-use Rattle.bundle_fetch.specs.Fetch.{bundle_at, bundle_from, files_from, kept_file, kept_runtime, names_at, with_files, with_kept, Files, IsFetched}
+use Rattle.bundle_fetch.specs.Fetch.{bundle_at, bundle_from, files_from, kept_file, kept_runtime, with_files, with_kept, Files, IsFetched}
 use Rattle.bundle_fetch.specs.Front.{IsFrontOf}
 use Rattle.bundle_fetch.specs.declared.fault.BundleFault.{BundleFault}
 use Rattle.bundle_fetch.specs.declared.fault.BundleFault.TheVariants as fault
@@ -17,10 +17,6 @@ use Rattle.bundle_fetch.specs.declared.fault.BundleFault.TheVariants as fault
 abbrev pub behind : Files → Result Files (List ℕ) → Result Files (List ℕ)
 behind done (Ok files) = Ok (done ++ files)
 behind done (Err name) = Err name
-
-pub behind_none : (later : Result Files (List ℕ)) → later ≡ behind [] later
-behind_none (Ok files) = refl
-behind_none (Err name) = refl
 
 one_kept : (name content c : List ℕ) (done : Files) (later : Result Files (List ℕ)) → content ≡ take kept_file c → behind done (with_kept name (Some c) later) ≡ behind (done ++ (name, content) ∷ []) later
 one_kept name content c done (Err other) is = refl
@@ -99,8 +95,3 @@ no_runtime shelf (Some content) name fault.OutOfMemory is = tt
 
 pub runtime_lacks : (shelf : Files) (name : List ℕ) (e : BundleFault) → IsFrontOf (find_named name shelf) kept_runtime name (Err e) → IsFetched {A = Bundle} (bundle_from shelf name) (Err e)
 runtime_lacks shelf name e is = no_runtime shelf (find_named name shelf) name e is
-
--- the names that are asked for
-pub names_there : (shelf : Files) (o : Option (List ℕ)) (name runtime : List ℕ) (names : List (List ℕ)) → IsFrontOf o kept_runtime name (Ok runtime) → names ≡ named_files runtime → names ≡ names_at o
-names_there shelf None name runtime names is same = absurd is
-names_there shelf (Some content) name runtime names is same = same ∙ ap named_files is

@@ -2,4 +2,5 @@ mod Brought
 mod Lists
 pub mod Numbered
 pub mod Past
+mod Waiting
 mod Seen

@@ -1,6 +1,7 @@
 //! The state of a pipeline in parts that grow, and the numbers that a step brings.
 #![tactic(auto)]
 
+pub mod backlog;
 pub mod caches;
 pub mod copies;
 pub mod feeds;

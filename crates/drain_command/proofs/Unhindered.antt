@@ -1,25 +1,67 @@
 -- A drain that nothing hinders.
-use Rattle.std.proofs.Common.{◌≡◌, ◌<◌, ⊎_elim, ℕ, List, [], length, Option, Some, refl, sym, ap, subst, ◌∙◌, arith}
+use Rattle.std.proofs.Common.{◌≡◌, ◌<◌, ⊎_elim, ℕ, Bool, true, false, List, [], ◌∷◌, ◌++◌, length, map, Option, Some, None, refl, sym, ap, subst, ◌∙◌, arith}
+use Rattle.std.specs.List.{AllByRecursion}
 use Rattle.edge_traits.specs.Disk.{DiskView, Image, IsImage}
 use Rattle.edge_traits.specs.Sink.{SinkView}
+use Rattle.step_code.specs.declared.base.Base.{Base}
+use Rattle.step_code.specs.declared.rules.Facts.{Facts}
+use Rattle.step_code.specs.declared.step.Step.{Step}
+use Rattle.step_code.specs.declared.step.StepKind.{StepKind}
+use Rattle.step_code.specs.History.{replay}
+use Rattle.step_code.specs.Rules.{AreSound, Meaning}
+use Rattle.step_code.specs.State.{bots_in_force}
 use Rattle.store_image.specs.Files.{root_file}
 use Rattle.store_image.proofs.Damaged.{opens_whole}
+use Rattle.store_image.proofs.Stored.{stored_is_one}
 use Rattle.journal_book.proofs.Recovering.{some_root}
-use Rattle.drain_turns.specs.Laws.{IsShown}
+use Rattle.drain_turns.specs.Drained.{behind_all}
+use Rattle.drain_turns.specs.Laws.{HasFeeds, IsFree, IsShown, MayOpen}
 use Rattle.drain_turns.specs.Turn.{Outside}
 use Rattle.drain_turns.specs.declared.end.TurnsEnd.{TurnsEnd}
 use Rattle.drain_turns.specs.declared.end.TurnsEnd.TheVariants as last
 use Rattle.drain_turns.proofs.Free.{free_calls_end_idle}
+use Rattle.drain_turns.proofs.Opened.{opened_feeds_are_readable}
+use Rattle.drain_loop.specs.Calls.{opening_of, reload_of, round_of, rounds_of, with_bundle}
 use Rattle.drain_command.specs.Drained.{start, Drained, IsDrainCall, IsToldEnd}
-use Rattle.drain_command.specs.Laws.{EndIdly, EndsIdly, IsUnhindered}
+use Rattle.drain_command.specs.Laws.{opened_state, EndIdly, EndsIdly, IsUnhindered}
 use Rattle.drain_command.specs.declared.draining.Asked.{Asked}
 use Rattle.drain_command.specs.declared.end.DrainEnd.{DrainEnd}
 use Rattle.drain_command.specs.declared.end.DrainEnd.TheVariants as end
 
+-- a drain opens with a start, another bundle and rounds
+rounds_open : (bots : List Facts) → AllByRecursion MayOpen (map (λ f. round_of f.bot) bots)
+rounds_open [] = tt
+rounds_open (f ∷ fs) = (tt, rounds_open fs)
+
+opens_so : (m : Meaning) (s : Base) (asked : Asked) → AllByRecursion MayOpen (opening_of m s asked.opening.bundle asked.opening.rounds)
+opens_so m s asked = (tt, reloads asked.opening.bundle (rounds_of m (with_bundle m s asked.opening.bundle) asked.opening.rounds) (rounds asked.opening.rounds))
+  where
+    reloads : (bundle : Option (List ℕ)) (more : List StepKind) → AllByRecursion MayOpen more → AllByRecursion MayOpen (reload_of bundle ++ more)
+    reloads None more all = all
+    reloads (Some bundle) more all = (tt, all)
+
+    rounds : (asked_rounds : Bool) → AllByRecursion MayOpen (rounds_of m (with_bundle m s asked.opening.bundle) asked_rounds)
+    rounds true = rounds_open _
+    rounds false = tt
+
 module _ {D : Type 0} {disk : D → DiskView} {may_leave : D → ℕ → List ℕ → Type 0} {left_since : D → ℕ → Image → Type 0} (o : Outside) (feeds : List (List ℕ × List ℕ)) (files : Image) (asked : Asked) (old new : D)
     (is : IsUnhindered disk may_leave left_since o feeds files asked old new) where
+  -- the store opens as it stands
+  same_start : (why : TurnsEnd) (d : Drained disk may_leave left_since o files asked old new why) → opened_state o.meaning is.base is.read asked ≡ opened_state o.meaning d.base d.read asked
+  same_start why d =
+      let one = stored_is_one files is.generation d.generation is.base d.base is.read d.read is.opens.stored d.opens.stored in
+      ap (λ (b : Base). opened_state o.meaning b is.read asked) one.1 ∙ ap (λ (steps : List Step). opened_state o.meaning d.base steps asked) one.2
+
+  -- wherever it comes to, nothing hinders it
+  free : (why : TurnsEnd) (d : Drained disk may_leave left_since o files asked old new why) → IsFree o feeds (behind_all o.meaning (start o.meaning d.base d.read asked) d.made)
+  free why d = record {
+    feeds = opened_feeds_are_readable o (start o.meaning d.base d.read asked) feeds d.made why is.shelf (opens_so o.meaning (replay o.meaning d.base d.read) asked)
+        (subst (λ (s : Base). AreSound (bots_in_force o.meaning s)) (same_start why d) is.sound) (subst (HasFeeds feeds o.meaning) (same_start why d) is.readable) d.drains;
+    room = is.room why d;
+  }
+
   idle_of : (why : TurnsEnd) → Drained disk may_leave left_since o files asked old new why → IsShown why → why ≡ last.Idle
-  idle_of why d shown = free_calls_end_idle o (start o.meaning d.base d.read asked) feeds d.made why is.shelf is.unbound (is.free why d) shown d.drains
+  idle_of why d shown = free_calls_end_idle o (start o.meaning d.base d.read asked) feeds d.made why is.shelf is.unbound (free why d) shown d.drains
 
   turns_end : (why : TurnsEnd) → IsToldEnd why → Drained disk may_leave left_since o files asked old new why → EndIdly why
   turns_end last.Idle told d = tt

@@ -4,10 +4,12 @@ use Rattle.edge_traits.specs.Disk.{DiskView, Image}
 use Rattle.edge_traits.specs.Sink.{SinkView}
 use Rattle.step_code.specs.declared.base.Base.{Base}
 use Rattle.step_code.specs.declared.step.Step.{Step}
+use Rattle.step_code.specs.Rules.{AreSound, Meaning}
+use Rattle.step_code.specs.State.{bots_in_force}
 use Rattle.store_image.specs.Opens.{Opens}
 use Rattle.journal_book.specs.Opening.{StandsNow}
 use Rattle.drain_turns.specs.Drained.{behind_all}
-use Rattle.drain_turns.specs.Laws.{IsFree}
+use Rattle.drain_turns.specs.Laws.{opened, HasFeeds, HasRoom}
 use Rattle.drain_turns.specs.Turn.{Outside}
 use Rattle.drain_turns.specs.declared.end.TurnsEnd.{TurnsEnd}
 use Rattle.drain_turns.specs.declared.end.TurnsEnd.TheVariants as last
@@ -40,8 +42,13 @@ EndsIdly end.Sink = Unit {0}
 EndsIdly (end.Store have) = ⊥
 EndsIdly (end.Damaged file at) = ⊥
 
+-- the state to which a drain's opening leads, as it is known ahead: another bundle may be in force, and rounds begun
+abbrev pub opened_state : Meaning → Base → List Step → Asked → Base
+opened_state m base read asked = opened m (start m base read asked).state (start m base read asked).opening
+
 -- nothing hinders a drain: it may make any number of steps, the shelf and the disk tell what they have, the store opens and stands
--- for a history, and where the drain comes to, nothing is in its way
+-- for a history; the shelf has the feeds of the collectors as they stand behind the opening; and where the drain comes to there is
+-- room for what is due
 pub record IsUnhindered {D : Type 0} (disk : D → DiskView) (may_leave : D → ℕ → List ℕ → Type 0) (left_since : D → ℕ → Image → Type 0) (o : Outside) (feeds : List (List ℕ × List ℕ)) (files : Image) (asked : Asked) (old new : D) : Type 0 where
   pub unbound : asked.left ≡ None
   pub shelf : o.shelf.told ≡ Some feeds
@@ -54,7 +61,9 @@ pub record IsUnhindered {D : Type 0} (disk : D → DiskView) (may_leave : D → 
   pub steps : List Step
   pub more : List Step
   pub stands : StandsNow disk may_leave o.meaning first steps more old
-  pub free : (why : TurnsEnd) (d : Drained disk may_leave left_since o files asked old new why) → IsFree o feeds (behind_all o.meaning (start o.meaning d.base d.read asked) d.made)
+  pub sound : AreSound (bots_in_force o.meaning (opened_state o.meaning base read asked))
+  pub readable : HasFeeds feeds o.meaning (opened_state o.meaning base read asked)
+  pub room : (why : TurnsEnd) (d : Drained disk may_leave left_since o files asked old new why) → HasRoom o (behind_all o.meaning (start o.meaning d.base d.read asked) d.made)
 
 -- such a drain does all that there is to do
 abbrev pub FreeDrainsEndIdle : {D : Type 0} → (D → DiskView) → (D → ℕ → List ℕ → Type 0) → (D → ℕ → Image → Type 0) → Type 0

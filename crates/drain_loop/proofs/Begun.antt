@@ -12,13 +12,12 @@ use Rattle.step_code.specs.declared.rules.Facts.{Facts}
 use Rattle.step_code.specs.declared.step.Step.{Step}
 use Rattle.step_code.specs.declared.step.StepKind.{StepKind}
 use Rattle.step_code.specs.declared.step.StepKind.TheVariants as kind
-use Rattle.step_code.specs.After.{acted, after, instances_of, next_round, reloaded, renewed, with_feeds}
+use Rattle.step_code.specs.After.{acted, after, next_round, renewed, with_feeds}
 use Rattle.step_code.specs.Fits.{first_failing, parts}
 use Rattle.history_laws.proofs.Pairs.{pairs-filter, to_distinct}
 use Rattle.history_laws.proofs.SoundNames.{bots_apart}
 use Rattle.step_code.specs.Rules.{AreSound, Meaning, collects, is_collector, last_moment, passes}
 use Rattle.step_code.specs.State.{bots_in_force, bots_of, has_finished, is_feed}
-use Rattle.step_code.proofs.GivenBack.{kept-all_given_back}
 use Rattle.turn_order.proofs.Actors.{IsNamed, all_named}
 use Rattle.journal_book.specs.Book.{BookView}
 use Rattle.journal_book.specs.Staged.{screened, staged, stamp, IsMove}
@@ -28,6 +27,7 @@ use Rattle.book_runs.proofs.Going.{goes_further, goes_nowhere}
 use Rattle.drain_turns.specs.Drained.{Drains, Ends, IsDue, IsMade, IsNextKind, Place}
 use Rattle.drain_turns.specs.Turn.{Outside, MayShow}
 use Rattle.drain_turns.specs.declared.end.TurnsEnd.{TurnsEnd}
+use Rattle.drain_turns.proofs.Opened.{reload_bundle, reload_feeds}
 use Rattle.drain_turns.proofs.Turning.{all_kept}
 use Rattle.drain_loop.specs.Calls.{place_with, round_of, rounds_of, with_bundle, IsOpened}
 use Rattle.drain_loop.specs.Opening.{HaveFinished, IsPlain}
@@ -124,13 +124,6 @@ module _ {D R : Type 0} {disk : D → DiskView} {may_leave : D → ℕ → List 
 pub same_rounds : (m : Meaning) (a b : Base) (asked : Bool) → a.bundle ≡ b.bundle → a.feeds ≡ b.feeds → rounds_of m a asked ≡ rounds_of m b asked
 same_rounds m a b asked bundle feeds =
     ap (λ (x : List ℕ). rounds_of m (record a { bundle = x }) asked) bundle ∙ ap (λ (fs : List Feed). rounds_of m (record a { bundle = b.bundle; feeds = fs }) asked) feeds
-
--- a reload's bundle and feeds depend on those of the state before
-reload_bundle : (m : Meaning) (s : Base) (bundle : List ℕ) → (reloaded (bots_in_force m s) (bots_of m bundle) bundle s).bundle ≡ bundle
-reload_bundle m s bundle = kept-all_given_back (λ (t : Base). t.bundle) (λ t queues hands. refl) (bots_of m bundle) (instances_of (bots_in_force m s)) _
-
-reload_feeds : (m : Meaning) (s : Base) (bundle : List ℕ) → (reloaded (bots_in_force m s) (bots_of m bundle) bundle s).feeds ≡ with_feeds (bots_of m bundle) (map (renewed (bots_in_force m s) (bots_of m bundle)) s.feeds)
-reload_feeds m s bundle = kept-all_given_back (λ (t : Base). t.feeds) (λ t queues hands. refl) (bots_of m bundle) (instances_of (bots_in_force m s)) _
 
 pub same_rounds_with : (m : Meaning) (a b : Base) (bundle : Option (List ℕ)) (asked : Bool) → a.bundle ≡ b.bundle → a.feeds ≡ b.feeds → rounds_of m (with_bundle m a bundle) asked ≡ rounds_of m (with_bundle m b bundle) asked
 same_rounds_with m a b None asked bundle feeds = same_rounds m a b asked bundle feeds

@@ -23,8 +23,8 @@ use Rattle.turn_order.specs.declared.actor.Actor.{Actor}
 use Rattle.collector_feeds.specs.Found.{found_at, rule_of, within_limit, MayFind}
 use Rattle.collector_feeds.specs.declared.found.Found.{Found}
 use Rattle.collector_feeds.specs.declared.found.Found.TheVariants as found
-use Rattle.drain_turns.specs.Drained.{behind, behind_all, Drains, Ends, Place}
-use Rattle.drain_turns.specs.Laws.{GivesStep, HasFeed, HasFeeds, HasStep, IsFree, IsReadable, IsShown}
+use Rattle.drain_turns.specs.Drained.{behind, behind_all, Drains, Ends, Place, Turns}
+use Rattle.drain_turns.specs.Laws.{GivesStep, HasFeed, HasFeeds, HasStep, IsFree, IsReadable, IsShown, ReadsOn}
 use Rattle.drain_turns.specs.Turn.{going, is_backed_up, is_piece, Outside, IsCollectorsTurn, IsTurn, MayFindNow}
 use Rattle.drain_turns.proofs.Turning.{all_kept, not_true}
 use Rattle.drain_turns.specs.declared.end.TurnsEnd.{TurnsEnd}
@@ -103,10 +103,6 @@ module _ (rule : CutRule) (feed : List ℕ) (at : ℕ) (readable : IsReadable fe
 
 -- ---- the turn of a place where the feeds are there
 
--- the shelf has a collector's feed, and it may be read on from where the collector stands
-abbrev pub ReadsOn : List (List ℕ × List ℕ) → Base → Facts → Type 0
-ReadsOn files s f = IsSomeAnd f.feed (λ facts. IsSomeAnd (find_named facts.file files) (λ feed. IsReadable feed (position_of f.bot s)))
-
 module _ (o : Outside) (files : List (List ℕ × List ℕ)) (told : o.shelf.told ≡ Some files) (s : Base) (turn : Turn) where
   found_gives : (f : Facts) (what : Found) → ReadsOn files s f → MayFindNow o s f what → GivesStep what
   found_gives f what has may = go f.feed has may
@@ -138,20 +134,20 @@ module _ (o : Outside) (files : List (List ℕ × List ℕ)) (told : o.shelf.tol
 -- ---- how the call ends
 
 module _ (o : Outside) (files : List (List ℕ × List ℕ)) (told : o.shelf.told ≡ Some files) (p : Place) (free : IsFree o files p) where
-  finds_step : (bot : List ℕ) (at : ℕ) (what : Found) → IsTurn o p.state (Finds bot at what) → GivesStep what
-  finds_step bot at what is = ⊎_elim (λ gives_it. gives_it) (λ nobody. absurd (cc (nobody))) (turn_steps o files told p.state (Finds bot at what) free.feeds is)
+  finds_step : (bot : List ℕ) (at : ℕ) (what : Found) → Turns o p (Finds bot at what) → GivesStep what
+  finds_step bot at what turns = ⊎_elim (λ gives_it. gives_it) (λ nobody. absurd (cc (nobody))) (turn_steps o files told p.state (Finds bot at what) (free.feeds turns.opened) turns.is)
 
   ends_idle : (last : TurnsEnd) → p.left ≡ None → IsShown last → Ends o p last → last ≡ end.Idle
   ends_idle end.Idle none shown ends = refl
   ends_idle end.Left none shown ends = absurd (none-some 0 (sym none ∙ ends.1))
-  ends_idle (end.Absent name) none shown (bot, at, turns, file) = absurd (finds_step bot at found.Absent turns.is)
+  ends_idle (end.Absent name) none shown (bot, at, turns, file) = absurd (finds_step bot at found.Absent turns)
   ends_idle (end.Failed name) none shown ends = absurd shown
-  ends_idle (end.Short have need) none shown (bot, turns) = absurd (finds_step bot need (found.Short have) turns.is)
-  ends_idle (end.LongLine bot line) none shown (at, turns) = absurd (finds_step bot at (found.LongLine line) turns.is)
-  ends_idle (end.LongFeed bot) none shown (at, turns) = absurd (finds_step bot at found.LongFeed turns.is)
-  ends_idle (end.Halted bot) none shown ends = absurd (none-some bot (subst (λ (names : List (List ℕ)). slice_get names 0 ≡ Some bot) free.halted ends.1))
-  ends_idle (end.Spent next) none shown (step, due, spends) = absurd (none-some next (sym (free.small step due) ∙ spends))
-  ends_idle (end.Full bytes) none shown (step, due, small, is, over) = absurd (omega (arith, free.fits step due, is, over))
+  ends_idle (end.Short have need) none shown (bot, turns) = absurd (finds_step bot need (found.Short have) turns)
+  ends_idle (end.LongLine bot line) none shown (at, turns) = absurd (finds_step bot at (found.LongLine line) turns)
+  ends_idle (end.LongFeed bot) none shown (at, turns) = absurd (finds_step bot at found.LongFeed turns)
+  ends_idle (end.Halted bot) none shown ends = absurd (none-some bot (subst (λ (names : List (List ℕ)). slice_get names 0 ≡ Some bot) free.room.halted ends.1))
+  ends_idle (end.Spent next) none shown (step, due, spends) = absurd (none-some next (sym (free.room.small step due) ∙ spends))
+  ends_idle (end.Full bytes) none shown (step, due, small, is, over) = absurd (omega (arith, free.room.fits step due, is, over))
   ends_idle end.Disk none shown ends = absurd shown
   ends_idle end.Memory none shown ends = absurd shown
 

@@ -5,5 +5,6 @@ pub mod Moving
 pub mod Nobody
 mod One
 mod OneDrain
+pub mod Opened
 pub mod Turning
 pub mod Working

@@ -30,12 +30,12 @@ use Rattle.collector_feeds.specs.Found.{found_at, rule_of, MayFind}
 use Rattle.collector_feeds.specs.declared.found.Found.{Found}
 use Rattle.collector_feeds.specs.declared.found.Found.TheVariants as found
 use Rattle.drain_turns.specs.Drained.{behind, behind_all, Drains, IsNextKind, Place}
-use Rattle.drain_turns.specs.Laws.{HasFeed, HasFeeds, IsReadable}
+use Rattle.drain_turns.specs.Laws.{HasFeed, HasFeeds, IsReadable, ReadsOn}
 use Rattle.drain_turns.specs.Turn.{going, Outside, IsFindOf, IsStepOf, IsTurn, IsWorkOf}
 use Rattle.drain_turns.specs.declared.end.TurnsEnd.{TurnsEnd}
 use Rattle.drain_turns.specs.declared.turn.Turn.{Turn}
 use Rattle.drain_turns.specs.declared.turn.Turn.TheVariants.{Acts, Finds, Nobody}
-use Rattle.drain_turns.proofs.Free.{piece_inside, ReadsOn}
+use Rattle.drain_turns.proofs.Free.{piece_inside}
 use Rattle.drain_turns.proofs.Turning.{all_kept, finds, has_feed, not_true, turn_of, IsFoundBy}
 
 abbrev Files : Type 0

@@ -1,5 +1,5 @@
 -- What holds of turns, whatever the outside answers.
-use Rattle.std.specs.Prelude.{◌≡◌, ◌≢◌, ◌≤◌, ℕ, false, List, [], length, drop, Some, None, IsSomeAnd}
+use Rattle.std.specs.Prelude.{◌≡◌, ◌≢◌, ◌≤◌, ℕ, false, List, [], ◌∷◌, length, drop, Some, None, IsSomeAnd}
 use Rattle.std.specs.List.{AllByRecursion}
 use Rattle.base_types.specs.Lines.{first_line}
 use Rattle.edge_traits.specs.Named.{find_named}
@@ -7,6 +7,9 @@ use Rattle.report_cut.specs.Pieces.{longest_line}
 use Rattle.step_code.specs.declared.base.Base.{Base}
 use Rattle.step_code.specs.declared.step.Step.{Step}
 use Rattle.step_code.specs.declared.rules.Facts.{Facts}
+use Rattle.step_code.specs.declared.step.StepKind.{StepKind}
+use Rattle.step_code.specs.declared.step.StepKind.TheVariants as kind
+use Rattle.step_code.specs.After.{after}
 use Rattle.step_code.specs.Content.{longest_feed, May}
 use Rattle.step_code.specs.Rules.{AreSound, Meaning, last_moment}
 use Rattle.step_code.specs.Spent.{StaysSmall}
@@ -94,21 +97,28 @@ pub record IsReadable (feed : List ℕ) (at : ℕ) : Type 0 where
   pub short : length feed ≤ longest_feed
   pub lines : (n : ℕ) → length (first_line (drop n feed)) ≤ longest_line
 
--- where a collector hasn't read its feed to the end, the shelf has it, and it may be read on from where the collector stands
+-- the shelf has a collector's feed, and it may be read on from where the collector stands
+abbrev pub ReadsOn : List (List ℕ × List ℕ) → Base → Facts → Type 0
+ReadsOn files s f = IsSomeAnd f.feed (λ facts. IsSomeAnd (find_named facts.file files) (λ feed. IsReadable feed (position_of f.bot s)))
+
+-- so it is where the collector hasn't read its feed to the end
 abbrev pub HasFeed : List (List ℕ × List ℕ) → Base → Facts → Type 0
-HasFeed files s f = has_finished f.bot s ≡ false → IsSomeAnd f.feed (λ facts. IsSomeAnd (find_named facts.file files) (λ feed. IsReadable feed (position_of f.bot s)))
+HasFeed files s f = has_finished f.bot s ≡ false → ReadsOn files s f
 
 -- so it is with each collector
 abbrev pub HasFeeds : List (List ℕ × List ℕ) → Meaning → Base → Type 0
 HasFeeds files m s = AllByRecursion (HasFeed files s) (collectors m s)
 
--- nothing hinders a call at this place: the shelf has the feeds, no bot is halted, and a step that is due spends no number and
--- fits in the generation
-pub record IsFree (o : Outside) (files : List (List ℕ × List ℕ)) (p : Place) : Type 0 where
-  pub feeds : HasFeeds files o.meaning p.state
+-- at this place there is room for what is due: no bot is halted, and a step that is due spends no number and fits in the generation
+pub record HasRoom (o : Outside) (p : Place) : Type 0 where
   pub halted : p.state.halted ≡ []
   pub small : (step : Step) → IsDue o p step → StaysSmall o.meaning p.state step
   pub fits : (step : Step) → IsDue o p step → bytes_with p.steps step ≤ o.limit
+
+-- nothing hinders a call at this place: there is room, and where its opening is made, the shelf has the feeds
+pub record IsFree (o : Outside) (files : List (List ℕ × List ℕ)) (p : Place) : Type 0 where
+  pub feeds : p.opening ≡ [] → HasFeeds files o.meaning p.state
+  pub room : HasRoom o p
 
 -- a call that may make any number of steps ends only where nothing is left to do, if nothing hinders it there
 abbrev pub FreeCallsEndIdle : Type 0
@@ -119,3 +129,23 @@ FreeCallsEndIdle = (o : Outside) (p : Place) (files : List (List ℕ × List ℕ
 abbrev pub FeedsStayReadable : Type 0
 FeedsStayReadable = (o : Outside) (p : Place) (files : List (List ℕ × List ℕ)) (made : List Step) (last : TurnsEnd) → o.shelf.told ≡ Some files → p.opening ≡ [] → AreSound (bots_in_force o.meaning p.state) →
     HasFeeds files o.meaning p.state → Drains o p made last → HasFeeds files o.meaning (behind_all o.meaning p made).state
+
+-- ---- what is known of feeds ahead of a call
+
+-- a call opens with such steps: a start, another bundle, and rounds
+abbrev pub MayOpen : StepKind → Type 0
+MayOpen kind.Start = Unit {0}
+MayOpen (kind.Reload bundle) = Unit {0}
+MayOpen (kind.Round bot) = Unit {0}
+MayOpen _ = ⊥
+
+-- the state that such steps lead to, were they made at the latest moment: its bundle and its feeds are the same at any other
+abbrev pub opened : Meaning → Base → List StepKind → Base
+opened m s [] = s
+opened m s (what ∷ later) = opened m (after m s (record { moment = s.latest; what = what })) later
+
+-- where the shelf has the feeds that are read on behind the opening, they are readable wherever the call comes to behind it
+abbrev pub OpenedFeedsAreReadable : Type 0
+OpenedFeedsAreReadable = (o : Outside) (p : Place) (files : List (List ℕ × List ℕ)) (made : List Step) (last : TurnsEnd) → o.shelf.told ≡ Some files → AllByRecursion MayOpen p.opening →
+    AreSound (bots_in_force o.meaning (opened o.meaning p.state p.opening)) → HasFeeds files o.meaning (opened o.meaning p.state p.opening) → Drains o p made last →
+    (behind_all o.meaning p made).opening ≡ [] → HasFeeds files o.meaning (behind_all o.meaning p made).state

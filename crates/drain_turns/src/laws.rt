@@ -1,4 +1,4 @@
-ghost use Rattle.drain_turns.specs.Laws.{AllAskedAreMade, FeedsStayReadable, FreeCallsEndIdle, NobodyOnlyIfHalted, OneDrain, OneStep, OneTurn, SomeStep};
+ghost use Rattle.drain_turns.specs.Laws.{AllAskedAreMade, FeedsStayReadable, FreeCallsEndIdle, NobodyOnlyIfHalted, OneDrain, OneStep, OneTurn, OpenedFeedsAreReadable, SomeStep};
 
 /// A turn that has a step has one that may be taken, at whatever moment the clock shows.
 pub fn some_step()
@@ -40,4 +40,10 @@ pub fn free_calls_end_idle()
 /// Along turns the feeds of collectors stay readable.
 pub fn feeds_stay_readable()
     ensures { FeedsStayReadable }
+{}
+
+/// Where the shelf has the feeds that are read on behind a call's opening, as it is known ahead of the call, they are readable
+/// wherever the call comes to behind it.
+pub fn opened_feeds_are_readable()
+    ensures { OpenedFeedsAreReadable }
 {}

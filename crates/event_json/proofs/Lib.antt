@@ -6,6 +6,7 @@ pub mod MessageText
 pub mod Messages
 pub mod PairTexts
 pub mod Placing
+pub mod Pushed
 pub mod Putting
 pub mod Readable
 pub mod Reading

@@ -45,11 +45,11 @@ rise_on : (from mid to : List ℕ) (a b : Pairs) → Rise from a mid → Rise mi
 rise_on from mid to [] b first second = subst (λ f. Rise f b to) (sym first) second
 rise_on from mid to (pair ∷ a) b first second = (first.0, rise_on pair.0 mid to a b first.1 second)
 
-fields_on : (a b : Pairs) → AreFields a → AreFields b → AreFields (a ++ b)
+pub fields_on : (a b : Pairs) → AreFields a → AreFields b → AreFields (a ++ b)
 fields_on [] b first second = second
 fields_on (pair ∷ a) b first second = (first.0, fields_on a b first.1 second)
 
-texts_on : (a b : Pairs) → list_all is_utf8_pair a ≡ true → list_all is_utf8_pair b ≡ true → list_all is_utf8_pair (a ++ b) ≡ true
+pub texts_on : (a b : Pairs) → list_all is_utf8_pair a ≡ true → list_all is_utf8_pair b ≡ true → list_all is_utf8_pair (a ++ b) ≡ true
 texts_on [] b first second = second
 texts_on (pair ∷ a) b first second =
     let parts = and_parts (is_utf8_pair pair) (list_all is_utf8_pair a) first in and_from _ _ parts.0 (texts_on a b parts.1 second)
@@ -120,6 +120,16 @@ puts_cleaned : (key : List ℕ) (kind : FieldType) (u : Value) (cleaned : Result
     → PutsValue key u old new
 puts_cleaned key kind u cleaned old new k is puts =
     record { value = puts.value; is = value_found key kind u puts.value k (subst (IsCleaned (clean kind u)) puts.is is); pair = puts.pair }
+
+-- a field takes what cleaning gave
+pub field_cleaned : (key : List ℕ) (kind : FieldType) (u : Value) (cleaned : Result Value FieldFault) → Some kind ≡ type_of key → IsCleaned (clean kind u) cleaned → IfOk cleaned (IsField key)
+field_cleaned key kind u (Ok v) k is = part_field key kind u v k is
+field_cleaned key kind u (Err e) k is = tt
+
+pub field_kept : (key s stripped : List ℕ) (kind : FieldType) (made : Result Kept FieldFault) → stripped ≡ strip s → Some kind ≡ type_of key → IsKeptAs (of_text kind stripped) stripped made
+    → IfOk made (λ kept. IsField key (kept_value stripped kept))
+field_kept key s stripped kind (Ok kept) front k is = part_field key kind (as_value.Text s) (kept_value stripped kept) k (clean_text kind s ∙ ap (of_text kind) (sym front) ∙ is)
+field_kept key s stripped kind (Err e) front k is = tt
 
 pub if_taken : (r : Result Bool OutOfMemory) (P Q : Type 0) → (P → Q) → IfOk r (λ taken. taken ≡ true → P) → IfOk r (λ taken. taken ≡ true → Q)
 if_taken (Ok taken) P Q f p = λ yes. f (p yes)

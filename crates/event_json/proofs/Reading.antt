@@ -6,6 +6,7 @@ use Rattle.json.specs.Lex.{tokens}
 use Rattle.serde_json.specs.Data.{no_members, object}
 use Rattle.serde_json.specs.Find.{get_member}
 use Rattle.serde_json.specs.Read.{of_json, of_members, read}
+use Rattle.std.proofs.lemmas.Option.{same_Some}
 use Rattle.base_types.specs.declared.memory.OutOfMemory.{OutOfMemory}
 use Rattle.scalar_text.specs.Quote.{quote}
 use Rattle.event_model.specs.Lenient.{kind_of, leaves_of, least, lenient_tree, of_kind, set_all, type_key, with_fields}
@@ -20,7 +21,9 @@ use Rattle.event_json.specs.Direct.{Named, data_members, AreData, HasText, IsMes
 use Rattle.event_json.specs.Lenient.{lenient, of_tree, PutsText}
 use Rattle.event_json.proofs.Putting.{if_taken}
 use Rattle.event_json.proofs.Rising.{entries_of, sorted_of, text_of_rising}
-use Rattle.event_json.specs.Strict.{AreTyped}
+use Rattle.event_json.specs.Strict.{AreTyped, IsTyped}
+use Rattle.event_json.specs.Text.{message_text}
+use Rattle.event_json.proofs.Exact.{strict-reads}
 
 -- the text that was put together is that of the message
 pub message_is : (js : json.Members) (ordered : List Named) (kind : Kind) (opened put : Written) (text : List ℕ) → (AreData ordered → of_members js no_members ≡ Some (data_members ordered)) → lexeme_in (data_members ordered) ≡ None
@@ -84,6 +87,13 @@ all_read text line j r is = text_on r line _ _ (λ m. reads_tree text j m is)
 pub all_objects : (j : json.Json) (js : json.Members) (line : List ℕ) (r : Result Bool OutOfMemory) → j ≡ json.object js → IfOk r (λ taken. taken ≡ true → HasText (IsMessageOf js) line)
     → IfOk r (λ taken. taken ≡ true → HasText (IsMessageOfTree j) line)
 all_objects j js line r is = text_on r line _ _ (λ m of. subst (λ k. IsMessageOfTree k m) (sym is) of)
+
+-- the message of a text is the one that was read
+pub the_read : (bytes text : List ℕ) (message : Message) → HasText (λ m. lenient bytes ≡ Ok m) text → message_text message ≡ text → IsTyped message → lenient bytes ≡ Ok message
+the_read bytes text message has is typed =
+    has.is ∙ ap Ok (same_Some has.message message (
+    sym (strict-reads text has.message (record { typed = has.typed; text = sym has.text_is })) ∙ strict-reads text message (record { typed = typed; text = is })
+    ))
 
 -- the text of the message that was read went behind what was there
 pub puts_text : {A E : Type 0} (r : Result A E) (bytes line text old new : List ℕ) → HasText (λ m. lenient bytes ≡ Ok m) line → text ≡ line → OnOk r (new ≡ old ++ text) → OnOk r (PutsText (lenient bytes) old new)

@@ -4,6 +4,7 @@ use Rattle.std.specs.Borrow.{Bor}
 use Rattle.std.specs.declared.alloc.Global.{Global}
 use Rattle.std.specs.Ordering.{nat_cmp, is_lt}
 use Rattle.std.specs.Cmp.Lexicographic.{slice_cmp}
+use Rattle.std.specs.FinMap.{entries}
 use Rattle.std.specs.FinMap.Entries.{below_all}
 use Rattle.std.specs.List.{AllByRecursion}
 use Rattle.json.specs.Json as json
@@ -22,12 +23,12 @@ use Rattle.field_types.specs.declared.kind.FieldType.TheVariants as kind
 use Rattle.field_types.specs.declared.texts.Kept.{Kept}
 use Rattle.field_types.specs.declared.value.Item.{Item}
 use Rattle.field_types.specs.declared.value.Value.{Value}
-use Rattle.event_model.specs.Fields.{value_for}
-use Rattle.event_model.specs.Lenient.{bad_names, pairs_of, leaves, leaves_at, leaves_in, leaves_of, kind_of_word, lenient_tree, of_members as message_of}
+use Rattle.event_model.specs.Fields.{FieldMap, value_for}
+use Rattle.event_model.specs.Lenient.{bad_names, pairs_of, leaves, leaves_at, leaves_in, leaves_of, kind_of_word, lenient_tree, type_key, of_members as message_of}
 use Rattle.event_model.specs.Trees.{dec_key, item_of, items_of}
 use Rattle.event_model.specs.declared.message.Kind.{Kind}
 use Rattle.event_model.specs.declared.message.Message.{Message}
-use Rattle.event_json.specs.Decode.{pairs_text}
+use Rattle.event_json.specs.Decode.{opening, pairs_text}
 use Rattle.event_json.specs.Strict.{AreTyped, is_utf8_pair, IsTyped}
 use Rattle.event_json.specs.Text.{pair_text, message_text}
 
@@ -106,6 +107,19 @@ ReadsInOrder members ordered = AreData ordered → of_members (members_view memb
 -- a text so far, and the last name in it
 abbrev pub Written : Type 0
 Written = List ℕ × List ℕ
+
+-- the text of a message, of which all but the closing brace is written
+abbrev pub ended : Written → List ℕ
+ended line = line.0 ++ 125 ∷ []
+
+-- the last name of these pairs behind another
+abbrev pub last_behind : List ℕ → List (List ℕ × Value) → List ℕ
+last_behind name [] = name
+last_behind name (pair ∷ pairs) = last_behind pair.0 pairs
+
+-- what is written of a message of this kind with these fields
+abbrev pub written : Kind → FieldMap → Written
+written kind fields = (opening kind ++ pairs_text (entries fields), last_behind type_key (entries fields))
 
 -- the last name is one that is known, or else the other
 abbrev pub last_name : Option (List ℕ) → List ℕ → List ℕ

@@ -7,3 +7,4 @@ pub mod Text
 pub mod Decode
 pub mod Direct
 pub mod Plain
+pub mod Put

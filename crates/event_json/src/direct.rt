@@ -1,4 +1,4 @@
-//! The canonical text of the message that a usual JSON text is, without the message.
+//! The message that a usual JSON text is, or its canonical text without the message.
 ghost use Rattle.std.specs.Prelude.{◌≡◌, [], true, Some, IfOk, IfSome};
 ghost use Rattle.json.specs.Json.{value};
 ghost use Rattle.json.specs.Lex.{tokens};
@@ -6,7 +6,7 @@ ghost use Rattle.json.specs.Value.{value_view, members_view};
 ghost use Rattle.serde_json.specs.Find.{get_member};
 ghost use Rattle.scalar_text.specs.Quote.{quote};
 ghost use Rattle.event_model.specs.Lenient.{kind_of, type_key};
-ghost use Rattle.event_json.specs.Direct.{data_members, named_values, kind_in, HasText, IsMessageOf, IsMessageOfTree, ReadsAs, PutsAt, PutsAll};
+ghost use Rattle.event_json.specs.Direct.{data_members, named_values, kind_in, ended, HasText, IsMessageOf, IsMessageOfTree, ReadsAs, PutsAt, PutsAll};
 
 use crate::leaf::{may_be_decimal, push_tree};
 use crate::line::Line;
@@ -85,13 +85,13 @@ fn push_all<'m, 't>(
     Ok(true)
 }
 
-// Makes the line the text of the message of an object's members.
+// Makes the line the message of an object's members, or its text.
 fn write_members<'m, 't>(
     alloc: Global,
     members: &'m [(&'t str, Tree<'t>)],
     line: &mut Line,
 ) -> Result<bool, OutOfMemory>
-    ensures { IfOk result (λ taken. taken ≡ true → HasText (IsMessageOf (members_view members.now)) line.new.0) }
+    ensures { IfOk result (λ taken. taken ≡ true → HasText (IsMessageOf (members_view members.now)) (ended line.new)) }
 {
     let Some(ordered) = in_order(alloc, members)? else {
         return Ok(false);
@@ -102,11 +102,11 @@ fn write_members<'m, 't>(
     let Some(kind) = kind_of(&ordered) else {
         return Ok(false);
     };
-    line.begin(kind)?;
+    // A field a member, in most objects, and the content that parsers add.
+    line.begin(alloc, kind, ordered.len().saturating_add(1))?;
     if !push_all(alloc, &ordered, line)? {
         return Ok(false);
     }
-    line.end()?;
     Ok(true)
 }
 
@@ -132,13 +132,13 @@ fn tree_of<'t>(
     Ok(Some(tree))
 }
 
-// Makes the line the text of the message of a JSON value.
+// Makes the line the message of a JSON value, or its text.
 fn write_tree<'m, 't>(
     alloc: Global,
     tree: &'m Tree<'t>,
     line: &mut Line,
 ) -> Result<bool, OutOfMemory>
-    ensures { IfOk result (λ taken. taken ≡ true → HasText (IsMessageOfTree (value_view tree.now)) line.new.0) }
+    ensures { IfOk result (λ taken. taken ≡ true → HasText (IsMessageOfTree (value_view tree.now)) (ended line.new)) }
 {
     match tree {
         Tree::Object(members) => write_members(alloc, members, line),
@@ -146,15 +146,15 @@ fn write_tree<'m, 't>(
     }
 }
 
-/// Makes the line the canonical text of the message that a JSON text is, and answers whether the text is one of the usual
-/// forms: where it isn't, the line is of no use.
+/// Makes the line the message that a JSON text is, or its canonical text, and answers whether the text is one of the
+/// usual forms: where it isn't, the line is of no use.
 pub fn write_text(
     alloc: Global,
     text: &str,
     scratch: &mut Scratch,
     line: &mut Line,
 ) -> Result<bool, OutOfMemory>
-    ensures { IfOk result (λ taken. taken ≡ true → HasText (ReadsAs text.now) line.new.0) }
+    ensures { IfOk result (λ taken. taken ≡ true → HasText (ReadsAs text.now) (ended line.new)) }
 {
     let Some(tree) = tree_of(alloc, text, scratch)? else {
         return Ok(false);
@@ -169,7 +169,7 @@ pub fn write_plain(
     scratch: &mut Scratch,
     line: &mut Line,
 ) -> Result<Option<bool>, OutOfMemory>
-    ensures text { IfOk result (λ found. IfSome found (λ taken. taken ≡ true → HasText (ReadsAs text.now) line.new.0)) }
+    ensures text { IfOk result (λ found. IfSome found (λ taken. taken ≡ true → HasText (ReadsAs text.now) (ended line.new))) }
     ensures plain { IfOk result (λ found. IfSome found (λ taken. taken ≡ true → quote text.now ≡ text.now)) }
 {
     let Some(tree) = tree_of(alloc, text, scratch)? else {

@@ -4,9 +4,11 @@ ghost use Rattle.json.specs.Json.{object};
 ghost use Rattle.json.specs.Value.{value_view, items_view, members_view};
 ghost use Rattle.serde_json.specs.Data.{string, unsigned};
 ghost use Rattle.serde_json.specs.Read.{number_from};
+ghost use Rattle.event_model.specs.Fields.{IsField};
 ghost use Rattle.event_model.specs.Lenient.{member_name};
 ghost use Rattle.event_model.specs.Trees.{lexeme_in};
 ghost use Rattle.field_types.specs.Field.{type_of};
+ghost use Rattle.field_types.specs.Kept.{kept_value};
 ghost use Rattle.field_types.specs.Writing.{escaped};
 ghost use Rattle.event_json.specs.Direct.{data_members, named_values, is_extra, IsItem, IsDecimal, AreItems, IsWhole, PutsCleaned, PutsKept, PutsLeaves, PutsValue, PutsTree, PutsMembers};
 
@@ -120,16 +122,18 @@ fn is_of_table(key: &FieldKey<'_>, kind: FieldType) -> bool
 
 // Puts a field with what cleaning gave.
 fn push_cleaned(
+    alloc: Global,
     key: &FieldKey<'_>,
     plain: bool,
     cleaned: Result<Value, FieldFault>,
     line: &mut Line,
 ) -> Result<bool, OutOfMemory>
-    requires { plain ≡ true → flat_map escaped key.now ≡ key.now }
+    requires plain { plain ≡ true → flat_map escaped key.now ≡ key.now }
+    requires field { IfOk cleaned (IsField key.now) }
     ensures { IfOk result (λ taken. taken ≡ true → PutsCleaned key.now cleaned line.old line.new) }
 {
     match cleaned {
-        Ok(value) => line.push(key, plain, &value),
+        Ok(value) => line.push(alloc, key, plain, value),
         Err(FieldFault::BadValue) => Ok(false),
         Err(FieldFault::OutOfMemory) => Err(OutOfMemory),
     }
@@ -148,6 +152,7 @@ fn push_value(
         return Ok(false);
     };
     push_cleaned(
+        alloc,
         key,
         is_of_table(key, kind),
         sanitise_own(alloc, kind, value),
@@ -157,18 +162,20 @@ fn push_value(
 
 // Puts a field with what its kind made of a stripped text, which isn't copied before.
 fn push_kept(
+    alloc: Global,
     key: &FieldKey<'_>,
     plain: bool,
     text: &str,
     kept: Result<Kept, FieldFault>,
     line: &mut Line,
 ) -> Result<bool, OutOfMemory>
-    requires { plain ≡ true → flat_map escaped key.now ≡ key.now }
+    requires plain { plain ≡ true → flat_map escaped key.now ≡ key.now }
+    requires field { IfOk kept (λ made. IsField key.now (kept_value text.now made)) }
     ensures { IfOk result (λ taken. taken ≡ true → PutsKept key.now text.now kept line.old line.new) }
 {
     match kept {
-        Ok(Kept::Same) => line.push_text(key, plain, text),
-        Ok(Kept::Other(value)) => line.push(key, plain, &value),
+        Ok(Kept::Same) => line.push_text(alloc, key, plain, text),
+        Ok(Kept::Other(value)) => line.push(alloc, key, plain, value),
         Err(FieldFault::BadValue) => Ok(false),
         Err(FieldFault::OutOfMemory) => Err(OutOfMemory),
     }
@@ -191,6 +198,7 @@ fn push_text(
         return Ok(false);
     };
     push_kept(
+        alloc,
         key,
         is_of_table(key, kind),
         stripped,

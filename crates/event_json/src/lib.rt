@@ -6,11 +6,13 @@ mod direct;
 pub mod laws;
 mod leaf;
 mod line;
+mod message_line;
 mod numbers;
 mod ordered;
 mod pairs;
 mod strict;
 mod string;
+mod text_line;
 mod value;
 mod write;
 

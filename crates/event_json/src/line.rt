@@ -1,213 +1,130 @@
-//! The canonical text of a message, put together pair by pair.
-ghost use Rattle.std.specs.Prelude.{◌≡◌, ◌++◌, ◌∷◌, [], true, flat_map, IfOk, OnOk};
-ghost use Rattle.std.specs.Ordering.{nat_cmp, is_lt};
-ghost use Rattle.std.specs.Cmp.Lexicographic.{slice_cmp};
-ghost use Rattle.std.specs.Str.{is_utf8};
-ghost use Rattle.field_types.specs.Writing.{escaped, quoted};
+//! What the pairs of a message are put into, one behind the other.
+ghost use Rattle.std.specs.Prelude.{◌≡◌, true, flat_map, IfOk, IfSome, OnOk};
+ghost use Rattle.field_types.specs.Writing.{escaped};
 ghost use Rattle.field_types.specs.declared.value.Value.TheVariants as as_value;
+ghost use Rattle.event_model.specs.Fields.{IsField};
 ghost use Rattle.event_model.specs.Lenient.{type_key};
 ghost use Rattle.event_json.specs.Decode.{opening};
-ghost use Rattle.event_json.specs.Direct.{PutsName, PutsPair};
+ghost use Rattle.event_json.specs.Direct.{ended, PutsPair};
 ghost use Rattle.event_json.specs.Strict.{IsTyped};
 ghost use Rattle.event_json.specs.Text.{message_text};
 
-use crate::write::{opening, push_message};
-use base_types::OutOfMemory;
+use crate::message_line::MessageLine;
+use crate::text_line::TextLine;
+use base_types::{OutOfMemory, Text};
 use event_model::{Kind, Message};
-use field_types::{FieldKey, Value, push_quoted, push_value};
+use field_types::{FieldKey, Value};
 use std::alloc::Global;
 use std::marker::Model;
 
-const TYPE_KEY: &[u8] = b"__type";
+#[derive(Drop)]
+enum Pairs {
+    Text(TextLine),
+    Whole(MessageLine),
+}
 
-/// The text of a message so far, and the last name in it: names rise. Contracts see these two. Its memory is kept from
-/// message to message.
+/// The text of a message, or the message itself, as far as it is put together: names rise. Contracts see the text without
+/// its closing brace, and the last name.
 #[derive(Drop)]
 pub struct Line {
-    text: Vec<u8>,
-    // The last name where it is known as one of the table of fields, which takes no copy of it.
-    known: Option<FieldKey<'static>>,
-    // The last name, where it isn't.
-    last: Vec<u8>,
+    pairs: Pairs,
 }
 
 impl Model for Line {
     ghost use Rattle.std.specs.Prelude.{List, ℕ};
     ghost use Rattle.std.specs.Coded.{coded_ℕ, coded_list, coded×};
-    ghost use Rattle.event_json.specs.Direct.{last_name};
+    ghost use Rattle.event_json.specs.Put.{line_written};
 
     ghost Value = { List ℕ × List ℕ };
 
     ghost coded = { coded× (coded_list coded_ℕ) (coded_list coded_ℕ) };
 
-    ghost view = { λ l. (l.text.items, last_name l.known l.last.items) };
-}
-
-// Makes a buffer these bytes.
-fn overwrite(buffer: &mut Vec<u8>, bytes: &[u8]) -> Result<(), OutOfMemory>
-    ensures { OnOk result (buffer.new.items ≡ bytes.now) }
-{
-    buffer.clear();
-    buffer.extend_from_slice(bytes)?;
-    Ok(())
-}
-
-// Makes a buffer the text of a message.
-fn overwrite_by(buffer: &mut Vec<u8>, message: &Message) -> Result<(), OutOfMemory>
-    ensures text { OnOk result (buffer.new.items ≡ message_text message.now) }
-    ensures typed { OnOk result (IsTyped message.now) }
-{
-    buffer.clear();
-    push_message(buffer, message)
-}
-
-// Puts a text as a JSON string behind `out`. One that is said to be plain stands there as it is.
-fn push_string(out: &mut Vec<u8>, text: &[u8], plain: bool) -> Result<(), OutOfMemory>
-    requires { plain ≡ true → flat_map escaped text.now ≡ text.now }
-    ensures { OnOk result (out.new.items ≡ out.old.items ++ quoted text.now) }
-{
-    if !plain {
-        return push_quoted(out, text);
-    }
-    push_plain(out, text)
-}
-
-#[tactic(auto, unfolding(field_types::specs::Writing::quoted))]
-fn push_plain(out: &mut Vec<u8>, text: &[u8]) -> Result<(), OutOfMemory>
-    requires { flat_map escaped text.now ≡ text.now }
-    ensures { OnOk result (out.new.items ≡ out.old.items ++ quoted text.now) }
-{
-    out.push(b'"')?;
-    out.extend_from_slice(text)?;
-    out.push(b'"')?;
-    Ok(())
-}
-
-fn is_below(name: &[u8], other: &[u8]) -> bool
-    ensures { result ≡ is_lt (slice_cmp nat_cmp name.now other.now) }
-{
-    name.cmp(other).is_lt()
+    ghost view = { λ l. line_written l.pairs };
 }
 
 impl Line {
-    /// The empty text. It takes no memory.
-    pub fn new(alloc: Global) -> Self
-        ensures { result ≡ ([], []) }
-    {
+    /// No text yet. It takes no memory.
+    pub fn of_text(alloc: Global) -> Self {
         Line {
-            text: Vec::new(alloc),
-            known: None,
-            last: Vec::new(alloc),
+            pairs: Pairs::Text(TextLine::new(alloc)),
         }
     }
 
-    /// The text.
-    pub fn text(&self) -> &[u8]
-        ensures { result.now ≡ self.now.0 }
-    {
-        &self.text
+    /// No message yet. It takes no memory.
+    pub fn of_message(alloc: Global) -> Self {
+        Line {
+            pairs: Pairs::Whole(MessageLine::new(alloc)),
+        }
     }
 
-    /// Begins the text of a message of this kind.
-    pub fn begin(&mut self, kind: Kind) -> Result<(), OutOfMemory>
+    /// Begins a message of this kind, of about so many fields.
+    pub fn begin(&mut self, alloc: Global, kind: Kind, fields: usize) -> Result<(), OutOfMemory>
         ensures { OnOk result (self.new ≡ (opening kind, type_key)) }
     {
-        overwrite(&mut self.text, opening(kind))?;
-        self.known = None;
-        overwrite(&mut self.last, TYPE_KEY)
-    }
-
-    // Whether the last name is below this one.
-    fn is_below(&self, name: &FieldKey<'_>) -> bool
-        ensures { result ≡ is_lt (slice_cmp nat_cmp self.now.1 name.now) }
-    {
-        match &self.known {
-            Some(last) => last.compare(name).is_lt(),
-            None => is_below(&self.last, name.as_str().as_bytes()),
+        match &mut self.pairs {
+            Pairs::Text(line) => line.begin(kind),
+            Pairs::Whole(line) => line.begin(alloc, kind, fields),
         }
     }
 
-    // Makes this the last name.
-    fn keep_name(&mut self, name: &FieldKey<'_>) -> Result<(), OutOfMemory>
-        ensures { OnOk result (self.new ≡ (self.old.0, name.now)) }
-    {
-        match name.known() {
-            Some(known) => {
-                self.known = Some(known);
-                Ok(())
-            }
-            None => {
-                self.known = None;
-                overwrite(&mut self.last, name.as_str().as_bytes())
-            }
-        }
-    }
-
-    // Puts the name of a pair, if it is above the last.
-    fn enter(&mut self, name: &FieldKey<'_>, plain: bool) -> Result<bool, OutOfMemory>
-        requires { plain ≡ true → flat_map escaped name.now ≡ name.now }
-        ensures name { IfOk result (λ is_above. is_above ≡ true → PutsName name.now self.old self.new) }
-        ensures utf8 { OnOk result (is_utf8 name.now ≡ true) }
-    {
-        let text = name.as_str().as_bytes();
-        if !self.is_below(name) {
-            return Ok(false);
-        }
-        self.keep_name(name)?;
-        self.text.push(b',')?;
-        push_string(&mut self.text, text, plain)?;
-        self.text.push(b':')?;
-        Ok(true)
-    }
-
-    /// Puts a field and its value, a text, if its name is above the last. A name that stands in a JSON string as it is is
-    /// said to be plain.
+    /// Puts a field and its canonical value, a text, if its name is above the last. A name that stands in a JSON string as
+    /// it is is said to be plain.
     pub fn push_text(
         &mut self,
+        alloc: Global,
         name: &FieldKey<'_>,
         plain: bool,
         text: &str,
     ) -> Result<bool, OutOfMemory>
-        requires { plain ≡ true → flat_map escaped name.now ≡ name.now }
+        requires plain { plain ≡ true → flat_map escaped name.now ≡ name.now }
+        requires field { IsField name.now (as_value.Text text.now) }
         ensures { IfOk result (λ is_above. is_above ≡ true → PutsPair (name.now, as_value.Text text.now) self.old self.new) }
     {
-        if !self.enter(name, plain)? {
-            return Ok(false);
+        match &mut self.pairs {
+            Pairs::Text(line) => line.push_text(name, plain, text),
+            Pairs::Whole(line) => {
+                let text = Text::from(String::from_str(alloc, text)?);
+                line.push(alloc, name, Value::Text(text))
+            }
         }
-        push_quoted(&mut self.text, text.as_bytes())?;
-        Ok(true)
     }
 
-    /// Puts a field and its value, as `push_text`.
+    /// Puts a field and its canonical value, as `push_text`.
     pub fn push(
         &mut self,
+        alloc: Global,
         name: &FieldKey<'_>,
         plain: bool,
-        value: &Value,
+        value: Value,
     ) -> Result<bool, OutOfMemory>
-        requires { plain ≡ true → flat_map escaped name.now ≡ name.now }
-        ensures { IfOk result (λ is_above. is_above ≡ true → PutsPair (name.now, value.now) self.old self.new) }
+        requires plain { plain ≡ true → flat_map escaped name.now ≡ name.now }
+        requires field { IsField name.now value }
+        ensures { IfOk result (λ is_above. is_above ≡ true → PutsPair (name.now, value) self.old self.new) }
     {
-        if !self.enter(name, plain)? {
-            return Ok(false);
+        match &mut self.pairs {
+            Pairs::Text(line) => line.push(name, plain, &value),
+            Pairs::Whole(line) => line.push(alloc, name, value),
         }
-        push_value(&mut self.text, value)?;
-        Ok(true)
     }
 
-    /// Ends the text of the message.
-    pub fn end(&mut self) -> Result<(), OutOfMemory>
-        ensures { OnOk result (self.new ≡ (self.old.0 ++ 125 ∷ [], self.old.1)) }
+    /// The text, if it is one that is put together.
+    pub fn text(&self) -> Option<&[u8]>
+        ensures { IfSome result (λ text. text.now ≡ self.now.0) }
     {
-        self.text.push(b'}')?;
-        Ok(())
+        match &self.pairs {
+            Pairs::Text(line) => Some(line.text()),
+            Pairs::Whole(_) => None,
+        }
     }
 
-    /// Makes it the text of a message.
-    pub fn write(&mut self, message: &Message) -> Result<(), OutOfMemory>
-        ensures text { OnOk result (self.new.0 ≡ message_text message.now) }
-        ensures typed { OnOk result (IsTyped message.now) }
+    /// The message, if it is one that is put together.
+    pub fn into_message(self) -> Option<Message>
+        ensures text { IfSome result (λ message. message_text message ≡ ended self) }
+        ensures typed { IfSome result IsTyped }
     {
-        overwrite_by(&mut self.text, message)
+        match self.pairs {
+            Pairs::Text(_) => None,
+            Pairs::Whole(line) => Some(line.into_message()),
+        }
     }
 }

@@ -2,6 +2,7 @@ pub mod Bytes
 pub mod Gathering
 pub mod Last
 pub mod Least
+pub mod Near
 pub mod Noting
 pub mod Pairs
 pub mod Parts

@@ -6,7 +6,7 @@ ghost use Rattle.event_model.specs.Fields.{IsField, AreFieldsInOrder};
 ghost use Rattle.event_model.specs.Edits.{wanted, set_to, added, updated, is_kept, restricted, IsEdit, IsPush, IsWanted};
 
 use crate::EventFault;
-use crate::place::{is_above_all, place_of};
+use crate::place::{PlaceHint, is_above_all, place_near, place_of};
 use base_types::{OutOfMemory, Text, TextList};
 use field_types::{FieldFault, FieldKey, FieldName, Value, is_canonical, sanitise, type_of};
 use std::alloc::Global;
@@ -167,9 +167,22 @@ impl Fields {
     pub fn get_named(&self, key: &FieldName) -> Option<&Value>
         ensures { option_copied result ≡ get self.now key.now }
     {
-        match place_of(&self.pairs, &key.as_key()) {
-            Ok(i) => Some(&self.pairs[i].1),
-            Err(_) => None,
+        self.get_near(key, &mut PlaceHint::new())
+    }
+
+    /// The same for a name that may stand where the last one was found, or right behind it.
+    pub fn get_near(&self, key: &FieldName, hint: &mut PlaceHint) -> Option<&Value>
+        ensures { option_copied result ≡ get self.now key.now }
+    {
+        match place_near(&self.pairs, &key.as_key(), hint.at) {
+            Ok(i) => {
+                hint.at = i;
+                Some(&self.pairs[i].1)
+            }
+            Err(i) => {
+                hint.at = i.saturating_sub(1);
+                None
+            }
         }
     }
 
@@ -191,9 +204,29 @@ impl Fields {
         ensures ok { OnOk result (self.new ≡ insert self.old key value) }
         ensures err { OnErr result (self.new ≡ self.old) }
     {
-        match place_of(&self.pairs, &key.as_key()) {
-            Ok(i) => overwrite(&mut self.pairs, i, (key, value)),
-            Err(i) => self.pairs.insert(i, (key, value))?,
+        self.put_near(key, value, &mut PlaceHint::new())
+    }
+
+    /// The same for a name that may stand or belong where the last one was looked for.
+    pub fn put_near(
+        &mut self,
+        key: FieldName,
+        value: Value,
+        hint: &mut PlaceHint,
+    ) -> Result<(), OutOfMemory>
+        requires { IsField key value }
+        ensures ok { OnOk result (self.new ≡ insert self.old key value) }
+        ensures err { OnErr result (self.new ≡ self.old) }
+    {
+        match place_near(&self.pairs, &key.as_key(), hint.at) {
+            Ok(i) => {
+                overwrite(&mut self.pairs, i, (key, value));
+                hint.at = i;
+            }
+            Err(i) => {
+                self.pairs.insert(i, (key, value))?;
+                hint.at = i;
+            }
         }
         Ok(())
     }
@@ -207,18 +240,34 @@ impl Fields {
         self.put_named(FieldName::from(key), value)
     }
 
-    /// Takes a field out, and answers whether it was there. It takes no memory.
-    pub fn remove(&mut self, key: &Text) -> bool
+    // Takes the field of that key out, and answers whether it was there.
+    fn take(&mut self, key: &FieldKey<'_>) -> bool
         ensures was_there { result ≡ is_some (get self.old key.now) }
         ensures map { self.new ≡ remove self.old key.now }
     {
-        match place_of(&self.pairs, &FieldKey::new(key.as_str())) {
+        match place_of(&self.pairs, key) {
             Ok(i) => {
                 take_out(&mut self.pairs, i);
                 true
             }
             Err(_) => false,
         }
+    }
+
+    /// Takes a field out, by its name, and answers whether it was there. It takes no memory.
+    pub fn remove_named(&mut self, key: &FieldName) -> bool
+        ensures was_there { result ≡ is_some (get self.old key.now) }
+        ensures map { self.new ≡ remove self.old key.now }
+    {
+        self.take(&key.as_key())
+    }
+
+    /// Takes a field out, and answers whether it was there. It takes no memory.
+    pub fn remove(&mut self, key: &Text) -> bool
+        ensures was_there { result ≡ is_some (get self.old key.now) }
+        ensures map { self.new ≡ remove self.old key.now }
+    {
+        self.take(&FieldKey::new(key.as_str()))
     }
 
     /// Sets a field that is absent. 1 `NoField`, 2 `BadValue`, 3 `Present`, the first that holds; nothing changes then.

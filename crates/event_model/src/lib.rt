@@ -21,4 +21,5 @@ pub use fault::{EventFault, ReadFault};
 pub use fields::{Fields, is_field};
 pub use leaves::{flattens, is_dropped_text};
 pub use message::{Kind, Message};
+pub use place::PlaceHint;
 pub use read::read_tree;

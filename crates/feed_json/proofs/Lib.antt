@@ -1,3 +1,4 @@
 mod AllLines
 mod Causes
 mod Items
+mod Readings

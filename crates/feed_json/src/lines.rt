@@ -6,6 +6,7 @@ ghost use Rattle.feed_json.specs.Rows.{line_row, line_rows};
 
 use crate::object::event_in;
 use base_types::OutOfMemory;
+use event_json::Cleaner;
 use event_model::Fields;
 use feed_rows::{ParseFault, Parsed, Row, event_row, spoiled_row};
 use report_cut::{first_line, without_newline};
@@ -14,6 +15,7 @@ use std::alloc::Global;
 #[tactic(auto, unfolding(crate::specs::Rows::line_row))]
 fn line_row(
     alloc: Global,
+    cleaner: &mut Cleaner,
     defaults: &Fields,
     others: &Fields,
     line: &[u8],
@@ -24,7 +26,7 @@ fn line_row(
     if text.is_empty() {
         return Ok(Row::Skipped);
     }
-    match event_in(alloc, others, text) {
+    match event_in(alloc, cleaner, others, text) {
         Ok(event) => event_row(alloc, defaults, event),
         Err(ParseFault::Fault(note)) => spoiled_row(alloc, others, line, note),
         Err(ParseFault::OutOfMemory) => Err(OutOfMemory),
@@ -40,10 +42,11 @@ pub(crate) fn parse_lines(
 ) -> Result<Parsed, OutOfMemory>
     ensures { IfOk result (λ all. all ≡ parsed (line_rows defaults.now others.now (lines_of lines.now))) }
 {
+    let mut cleaner = Cleaner::new(alloc);
     let mut all = Parsed::new(alloc);
     let mut rest = lines;
     'lines: while let Some((line, more)) = first_line(rest) {
-        let row = line_row(alloc, defaults, others, line)?;
+        let row = line_row(alloc, &mut cleaner, defaults, others, line)?;
         all.put(row)?;
         rest = more;
     }

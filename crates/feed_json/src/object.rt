@@ -7,7 +7,8 @@ ghost use Rattle.feed_rows.specs.Rows.{IsFaultOf, IsNoted};
 ghost use Rattle.feed_json.specs.Objects.{event_in, event_of, of_kind, IsRefusal};
 
 use base_types::{OutOfMemory, Text};
-use event_model::{Fields, Kind, ReadFault, clean_tree, read_tree};
+use event_json::Cleaner;
+use event_model::{Fields, Kind, ReadFault, clean_tree};
 use feed_rows::{ParseFault, fill_with_raw, json_note, key_note};
 use serde_json::Value as Tree;
 use std::alloc::Global;
@@ -83,12 +84,17 @@ pub(crate) fn event_of(
 }
 
 /// The event of a text.
-#[tactic(auto, unfolding(crate::specs::Objects::event_in))]
-pub(crate) fn event_in(alloc: Global, others: &Fields, text: &[u8]) -> Result<Fields, ParseFault>
+#[tactic(auto, using(crate::proofs::Readings::event_read))]
+pub(crate) fn event_in(
+    alloc: Global,
+    cleaner: &mut Cleaner,
+    others: &Fields,
+    text: &[u8],
+) -> Result<Fields, ParseFault>
     ensures { MatchResult result (λ event. event_in others.now text.now ≡ Ok event) (IsFaultOf (event_in others.now text.now)) }
 {
-    match read_tree(alloc, text) {
-        Ok(tree) => event_of(alloc, others, text, &tree),
+    match cleaner.clean_message(alloc, text) {
+        Ok(message) => of_kind(alloc, others, text, message.kind, message.fields),
         Err(fault) => Err(refused(alloc, fault)),
     }
 }

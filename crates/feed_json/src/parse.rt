@@ -11,6 +11,7 @@ use crate::array::parse_array;
 use crate::lines::parse_lines;
 use crate::object::event_in;
 use crate::{JsonRule, Style};
+use event_json::Cleaner;
 use event_model::Fields;
 use feed_rows::{ParseFault, Parsed, content, event_row, others, raw_note};
 use std::alloc::Global;
@@ -25,7 +26,7 @@ fn parse_object(
     ensures { MatchResult result (λ all. of_event defaults.now (event_in others.now content.now) ≡ Ok all)
         (IsFaultOf (of_event defaults.now (event_in others.now content.now))) }
 {
-    let event = event_in(alloc, others, content)?;
+    let event = event_in(alloc, &mut Cleaner::new(alloc), others, content)?;
     let mut all = Parsed::new(alloc);
     all.put(event_row(alloc, defaults, event)?)?;
     Ok(all)

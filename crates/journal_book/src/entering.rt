@@ -55,10 +55,7 @@ fn apply<R: Rules>(core: &mut Core<R>, step: &Step) -> Result<(), OutOfMemory>
 {
     what_may_be_taken_may_be_replayed::<R>();
     let _ = core.plan();
-    match core.apply(step) {
-        Ok(()) => Ok(()),
-        Err(_) => Err(OutOfMemory),
-    }
+    core.apply_fitting(step)
 }
 
 /// Takes a step in: its code stands behind the first `used` bytes that wait, the journal has room for all of them, and the

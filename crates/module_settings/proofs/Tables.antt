@@ -1,14 +1,11 @@
 -- The rows of a table, one after the other.
 use Rattle.std.proofs.Common.{◌≡◌, ℕ, suc, List, [], ◌∷◌, ◌++◌, Bool, true, false, Option, Some, None, Result, Ok, Err, if◌then◌else◌, refl, sym, ap, ◌∙◌, append_assoc}
-use Rattle.std.proofs.lemmas.List.{append-nil}
 use Rattle.csv_line.specs.Cells.{bare}
 use Rattle.event_model.specs.Fields.{FieldMap}
 use Rattle.scalar_net.specs.declared.network.Network.{Network}
-use Rattle.module_settings.specs.Rows.{joined, IsPut, IsTableFault}
+use Rattle.module_settings.specs.Rows.{joined, IsPut}
 use Rattle.module_settings.specs.Table.{is_empty_line, row_first, row_in, rows_of}
 use Rattle.module_settings.specs.declared.table.Table.{Table}
-use Rattle.module_settings.specs.declared.table.TableFault.{TableFault}
-use Rattle.module_settings.specs.declared.table.TableFault.TheVariants.{Line, OutOfMemory}
 
 -- rows behind those of a table
 abbrev pub behind : Table → Result Table ℕ → Result Table ℕ
@@ -55,29 +52,6 @@ pub line_put : (names : List (List ℕ)) (n : ℕ) (all rest : List (List ℕ)) 
 line_put names n all rest line whole old new step so_far put =
     sym (put_behind (rows_of names n (line ∷ [])) old new (rows_of names (suc n) rest) put)
     ∙ ap (behind old) (sym (ap (rows_of names n) step ∙ line_first names n line rest)) ∙ so_far
-
-refused : (rows : Result Table ℕ) (old : Table) (more : Result Table ℕ) (fault : TableFault) → IsTableFault rows fault → IsTableFault (behind old (after rows more)) fault
-refused rows old more (Line n) is = ap (λ r. behind old (after r more)) is
-refused rows old more OutOfMemory is = tt
-
--- a line is refused
-pub line_refused : (names : List (List ℕ)) (n : ℕ) (all rest : List (List ℕ)) (line : List ℕ) (whole : Result Table ℕ) (old : Table) (fault : TableFault) → all ≡ line ∷ rest → behind old (rows_of names n all) ≡ whole
-    → IsTableFault (rows_of names n (line ∷ [])) fault → IsTableFault whole fault
-line_refused names n all rest line whole old fault step so_far is =
-    let same : behind old (after (rows_of names n (line ∷ [])) (rows_of names (suc n) rest)) ≡ whole =
-    ap (behind old) (sym (ap (rows_of names n) step ∙ line_first names n line rest)) ∙ so_far in
-    moved fault same (refused (rows_of names n (line ∷ [])) old (rows_of names (suc n) rest) fault is)
-  where
-    moved : (fault : TableFault) {a b : Result Table ℕ} → a ≡ b → IsTableFault a fault → IsTableFault b fault
-    moved (Line n) same is = sym same ∙ is
-    moved OutOfMemory same is = tt
-
--- nothing is left
-pub all_put : (names : List (List ℕ)) (n : ℕ) (lines : List (List ℕ)) (whole : Result Table ℕ) (table : Table) → lines ≡ [] → behind table (rows_of names n lines) ≡ whole → whole ≡ Ok table
-all_put names n lines whole table end so_far =
-    sym so_far ∙ ap (λ ls. behind table (rows_of names n ls)) end
-    ∙ ap (λ ns. Ok (record { networks = ns; sets = table.sets ++ [] })) (append-nil table.networks)
-    ∙ ap (λ ss. Ok (record { networks = table.networks; sets = ss })) (append-nil table.sets)
 
 pub at_start : (more whole : Result Table ℕ) → more ≡ whole → behind none more ≡ whole
 at_start more whole same = sym (none_first more) ∙ same

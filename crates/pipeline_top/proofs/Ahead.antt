@@ -1,11 +1,9 @@
 -- What comes next in a feed, as its lines.
-use Rattle.std.proofs.Common.{◌≡◌, ℕ, List, [], ◌++◌, drop, refl, ap, ◌∙◌, arith}
-use Rattle.std.proofs.lemmas.List.{drop_all}
+use Rattle.std.proofs.Common.{◌≡◌, ℕ, List, [], ◌++◌, drop, ap, ◌∙◌, arith}
 use Rattle.base_types.specs.Lines.{lines_of}
 use Rattle.report_cut.specs.Pieces.{Next, Piece, End, Long, next}
 use Rattle.report_cut.specs.declared.piece.Cut.{Cut}
 use Rattle.report_cut.specs.declared.piece.CutRule.{CutRule}
-use Rattle.report_cut.proofs.Joined.{end_past}
 use Rattle.report_cut.proofs.PieceLines.{piece_takes_lines}
 use Rattle.report_cut.proofs.Plain.{IsLongLine, long_line_is}
 use Rattle.feed_reader.specs.Ahead.{ahead_of}
@@ -22,11 +20,6 @@ piece_ahead (Piece other) cut is = cc
 piece_ahead End cut is = absurd (cc)
 piece_ahead (Long at) cut is = absurd (cc)
 
-end_ahead : (n : Next) → ahead.End ≡ ahead_of n → n ≡ End
-end_ahead (Piece cut) is = absurd (cc)
-end_ahead End is = refl
-end_ahead (Long at) is = absurd (cc)
-
 long_ahead : (n : Next) (line : ℕ) → ahead.LongLine line ≡ ahead_of n → n ≡ Long line
 long_ahead (Piece cut) line is = absurd (cc)
 long_ahead End line is = absurd (cc)
@@ -35,10 +28,6 @@ long_ahead (Long at) line is = cc
 -- the piece's lines come next
 pub piece_comes : (content : List ℕ) (at : ℕ) (cut : Cut) → ahead.Piece cut ≡ ahead_of (next whole_lines content at) → lines_of (drop at content) ≡ lines_of cut.piece ++ lines_of (drop cut.upto content)
 piece_comes content at cut is = piece_takes_lines whole_lines [] content at cut (omega arith) (piece_ahead (next whole_lines content at) cut is)
-
--- no line comes
-pub end_comes : (content : List ℕ) (at : ℕ) → ahead.End ≡ ahead_of (next whole_lines content at) → lines_of (drop at content) ≡ []
-end_comes content at is = ap lines_of (drop_all at content (end_past whole_lines [] content at (end_ahead (next whole_lines content at) is)))
 
 -- a line that is too long comes
 pub long_comes : (content : List ℕ) (at line : ℕ) → ahead.LongLine line ≡ ahead_of (next whole_lines content at) → IsLongLine content at line

@@ -1,9 +1,8 @@
 -- The sums over one more bot.
-use Rattle.std.proofs.Common.{◌≡◌, ◌≤◌, ◌+◌, ◌*◌, ℕ, List, [], ◌∷◌, ◌++◌, Bool, true, false, ◌||◌, length, Option, Some, None, nat_lt, true≢false, refl, sym, ap, ◌∙◌, arith}
+use Rattle.std.proofs.Common.{◌≡◌, ◌+◌, ◌*◌, ℕ, List, [], ◌∷◌, ◌++◌, Bool, true, false, ◌||◌, length, Option, Some, None, nat_lt, true≢false, refl, sym, ap, ◌∙◌, arith}
 use Rattle.std.specs.Prelude.{filter_map, sum_by, unwrap_or, if◌then◌else◌}
 use Rattle.std.specs.List.{list_any}
 use Rattle.std.specs.Str.{bytes_eq}
-use Rattle.std.proofs.lemmas.Bool.{ltb-false}
 use Rattle.std.proofs.lemmas.List.{append-nil}
 use Rattle.std.proofs.lemmas.List.Elements.{filter_map-append}
 use Rattle.std.proofs.lemmas.List.Folds.{list_any-append}
@@ -11,9 +10,9 @@ use Rattle.std.proofs.lemmas.List.Sums.{sum_by-append, sum_by-cons}
 use Rattle.std.proofs.lemmas.Slice.Eq.{bytes_eq-Decides}
 use Rattle.serde_json.specs.Data.{Members}
 use Rattle.config_bundle.specs.declared.bundle.Bundle.{Bundle}
-use Rattle.runtime_config.specs.Faults.{content, distinct, file_length, file_of, instances, longest_bundle, longest_file, most_bots, most_instances, most_rows, most_rows_in_all, pass_together, passes_own, rows, rows_in_all}
+use Rattle.runtime_config.specs.Faults.{content, distinct, file_length, file_of, instances, longest_bundle, most_bots, most_instances, most_rows_in_all, pass_together, passes_own, rows, rows_in_all}
 use Rattle.runtime_config.specs.Runtime.{Entry}
-use Rattle.runtime_config.specs.Sums.{added, are_past, new_bytes, passes_by, with_file, AreNumbers, AreSmall, AreSums}
+use Rattle.runtime_config.specs.Sums.{added, are_past, new_bytes, passes_by, with_file, AreNumbers, AreSums}
 use Rattle.runtime_config.specs.declared.limits.Numbers.{Numbers}
 use Rattle.runtime_config.specs.declared.limits.Sums.{Sums}
 
@@ -100,21 +99,3 @@ module _ (bundle : Bundle) (global : Members) where
 
   pub own_passes : (bot : Entry) (n : Numbers) → AreNumbers bundle global bot n → passes_by global bot n ≡ passes_own bundle global bot
   own_passes bot n numbers = rw (numbers.rows_are, numbers.length_is) refl
-
-neither : (a b : Bool) → (a || b) ≡ false → (a ≡ false) × (b ≡ false)
-neither true b is = absurd (true≢false is)
-neither false b is = (refl, is)
-
-pub still_small : (count : ℕ) (s : Sums) → are_past count s ≡ false → AreSmall s
-still_small count s none =
-    let (three, bytes) = neither (nat_lt most_bots count || nat_lt most_instances s.instances || nat_lt most_rows_in_all s.rows) (nat_lt longest_bundle s.bytes) none in
-    let (two, all_rows) = neither (nat_lt most_bots count || nat_lt most_instances s.instances) (nat_lt most_rows_in_all s.rows) three in
-    let (one, all_instances) = neither (nat_lt most_bots count) (nat_lt most_instances s.instances) two in
-    record { few_instances = ltb-false most_instances s.instances all_instances; few_rows = ltb-false most_rows_in_all s.rows all_rows; short = ltb-false longest_bundle s.bytes bytes }
-
--- what a bot's own numbers are below
-pub own_small : (global : Members) (bot : Entry) (n : Numbers) → passes_by global bot n ≡ false → (n.rows ≤ most_rows) × (n.length ≤ longest_file)
-own_small global bot n none =
-    let (four, long) = neither _ (nat_lt longest_file n.length) none in
-    let (three, many) = neither _ (nat_lt most_rows n.rows) four in
-    (ltb-false most_rows n.rows many, ltb-false longest_file n.length long)

@@ -1,5 +1,5 @@
 -- What is read of lists and objects, one item after the other.
-use Rattle.std.proofs.Common.{◌≡◌, ℕ, List, [], ◌∷◌, ◌++◌, Option, Some, None, option_map, option_and_then, string_bytes, sym, ap, ◌∙◌}
+use Rattle.std.proofs.Common.{◌≡◌, ℕ, List, [], ◌∷◌, ◌++◌, Option, Some, option_map, option_and_then, string_bytes, sym, ap, ◌∙◌}
 use Rattle.serde_json.specs.Find.{as_array}
 use Rattle.serde_json.specs.View.{view, members_view}
 use Rattle.event_model.specs.Trees.{both}
@@ -12,10 +12,6 @@ use Rattle.runtime_config.specs.Runtime.{routes_in}
 pub read_more : {A : Type 0} (all later rest : Option (List A)) (done new : List A) (x : A) → all ≡ in_front done later → later ≡ both (Some x) rest → new ≡ done ++ x ∷ [] → all ≡ in_front new rest
 read_more all later rest done new x so_far step pushed =
     so_far ∙ ap (in_front done) step ∙ front_push done x rest ∙ ap (λ xs. in_front xs rest) (sym pushed)
-
--- an item that isn't one
-pub none_more : {A : Type 0} (all later : Option (List A)) (done : List A) → all ≡ in_front done later → later ≡ None → None ≡ all
-none_more all later done so_far none = sym (so_far ∙ ap (in_front done) none)
 
 pub route_first : (left rest : List Entry) (e : Entry) (path : List ℕ) (queues : Option (List (List ℕ))) → left ≡ e ∷ rest → path ≡ string_bytes e.0 → queues ≡ option_and_then texts_in (as_array (view e.1))
     → routes_in (members_view left) ≡ both (option_map (λ qs. (path, qs)) queues) (routes_in (members_view rest))

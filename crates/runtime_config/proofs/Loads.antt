@@ -1,18 +1,18 @@
 -- What a bundle means, bot by bot.
-use Rattle.std.proofs.Common.{◌≡◌, ◌≤◌, ◌<◌, ◌+◌, ℕ, suc, List, [], ◌∷◌, ◌++◌, Bool, true, false, length, take, drop, map, nat_lt, Option, Some, None, Result, Ok, Err, MatchResult, option_map, option_and_then, if◌then◌else◌, refl, sym, ap, ◌∙◌, add-one, drop-cons}
+use Rattle.std.proofs.Common.{◌≡◌, ◌≤◌, ◌<◌, ◌+◌, ℕ, suc, List, [], ◌∷◌, ◌++◌, Bool, true, false, length, take, drop, map, nat_lt, Option, Some, None, Result, Ok, Err, MatchResult, if◌then◌else◌, refl, sym, ap, ◌∙◌, add-one, drop-cons}
 use Rattle.std.specs.List.{slice_get}
 use Rattle.std.specs.Option.{option_or}
 use Rattle.std.proofs.Math.Seq.{take-suc}
 use Rattle.std.proofs.lemmas.Bool.{ltb-false}
 use Rattle.std.proofs.lemmas.List.{map-append}
 use Rattle.std.proofs.lemmas.Option.{get_or_from_slice_get}
-use Rattle.serde_json.specs.Data.{Data, Members}
+use Rattle.serde_json.specs.Data.{Data}
 use Rattle.event_model.specs.Trees.{tree_in}
 use Rattle.config_bundle.specs.declared.bundle.Bundle.{Bundle}
 use Rattle.runtime_config.specs.Faults.{fault_of, first_fault, first_some, places_from, Place}
 use Rattle.runtime_config.specs.Found.{IsFault}
 use Rattle.runtime_config.specs.Load.{load, of_runtime, planned, unless, IsLoaded}
-use Rattle.runtime_config.specs.Runtime.{bots_in, global_key, longest_runtime, object_of, object_under, runtime_in, runtime_of, Entry, Runtime}
+use Rattle.runtime_config.specs.Runtime.{longest_runtime, runtime_of, Entry, Runtime}
 use Rattle.runtime_config.specs.declared.fault.LoadFault.{LoadFault}
 use Rattle.runtime_config.specs.declared.fault.LoadFault.TheVariants as fault
 use Rattle.runtime_config.specs.declared.plan.Plan.{Plan}
@@ -48,16 +48,6 @@ none_first o rest whole none is = ap (λ (p : Option LoadFault). option_or p res
 
 -- ---- the runtime text
 
-runtime_by : (b : Bool) (x : Option Data) → (if b then None else option_and_then runtime_in (option_and_then object_of x)) ≡ option_and_then runtime_in (option_and_then object_of (if b then None else x))
-runtime_by true x = refl
-runtime_by false x = refl
-
-pub runtime_is : (bundle : Bundle) (d : Option Data) → d ≡ (if nat_lt longest_runtime (length bundle.runtime) then None else tree_in bundle.runtime)
-    → runtime_of bundle ≡ option_and_then runtime_in (option_and_then object_of d)
-unfolding runtime_of
-runtime_is bundle d is =
-    runtime_by (nat_lt longest_runtime (length bundle.runtime)) (tree_in bundle.runtime) ∙ ap (λ o. option_and_then runtime_in (option_and_then object_of o)) (sym is)
-
 short_by : (b : Bool) (x : Option Data) (d : Data) (n : ℕ) → nat_lt longest_runtime n ≡ b → Some d ≡ (if b then None else x) → n ≤ longest_runtime
 short_by true x d n test is = absurd (cc)
 short_by false x d n test is = ltb-false longest_runtime n test
@@ -68,11 +58,6 @@ short_text bundle d is = short_by (nat_lt longest_runtime (length bundle.runtime
 pub no_runtime : (bundle : Bundle) → runtime_of bundle ≡ None → load bundle ≡ Err fault.Json
 unfolding load
 no_runtime bundle none = ap (of_runtime bundle) none
-
-pub whole_runtime : (ms global : Members) (bots : List Entry) → bots_in ms ≡ Some bots → global ≡ object_under global_key ms → runtime_in ms ≡ Some (record { global = global; bots = bots })
-whole_runtime ms global bots are is =
-    ap (option_map (λ (bs : List Entry). let rt : Runtime = record { global = object_under global_key ms; bots = bs } in rt)) are
-    ∙ ap (λ (g : Members). let rt : Runtime = record { global = g; bots = bots } in Some rt) (sym is)
 
 -- ---- the plan
 

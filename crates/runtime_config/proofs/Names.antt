@@ -1,13 +1,9 @@
 -- Names, one after the other.
-use Rattle.std.proofs.Common.{◌≡◌, ℕ, ◌+◌, ◌<◌, suc, List, [], ◌∷◌, ◌++◌, Bool, true, false, Option, Some, None, length, get_or, drop, map, filter, if◌then◌else◌, refl, sym, ap, ◌∙◌, append_assoc, add-one, drop-cons}
+use Rattle.std.proofs.Common.{◌≡◌, ℕ, ◌+◌, List, [], ◌∷◌, ◌++◌, Bool, true, false, Option, Some, None, if◌then◌else◌, refl, sym, ap, ◌∙◌}
 use Rattle.std.specs.Option.{option_or}
 use Rattle.std.specs.Str.{bytes_eq}
-use Rattle.std.proofs.lemmas.List.{map-append}
-use Rattle.std.proofs.lemmas.List.Elements.{filter-append}
 use Rattle.event_model.specs.Lenient.{least, lesser}
-use Rattle.runtime_config.specs.Faults.{name_when}
 use Rattle.module_settings.specs.Parameters.{Parameter}
-use Rattle.module_settings.specs.Rows.{parameter_of}
 use Rattle.runtime_config.specs.Runtime.{parameter_named}
 use Rattle.module_settings.specs.declared.parameter.Parameter.{Parameter as Row}
 
@@ -52,36 +48,3 @@ named_second name qs rs all found none is whole =
     is ∙ ap (λ o. option_or o (parameter_named name rs)) none ∙ sym (named_append name qs rs) ∙ ap (parameter_named name) whole
 
 -- ---- names that are put behind others
-
-when_more : (b : Bool) (q : Parameter) (qs : List Parameter) → map (λ (p : Parameter). p.name) (if b then q ∷ qs else qs) ≡ name_when b q.name ++ map (λ (p : Parameter). p.name) qs
-when_more true q qs = refl
-when_more false q qs = refl
-
-rows_from : (is : Parameter → Bool) (rows : List Row) (i : ℕ) (row : Row) → i < length rows → row ≡ get_or rows i row
-    → map (λ (p : Parameter). p.name) (filter is (map parameter_of (drop i rows))) ≡ name_when (is (parameter_of row)) (parameter_of row).name ++ map (λ (p : Parameter). p.name) (filter is (map parameter_of (drop (i + 1) rows)))
-rows_from is rows i row within read =
-    ap (λ rs. map (λ (p : Parameter). p.name) (filter is (map parameter_of rs))) (drop-cons rows i row within ∙ ap (λ (r : Row). r ∷ drop (suc i) rows) (sym read) ∙ ap (λ n. row ∷ drop n rows) (sym (add-one i)))
-    ∙ when_more (is (parameter_of row)) (parameter_of row) (filter is (map parameter_of (drop (i + 1) rows)))
-
--- a parameter's name is put where it passes
-pub row_pushed : (is : Parameter → Bool) (rows : List Row) (i : ℕ) (row : Row) (b : Bool) (all old new : List (List ℕ)) → i < length rows → row ≡ get_or rows i row → b ≡ is (parameter_of row)
-    → old ++ map (λ (p : Parameter). p.name) (filter is (map parameter_of (drop i rows))) ≡ all → new ≡ old ++ name_when b (parameter_of row).name
-    → new ++ map (λ (p : Parameter). p.name) (filter is (map parameter_of (drop (i + 1) rows))) ≡ all
-row_pushed is rows i row b all old new within read test so_far pushed =
-    let rest = map (λ (p : Parameter). p.name) (filter is (map parameter_of (drop (i + 1) rows))) in
-    ap (λ (t : List (List ℕ)). t ++ rest) (pushed ∙ ap (λ t. old ++ name_when t (parameter_of row).name) test)
-    ∙ append_assoc old (name_when (is (parameter_of row)) (parameter_of row).name) rest
-    ∙ ap (λ (t : List (List ℕ)). old ++ t) (sym (rows_from is rows i row within read)) ∙ so_far
-
--- two lists of parameters and the members
-pub three_pushed : (is : Parameter → Bool) (shared own : List Row) (members first second third : List (List ℕ)) (all : List Parameter)
-    → map parameter_of shared ++ map parameter_of own ≡ all
-    → first ≡ map (λ (p : Parameter). p.name) (filter is (map parameter_of shared))
-    → second ≡ first ++ map (λ (p : Parameter). p.name) (filter is (map parameter_of own))
-    → third ≡ second ++ members → third ≡ map (λ (p : Parameter). p.name) (filter is all) ++ members
-three_pushed is shared own members first second third all whole one two three =
-    three ∙ ap (λ (t : List (List ℕ)). t ++ members)
-    (two ∙ ap (λ (t : List (List ℕ)). t ++ map (λ (p : Parameter). p.name) (filter is (map parameter_of own))) one
-    ∙ sym (map-append (λ (p : Parameter). p.name) (filter is (map parameter_of shared)) (filter is (map parameter_of own)))
-    ∙ ap (map (λ (p : Parameter). p.name)) (sym (filter-append is (map parameter_of shared) (map parameter_of own)))
-    ∙ ap (λ qs. map (λ (p : Parameter). p.name) (filter is qs)) whole)

@@ -40,7 +40,7 @@ chosen holds (case ∷ cases) otherwise = if holds case.0 then case.1 else chose
 -- ---- fields
 
 abbrev pub with_fields : State → FieldMap → State
-with_fields s fields = record { fields = fields; paths = s.paths }
+with_fields s fields = record { fields = fields; paths = s.paths; place = s.place }
 
 -- the field has the value
 abbrev pub with_value : List ℕ → State → Value → State
@@ -75,7 +75,7 @@ put key how from at s = if is_set how (is_some (get s.fields key)) then set_to k
 
 -- the event goes on these paths alone
 abbrev pub with_paths : State → List (List ℕ) → State
-with_paths s names = record { fields = s.fields; paths = names }
+with_paths s names = record { fields = s.fields; paths = names; place = s.place }
 
 -- ---- items
 

@@ -14,7 +14,7 @@ abbrev pub default_path : List ℕ
 default_path = codes "_default"
 
 abbrev pub at_first : FieldMap → State
-at_first fields = record { fields = fields; paths = default_path ∷ [] }
+at_first fields = record { fields = fields; paths = default_path ∷ []; place = tt }
 
 -- at the end of the sieve the event is forwarded
 abbrev pub at_last : Outcome → Result Verdict ℕ

@@ -1,12 +1,14 @@
-ghost use Rattle.std.specs.Prelude.{◌≡◌, IfOk};
+ghost use Rattle.std.specs.Prelude.{◌≡◌, List, ℕ, IfOk};
 ghost use Rattle.std.specs.FinMap.{get};
 ghost use Rattle.std.specs.List.{list_all, list_any};
+ghost use Rattle.event_model.specs.Fields.{FieldMap};
 ghost use Rattle.sieve_eval.specs.Holds.{holds};
 ghost use Rattle.sieve_eval.specs.Says.{says_of};
 
 use crate::saying::{Setting, says, says_of_none};
-use base_types::{OutOfMemory, Text};
+use base_types::OutOfMemory;
 use event_model::Fields;
+use field_types::FieldName;
 use sieve_reader::{Cond, Test};
 use std::alloc::Global;
 
@@ -14,21 +16,51 @@ fn says_of(
     alloc: Global,
     setting: &mut Setting,
     fields: &Fields,
-    key: &Text,
+    key: &FieldName,
     test: &Test,
 ) -> Result<bool, OutOfMemory>
     ensures value { IfOk result (λ holds. holds ≡ says_of setting.old.patterns setting.old.moment test.now (get fields.now key.now)) }
     ensures same { setting.new ≡ setting.old }
 {
-    match fields.get(key) {
+    match fields.get_near(key, &mut setting.place) {
         Some(value) => says(alloc, setting, test, value),
         None => Ok(says_of_none(test)),
     }
 }
 
-/// Whether a condition holds of an event.
+// The condition in a row of one, which holds where the row does.
+fn only(cond: &Cond) -> &Cond
+    ensures { (patterns : List (List ℕ)) (now : ℕ) (fields : FieldMap) → holds patterns now fields result.now ≡ holds patterns now fields cond.now }
+{
+    match cond {
+        Cond::Any(inner) => match inner.as_slice() {
+            [one] => one,
+            _ => cond,
+        },
+        Cond::All(inner) => match inner.as_slice() {
+            [one] => one,
+            _ => cond,
+        },
+        _ => cond,
+    }
+}
+
+/// Whether the condition of a case holds of an event. Most are one test, as a row of one in a row of one.
+pub fn case_holds(
+    alloc: Global,
+    setting: &mut Setting,
+    fields: &Fields,
+    cond: &Cond,
+) -> Result<bool, OutOfMemory>
+    ensures value { IfOk result (λ is. is ≡ holds setting.old.patterns setting.old.moment fields.now cond.now) }
+    ensures same { setting.new ≡ setting.old }
+{
+    holds(alloc, setting, fields, only(only(cond)))
+}
+
+// Whether a condition holds of an event.
 #[cycle(conditions)]
-pub fn holds(
+fn holds(
     alloc: Global,
     setting: &mut Setting,
     fields: &Fields,

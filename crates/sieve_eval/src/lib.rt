@@ -5,6 +5,7 @@ mod amount;
 mod automaton;
 mod fault;
 mod holding;
+mod memo;
 mod pattern;
 mod prepared;
 mod putting;

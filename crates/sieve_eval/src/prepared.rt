@@ -3,13 +3,14 @@ ghost use Rattle.sieve_eval.specs.Outcome.{dropped, ended_of, forwarded};
 ghost use Rattle.sieve_eval.specs.Verdicts.{verdict, IsVerdict};
 
 use crate::fault::EvalFault;
+use crate::memo::{AddressMemo, TimeMemo};
 use crate::pattern::Patterns;
 use crate::running::run_all;
 use crate::saying::Setting;
 use crate::state::{Flow, State, at_first};
 use crate::verdict::{Fate, Verdict};
 use base_types::{Moment, OutOfMemory};
-use event_model::Fields;
+use event_model::{Fields, PlaceHint};
 use sieve_reader::Sieve;
 use std::alloc::Global;
 use std::marker::Model;
@@ -76,6 +77,9 @@ impl Prepared {
             setting: Setting {
                 patterns: Patterns::build(alloc, sieve.patterns().as_slice())?,
                 moment: 0,
+                times: TimeMemo::new(),
+                addresses: AddressMemo::new(),
+                place: PlaceHint::new(),
             },
         })
     }

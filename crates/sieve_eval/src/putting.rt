@@ -7,8 +7,8 @@ ghost use Rattle.sieve_eval.specs.Runs.{is_set, put, set_to, set_to_other, with_
 
 use crate::fault::EvalFault;
 use crate::state::State;
-use base_types::{OutOfMemory, Text};
-use field_types::{FieldFault, FieldName, Value, sanitise, type_of};
+use base_types::OutOfMemory;
+use field_types::{FieldFault, FieldName, Value, sanitise};
 use sieve_reader::{How, PutSource};
 use std::alloc::Global;
 
@@ -23,11 +23,11 @@ fn is_set(how: How, present: bool) -> bool
 }
 
 // The canonical value of a field for a value, or the fault of a copy at that offset.
-fn cleaned(alloc: Global, key: &Text, value: &Value, at: u32) -> Result<Value, EvalFault>
+fn cleaned(alloc: Global, key: &FieldName, value: &Value, at: u32) -> Result<Value, EvalFault>
     ensures cleaned { IsCleanedAt (value_for key.now value.now) at result }
     ensures field { IfOk result (IsField key.now) }
 {
-    let Some(kind) = type_of(key) else {
+    let Some(kind) = key.kind() else {
         return Err(EvalFault::BadValue { at });
     };
     match sanitise(alloc, kind, value) {
@@ -38,25 +38,25 @@ fn cleaned(alloc: Global, key: &Text, value: &Value, at: u32) -> Result<Value, E
 }
 
 // Sets a field to a value that is canonical for it.
-fn set(alloc: Global, state: &mut State, key: &Text, value: Value) -> Result<(), OutOfMemory>
+fn set(alloc: Global, state: &mut State, key: &FieldName, value: Value) -> Result<(), OutOfMemory>
     requires { IsField key.now value }
     ensures { OnOk result (state.new ≡ with_value key.now state.old value) }
 {
-    let key = FieldName::new(alloc, key.as_str())?;
-    state.fields.put_named(key, value)
+    let key = key.copy(alloc)?;
+    state.fields.put_near(key, value, &mut state.place)
 }
 
 // Sets a field to the value of another field.
 fn copy_from(
     alloc: Global,
     state: &mut State,
-    key: &Text,
-    other: &Text,
+    key: &FieldName,
+    other: &FieldName,
     at: u32,
 ) -> Result<(), EvalFault>
     ensures { GoesOn (set_to_other key.now at state.old (get state.old.fields other.now)) result state.new }
 {
-    match state.fields.get(other) {
+    match state.fields.get_named(other) {
         Some(value) => {
             let value = cleaned(alloc, key, value, at)?;
             set(alloc, state, key, value)?;
@@ -69,7 +69,7 @@ fn copy_from(
 fn set_to(
     alloc: Global,
     state: &mut State,
-    key: &Text,
+    key: &FieldName,
     source: &PutSource,
     at: u32,
 ) -> Result<(), EvalFault>
@@ -90,7 +90,7 @@ fn set_to(
 pub fn put(
     alloc: Global,
     state: &mut State,
-    key: &Text,
+    key: &FieldName,
     how: How,
     source: &PutSource,
     at: u32,
@@ -98,7 +98,7 @@ pub fn put(
     requires { IsSound key.now source.now }
     ensures { GoesOn (put key.now how source.now at state.old) result state.new }
 {
-    let present = state.fields.get(key).is_some();
+    let present = state.fields.get_near(key, &mut state.place).is_some();
     if !is_set(how, present) {
         return Ok(());
     }

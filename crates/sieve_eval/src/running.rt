@@ -6,7 +6,7 @@ ghost use Rattle.sieve_eval.specs.Outcome.{IsOutcome};
 ghost use Rattle.sieve_eval.specs.Runs.{chosen, run_all, runs};
 
 use crate::fault::EvalFault;
-use crate::holding::holds;
+use crate::holding::case_holds;
 use crate::putting::put;
 use crate::saying::Setting;
 use crate::state::{Flow, State, set_paths};
@@ -52,7 +52,7 @@ pub fn run(
             Ok(Flow::On)
         }
         SieveItem::Remove { key } => {
-            state.fields.remove(key);
+            state.fields.remove_named(key);
             Ok(Flow::On)
         }
     }
@@ -96,11 +96,15 @@ fn run_chosen(
     ensures same { setting.new ≡ setting.old }
 {
     'cases: for case in cases {
-        match holds(alloc, setting, &state.fields, &case.0) {
+        match case_holds(alloc, setting, &state.fields, &case.0) {
             Ok(true) => return run_all(alloc, setting, case.1.as_slice(), state),
             Ok(false) => {}
             Err(_) => return Err(EvalFault::OutOfMemory),
         }
+    }
+    // Most choices have no `else`.
+    if otherwise.is_empty() {
+        return Ok(Flow::On);
     }
     run_all(alloc, setting, otherwise, state)
 }

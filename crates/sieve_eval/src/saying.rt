@@ -2,23 +2,27 @@ ghost use Rattle.std.specs.Prelude.{◌≡◌, IfOk};
 ghost use Rattle.std.specs.List.{list_any};
 ghost use Rattle.scalar_net.specs.Network.{is_inside};
 ghost use Rattle.sieve_eval.specs.Amount.{equal};
-ghost use Rattle.sieve_eval.specs.Says.{finds, has_part, is_address, is_after, is_before, is_text, is_time, says, says_of_none};
+ghost use Rattle.sieve_eval.specs.Says.{finds, has_part, is_after, is_before, is_text, passes, says, says_of_none};
 
 use crate::amount::{amount, equal, is_above, is_at_least, is_at_most, is_below};
+use crate::memo::{AddressMemo, TimeMemo};
 use crate::pattern::Patterns;
 use base_types::{OutOfMemory, Text};
+use event_model::PlaceHint;
 use field_types::Value;
-use scalar_net::{Network, holds, read_ip};
-use scalar_text::read_time;
+use scalar_net::{Ip, Network, holds};
 use sieve_reader::Test;
 use std::alloc::Global;
 
-/// What tests look at beside the event: the patterns by their numbers, and the moment in seconds since
-/// 1970-01-01T00:00:00 UTC.
+/// What tests look at beside the event: the patterns by their numbers, the moment in seconds since 1970-01-01T00:00:00 UTC, and
+/// what was read last.
 #[derive(Drop)]
 pub struct Setting {
     pub patterns: Patterns,
     pub moment: u64,
+    pub times: TimeMemo,
+    pub addresses: AddressMemo,
+    pub place: PlaceHint,
 }
 
 // From 0001-01-01 to 1970-01-01 in seconds.
@@ -44,15 +48,12 @@ fn finds(alloc: Global, patterns: &mut Patterns, n: u32, value: &Value) -> Resul
     }
 }
 
-fn is_within(value: &Value, net: &Network) -> bool
-    ensures { result ≡ is_address (is_inside net.now) value.now }
+fn is_within(address: Option<Ip>, net: &Network) -> bool
+    ensures { result ≡ passes (is_inside net.now) address }
 {
-    match value {
-        Value::Text(text) => match read_ip(text.bytes()) {
-            Ok(ip) => holds(net, &ip),
-            Err(_) => false,
-        },
-        _ => false,
+    match address {
+        Some(ip) => holds(net, &ip),
+        None => false,
     }
 }
 
@@ -62,29 +63,23 @@ fn is_one_of(value: &Value, operands: &[Value]) -> bool
     operands.iter().any(|operand| equal(operand, value))
 }
 
-// Whether a value is a time more than so many seconds before now.
-fn is_before(value: &Value, now: u64, span: u64) -> bool
-    ensures { result ≡ is_time (is_before now span) value.now }
+// Whether a time is more than so many seconds before now.
+fn is_before(time: Option<u64>, now: u64, span: u64) -> bool
+    ensures { result ≡ passes (is_before now span) time }
 {
-    match value {
-        Value::Text(text) => match read_time(text.bytes()) {
-            Ok(time) => (time as u128) + (span as u128) < now as u128 + EPOCH,
-            Err(_) => false,
-        },
-        _ => false,
+    match time {
+        Some(time) => (time as u128) + (span as u128) < now as u128 + EPOCH,
+        None => false,
     }
 }
 
-// Whether a value is a time less than so many seconds before now.
-fn is_after(value: &Value, now: u64, span: u64) -> bool
-    ensures { result ≡ is_time (is_after now span) value.now }
+// Whether a time is less than so many seconds before now.
+fn is_after(time: Option<u64>, now: u64, span: u64) -> bool
+    ensures { result ≡ passes (is_after now span) time }
 {
-    match value {
-        Value::Text(text) => match read_time(text.bytes()) {
-            Ok(time) => now as u128 + EPOCH < time as u128 + span as u128,
-            Err(_) => false,
-        },
-        _ => false,
+    match time {
+        Some(time) => now as u128 + EPOCH < time as u128 + span as u128,
+        None => false,
     }
 }
 
@@ -110,10 +105,10 @@ pub fn says(
         Test::AtMost(n) => is_at_most(value, amount(*n)),
         Test::Above(n) => is_above(value, amount(*n)),
         Test::AtLeast(n) => is_at_least(value, amount(*n)),
-        Test::Within(net) => is_within(value, net),
+        Test::Within(net) => is_within(setting.addresses.read(value), net),
         Test::In(operands) => is_one_of(value, operands.as_slice()),
-        Test::Before { span } => is_before(value, setting.moment, *span),
-        Test::After { span } => is_after(value, setting.moment, *span),
+        Test::Before { span } => is_before(setting.times.read(value), setting.moment, *span),
+        Test::After { span } => is_after(setting.times.read(value), setting.moment, *span),
     })
 }
 

@@ -3,14 +3,15 @@ ghost use Rattle.sieve_eval.specs.Runs.{with_paths};
 ghost use Rattle.sieve_eval.specs.Verdicts.{at_first, default_path};
 
 use base_types::{OutOfMemory, Text, TextList};
-use event_model::Fields;
+use event_model::{Fields, PlaceHint};
 use std::alloc::Global;
 
-/// An event while items run: its fields, and the paths on which it goes.
+/// An event while items run: its fields, the paths on which it goes, and where a field was set last.
 #[derive(Drop)]
 pub struct State {
     pub fields: Fields,
     pub paths: TextList,
+    pub place: PlaceHint,
 }
 
 /// How the run goes on behind an item.
@@ -44,6 +45,7 @@ pub fn at_first(alloc: Global, fields: &Fields) -> Result<State, OutOfMemory>
     Ok(State {
         fields: fields.copy_with_room(alloc, ADDED_FIELDS)?,
         paths: default_paths(alloc)?,
+        place: PlaceHint::new(),
     })
 }
 

@@ -1,7 +1,7 @@
 -- The fixed values of a sieve that is read are canonical.
 use Rattle.std.proofs.Common.{◌≡◌, ⊎_elim, inl, inr, ℕ, zero, suc, Option, Some, None, Ok, List, [], ◌∷◌, ◌++◌, map, refl, sym, ap, subst, ◌∙◌}
 use Rattle.std.specs.Prelude.{option_and_then, option_map}
-use Rattle.std.specs.List.{flat_map, AllByRecursion}
+use Rattle.std.specs.List.{flat_map}
 use Rattle.base_types.proofs.Everywhere.{all-append}
 use Rattle.field_types.specs.Cleaning.{clean}
 use Rattle.field_types.specs.Field.{type_of}

@@ -1,7 +1,6 @@
 -- Each text gives a sieve or a fault, and one alone.
-use Rattle.std.proofs.Common.{◌≡◌, ◌⊎◌, ⊎_elim, inl, inr, ℕ, zero, suc, ◌+◌, ◌-◌, ◌<◌, ◌≤◌, List, [], ◌∷◌, length, Option, Some, None, Result, Ok, Err, refl, sym, ap, ◌∙◌, subst, arith}
+use Rattle.std.proofs.Common.{◌≡◌, ◌⊎◌, ⊎_elim, inl, inr, ℕ, zero, suc, ◌-◌, ◌<◌, List, [], ◌∷◌, length, Option, Some, None, Result, Ok, Err, refl, sym, ap, ◌∙◌, arith}
 use Rattle.std.proofs.lemmas.Option.{none-some}
-use Rattle.sieve_tokens.specs.Piece.{Stands}
 use Rattle.sieve_tokens.specs.Scan.{piece_at}
 use Rattle.sieve_tokens.specs.Token.{spans, AreTokens, Cover, IsBadAt}
 use Rattle.sieve_tokens.specs.declared.piece.Piece.{Piece}

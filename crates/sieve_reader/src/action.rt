@@ -9,6 +9,7 @@ use crate::leaf::{field, literal, refused, sees, take};
 use crate::symbol::Symbol;
 use crate::tree::{How, PutSource, SieveItem};
 use base_types::{ListOf, Text, TextList};
+use field_types::FieldName;
 use sieve_tokens::{Sign, content};
 use std::alloc::Global;
 
@@ -89,7 +90,7 @@ fn texts(alloc: Global, tokens: &mut Cursor<'_>) -> Result<TextList, Fault>
 fn put_source(
     alloc: Global,
     tokens: &mut Cursor<'_>,
-    key: Text,
+    key: FieldName,
     how: How,
 ) -> Result<SieveItem, Fault>
     ensures { Gives (spec.put_source judged key how tokens.old) result tokens.new }

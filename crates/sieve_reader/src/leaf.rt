@@ -12,7 +12,7 @@ use crate::span::span_in;
 use crate::symbol::Symbol;
 use crate::tree::Amount;
 use base_types::{OutOfMemory, Text, TextFault};
-use field_types::{FieldFault, FieldType, Value, sanitise, type_of, type_of_bytes};
+use field_types::{FieldFault, FieldName, FieldType, Value, sanitise, type_of_bytes};
 use scalar_net::{Network, read_network};
 use sieve_tokens::{Keyword, Sign, content};
 use std::alloc::Global;
@@ -39,9 +39,20 @@ fn text_of(alloc: Global, bytes: &[u8]) -> Result<Text, Fault>
     }
 }
 
+fn name_of(alloc: Global, bytes: &[u8]) -> Result<FieldName, Fault>
+    requires { IsUtf8 bytes.now }
+    ensures name { IfOk result (λ name. name ≡ bytes.now) }
+    ensures memory { IfErr result (λ e. e ≡ Fault.OutOfMemory) }
+{
+    match FieldName::known(bytes) {
+        Some(known) => Ok(known),
+        None => Ok(FieldName::from(text_of(alloc, bytes)?)),
+    }
+}
+
 /// The name of a field.
 #[tactic(auto, unfolding(crate::specs::Parse::field))]
-pub fn field(alloc: Global, tokens: &mut Cursor<'_>) -> Result<Text, Fault>
+pub fn field(alloc: Global, tokens: &mut Cursor<'_>) -> Result<FieldName, Fault>
     ensures { Gives (spec.field judged tokens.old) result tokens.new }
 {
     let Some(Symbol::Name(key)) = tokens.peek() else {
@@ -50,7 +61,7 @@ pub fn field(alloc: Global, tokens: &mut Cursor<'_>) -> Result<Text, Fault>
     if type_of_bytes(key).is_none() {
         return Err(refused(tokens, Cause::Field));
     }
-    let key = text_of(alloc, key)?;
+    let key = name_of(alloc, key)?;
     tokens.skip();
     Ok(key)
 }
@@ -68,10 +79,10 @@ pub fn text(alloc: Global, tokens: &mut Cursor<'_>) -> Result<Text, Fault>
     Ok(text)
 }
 
-fn is_ordered(key: &Text) -> bool
+fn is_ordered(key: &FieldName) -> bool
     ensures { result ≡ kind_passes is_ordered key.now }
 {
-    match type_of(key) {
+    match key.kind() {
         Some(kind) => matches!(
             kind,
             FieldType::Accuracy
@@ -85,19 +96,19 @@ fn is_ordered(key: &Text) -> bool
     }
 }
 
-fn has_addresses(key: &Text) -> bool
+fn has_addresses(key: &FieldName) -> bool
     ensures { result ≡ kind_passes has_addresses key.now }
 {
-    match type_of(key) {
+    match key.kind() {
         Some(kind) => matches!(kind, FieldType::Ip | FieldType::Extra),
         None => false,
     }
 }
 
-fn is_time(key: &Text) -> bool
+fn is_time(key: &FieldName) -> bool
     ensures { result ≡ kind_passes is_time key.now }
 {
-    match type_of(key) {
+    match key.kind() {
         Some(kind) => matches!(kind, FieldType::DateTime),
         None => false,
     }
@@ -115,7 +126,7 @@ fn amount_of(symbol: Symbol<'_>) -> Option<Amount>
 
 /// A number that a field is compared with by order.
 #[tactic(auto, unfolding(crate::specs::Parse::amount))]
-pub fn amount(key: &Text, tokens: &mut Cursor<'_>) -> Result<Amount, Fault>
+pub fn amount(key: &FieldName, tokens: &mut Cursor<'_>) -> Result<Amount, Fault>
     ensures { Gives (spec.amount judged key.now tokens.old) result tokens.new }
 {
     let Some(symbol) = tokens.peek() else {
@@ -148,7 +159,7 @@ fn value_of(alloc: Global, symbol: Symbol<'_>) -> Result<Option<Value>, OutOfMem
 
 /// A literal, as the canonical value of the field's kind.
 #[tactic(auto, unfolding(crate::specs::Parse::literal))]
-pub fn literal(alloc: Global, key: &Text, tokens: &mut Cursor<'_>) -> Result<Value, Fault>
+pub fn literal(alloc: Global, key: &FieldName, tokens: &mut Cursor<'_>) -> Result<Value, Fault>
     ensures { Gives (spec.literal judged key.now tokens.old) result tokens.new }
 {
     let Some(symbol) = tokens.peek() else {
@@ -157,7 +168,7 @@ pub fn literal(alloc: Global, key: &Text, tokens: &mut Cursor<'_>) -> Result<Val
     let Some(value) = value_of(alloc, symbol)? else {
         return Err(refused(tokens, Cause::Expected));
     };
-    let Some(kind) = type_of(key) else {
+    let Some(kind) = key.kind() else {
         return Err(refused(tokens, Cause::Value));
     };
     match sanitise(alloc, kind, &value) {
@@ -181,7 +192,7 @@ fn network_of(text: &[u8]) -> Option<Network>
 
 /// The text of a network.
 #[tactic(auto, unfolding(crate::specs::Parse::network))]
-pub fn network(alloc: Global, key: &Text, tokens: &mut Cursor<'_>) -> Result<Network, Fault>
+pub fn network(alloc: Global, key: &FieldName, tokens: &mut Cursor<'_>) -> Result<Network, Fault>
     ensures { Gives (spec.network judged key.now tokens.old) result tokens.new }
 {
     let Some(Symbol::Quoted(piece)) = tokens.peek() else {
@@ -200,7 +211,7 @@ pub fn network(alloc: Global, key: &Text, tokens: &mut Cursor<'_>) -> Result<Net
 
 /// The text of a span of time, in seconds.
 #[tactic(auto, unfolding(crate::specs::Parse::span))]
-pub fn span(alloc: Global, key: &Text, tokens: &mut Cursor<'_>) -> Result<u64, Fault>
+pub fn span(alloc: Global, key: &FieldName, tokens: &mut Cursor<'_>) -> Result<u64, Fault>
     ensures { Gives (spec.span judged key.now tokens.old) result tokens.new }
 {
     let Some(Symbol::Quoted(piece)) = tokens.peek() else {

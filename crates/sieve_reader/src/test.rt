@@ -9,12 +9,13 @@ use crate::fault::{Cause, Fault};
 use crate::leaf::{amount, field, literal, network, pattern, refused, sees, span, take, text};
 use crate::symbol::Symbol;
 use crate::tree::{Cond, Test, ValueList};
-use base_types::{ListOf, Text};
+use base_types::ListOf;
+use field_types::FieldName;
 use sieve_tokens::Sign;
 use std::alloc::Global;
 
 // Literals with commas between.
-fn literals(alloc: Global, key: &Text, tokens: &mut Cursor<'_>) -> Result<ValueList, Fault>
+fn literals(alloc: Global, key: &FieldName, tokens: &mut Cursor<'_>) -> Result<ValueList, Fault>
     ensures { Gives (spec.separated (spec.is_sign Sign.Comma) (spec.literal judged key.now) (length tokens.old) [] tokens.old) result tokens.new }
 {
     let mut found = ListOf::new(alloc);
@@ -35,7 +36,7 @@ fn literals(alloc: Global, key: &Text, tokens: &mut Cursor<'_>) -> Result<ValueL
 }
 
 #[tactic(auto, unfolding(crate::specs::Parse::row))]
-fn literal_row(alloc: Global, key: &Text, tokens: &mut Cursor<'_>) -> Result<ValueList, Fault>
+fn literal_row(alloc: Global, key: &FieldName, tokens: &mut Cursor<'_>) -> Result<ValueList, Fault>
     ensures { Gives (spec.row (spec.literal judged key.now) tokens.old) result tokens.new }
 {
     take(tokens, Sign::OpenBracket)?;
@@ -56,7 +57,7 @@ fn presence(alloc: Global, tokens: &mut Cursor<'_>, is_there: bool) -> Result<Co
 
 // The operator and its operand, behind a field.
 #[tactic(auto, unfolding(crate::specs::Parse::operator))]
-fn operator(alloc: Global, key: &Text, tokens: &mut Cursor<'_>) -> Result<Test, Fault>
+fn operator(alloc: Global, key: &FieldName, tokens: &mut Cursor<'_>) -> Result<Test, Fault>
     ensures { Gives (spec.operator judged key.now tokens.old) result tokens.new }
 {
     let before = tokens.patterns();

@@ -1,6 +1,6 @@
 use crate::Boxed;
 use base_types::{ListOf, Text, TextList};
-use field_types::Value;
+use field_types::{FieldName, Value};
 use scalar_net::Network;
 
 pub type CondList = ListOf<Cond>;
@@ -53,7 +53,7 @@ pub enum Cond {
     /// Conditions with `&&` between.
     All(CondList),
     Not(Boxed<Cond>),
-    Test { key: Text, test: Test },
+    Test { key: FieldName, test: Test },
 }
 
 /// Which of the fields that are to be set are set.
@@ -71,7 +71,7 @@ pub enum How {
 pub enum PutSource {
     Fixed(Value),
     /// The value of this field.
-    Copy(Text),
+    Copy(FieldName),
 }
 
 /// A part of a sieve that is run.
@@ -88,12 +88,12 @@ pub enum SieveItem {
     },
     /// Its source stands at that offset.
     Put {
-        key: Text,
+        key: FieldName,
         how: How,
         source: PutSource,
         at: u32,
     },
     Remove {
-        key: Text,
+        key: FieldName,
     },
 }

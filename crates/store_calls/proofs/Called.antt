@@ -11,7 +11,7 @@ use Rattle.step_code.specs.Rules.{Meaning}
 use Rattle.store_image.specs.Stands.{IsSealOf, Stands, StandsFor}
 use Rattle.store_image.proofs.Standing.{replay-append}
 use Rattle.journal_book.specs.Book.{durable_steps, waiting_steps, BookView, IsKept}
-use Rattle.journal_book.specs.Opening.{IsReopened, StandsNow}
+use Rattle.journal_book.specs.Opening.{opened, IsReopened, StandsNow}
 use Rattle.book_runs.specs.GoesOn.{GoesOn}
 use Rattle.book_runs.proofs.Going.{legal-append}
 use Rattle.seal_laws.proofs.Histories.{legal_whole, seals}
@@ -23,6 +23,17 @@ narrow m first steps more rest n image within none stands =
     let nothing : take stands.count rest ≡ [] = ap (take stands.count) none ∙ take-nil stands.count in
     let history : (steps ++ take n more) ++ take stands.count rest ≡ steps ++ take n more = ap (λ (ss : List Step). (steps ++ take n more) ++ ss) nothing ∙ append-nil (steps ++ take n more) in
     record { count = n; within = within; stands = subst (λ (h : List Step). Stands m first image h) history stands.stands }
+
+-- a store that was opened, by what opening says of it
+pub opened_so : {D R : Type 0} {disk : D → DiskView} {may_leave : D → ℕ → List ℕ → Type 0} {left_since : D → ℕ → Image → Type 0} {m : Meaning} (first : Base) (steps more : List Step) (old : D) (rules : R) (limit : ℕ) (book : BookView D R)
+    → book ≡ opened m rules book.generation book.base book.steps limit book.disk → IsReopened disk may_leave m first steps more book → Leaves disk left_since old book.disk (StandsFor m first steps more)
+    → IsOpened disk may_leave left_since m first steps more old book
+opened_so {D = D} {R = R} first steps more old rules limit book is reopened any_moment = record {
+  all = ap (λ (b : BookView D R). b.kept) is;
+  state = ap (λ (b : BookView D R). b.state) is;
+  reopened = reopened;
+  any_moment = any_moment;
+}
 
 module _ {D R : Type 0} {disk : D → DiskView} {may_leave : D → ℕ → List ℕ → Type 0} {left_since : D → ℕ → Image → Type 0} {m : Meaning} (first : Base) (steps more made : List Step) (old : D) (opened later : BookView D R)
     (is : IsOpened disk may_leave left_since m first steps more old opened) (run : GoesOn disk may_leave left_since m opened later made) where

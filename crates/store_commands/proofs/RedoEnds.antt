@@ -60,24 +60,6 @@ lacks m s steps limit dump now r is =
     let step = redo_step s dump now in
     dump_lacks (list_any (is_dump dump) s.dumps) (spent m s step) (bytes_with steps step) limit r is
 
-full_is_not_broken : (b : Bool) (bytes : ℕ) → (if b then Some (refusal.Full bytes) else None) ≡ Some refusal.Broken → ⊥
-full_is_not_broken true bytes is = absurd (cc)
-full_is_not_broken false bytes is = absurd (cc)
-
-first_is_not_broken : (step : Option StepRefusal) (next : Option ℕ) (bytes limit : ℕ) → first_cause step next bytes limit ≡ Some refusal.Broken → ⊥
-first_is_not_broken (Some r) next bytes limit is = absurd (cc)
-first_is_not_broken None (Some n) bytes limit is = absurd (cc)
-first_is_not_broken None None bytes limit is = full_is_not_broken (nat_lt limit bytes) bytes is
-
--- no step breaks a book
-pub not_broken : (step : Option StepRefusal) (next : Option ℕ) (bytes limit : ℕ) (broken : Bool) (r : StageRefusal) → broken ≡ false → IsStageRefusal (cause_of broken (first_cause step next bytes limit)) r → r ≢ refusal.Broken
-not_broken step next bytes limit true r whole is same = absurd (cc)
-not_broken step next bytes limit false refusal.Broken whole is same = first_is_not_broken step next bytes limit is
-not_broken step next bytes limit false (refusal.Step x) whole is same = absurd (cc)
-not_broken step next bytes limit false (refusal.Spent x) whole is same = absurd (cc)
-not_broken step next bytes limit false (refusal.Full x) whole is same = absurd (cc)
-not_broken step next bytes limit false refusal.OutOfMemory whole is same = absurd (cc)
-
 -- how the step went where it was refused
 pub refused_end : (m : Meaning) (s : Base) (steps : List Step) (limit dump now : ℕ) (told : Option Image) (broken : Bool) (r : StageRefusal) → broken ≡ false → IsStageRefusal (cause_of broken (step_cause m s steps limit (redo_step s dump now))) r
     → IsRedoEnd s (step_cause m s steps limit (redo_step s dump now)) told dump (refusal_end dump r)
@@ -123,20 +105,6 @@ made_so outs told step made meant e ends is either =
 pub not_refused : (broken : Bool) (cause : Option StageRefusal) → broken ≡ false → cause_of broken cause ≡ None → cause ≡ None
 not_refused true cause whole is = absurd (cc)
 not_refused false cause whole is = is
-
-pub disk_ends : (f : BookFault) → end_of f ≡ end.Disk → f ≡ fault.Disk
-disk_ends fault.Disk is = refl
-disk_ends (fault.Damaged file at) is = absurd (cc)
-disk_ends (fault.Store have) is = absurd (cc)
-disk_ends fault.Refused is = absurd (cc)
-disk_ends fault.OutOfMemory is = absurd (cc)
-
-pub no_disk_end : (dump : ℕ) (r : StageRefusal) → refusal_end dump r ≢ end.Disk
-no_disk_end dump refusal.Broken is = absurd (cc)
-no_disk_end dump (refusal.Step r) is = absurd (cc)
-no_disk_end dump (refusal.Spent next) is = absurd (cc)
-no_disk_end dump (refusal.Full bytes) is = absurd (cc)
-no_disk_end dump refusal.OutOfMemory is = absurd (cc)
 
 -- ---- what is told
 

@@ -1,12 +1,6 @@
-//! Tests of configurations, through public calls alone.
+//! Tests of what bundles mean, and of what is wrong with them.
 #![tactic(auto)]
 
-#[cfg(test)]
-mod defaults;
-#[cfg(test)]
-mod edges;
-#[cfg(test)]
-mod forms;
 #[cfg(test)]
 mod limits;
 #[cfg(test)]
@@ -16,8 +10,4 @@ mod orders;
 #[cfg(test)]
 mod plans;
 #[cfg(test)]
-mod printing;
-#[cfg(test)]
 mod sieves;
-#[cfg(test)]
-mod tables;

@@ -1,9 +1,9 @@
 //! Bundles at each limit, and just past it.
-use crate::loads::{answer, answer_to, answer_with, bundle, repeated};
 use base_types::{Blob, Text};
 use config_bundle::Bundle;
 use std::alloc::Global;
 use std::test::Fail;
+use tests_answers::{answer, answer_to, answer_with, bundle, repeated};
 
 // Lengths of a runtime text.
 const LENGTHS: [(u32, &str); 3] = [

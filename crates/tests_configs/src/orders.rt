@@ -1,7 +1,7 @@
 //! Which of several faults is told: the first bot's, and of a bot the one of the lowest number.
-use crate::loads::{Files, answer};
 use std::alloc::Global;
 use std::test::Fail;
+use tests_answers::{Files, answer};
 
 // A bot NAME with a fault, and what is told of it.
 type Faulty = (&'static str, &'static str);

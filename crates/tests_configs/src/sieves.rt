@@ -1,7 +1,7 @@
 //! What is wrong with the sieves of bundles.
-use crate::loads::{Row, answer_with, first_wrong, repeated};
 use std::alloc::Global;
 use std::test::Fail;
+use tests_answers::{Row, answer_with, first_wrong, repeated};
 
 // A collector, a parser, a sieve whose file is `fix.sieve`, and an output.
 const Z: &'static str =

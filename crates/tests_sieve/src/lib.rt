@@ -1,18 +1,12 @@
-//! Tests of the sieve's language.
+//! Tests of how rule files are read: their trees, and why they are refused.
 #![tactic(auto)]
 
-#[cfg(test)]
-mod events;
-#[cfg(test)]
-mod hostile;
 #[cfg(test)]
 mod hostile_sieves;
 #[cfg(test)]
 mod lists;
 #[cfg(test)]
 mod nesting;
-#[cfg(test)]
-mod operators;
 #[cfg(test)]
 mod random;
 #[cfg(test)]
@@ -22,10 +16,4 @@ mod reading;
 #[cfg(test)]
 mod refusals;
 #[cfg(test)]
-mod running;
-#[cfg(test)]
-mod tokens;
-#[cfg(test)]
 mod trees;
-#[cfg(test)]
-mod words;

@@ -1,7 +1,7 @@
 ghost use Rattle.std.specs.Prelude.{◌<◌, max};
 
 use base_types::{ListOf, Text, TextList};
-use field_types::Value;
+use field_types::{FieldName, Value};
 use scalar_net::{Network, read_network};
 use sieve_reader::{
     Amount, Boxed, Case, CaseList, Cond, CondList, How, PutSource, SieveItem, SieveItemList, Test,
@@ -131,9 +131,9 @@ impl Writer {
         self.gap()
     }
 
-    fn put_key(&mut self, key: &str) -> Result<Text, Fail> {
+    fn put_key(&mut self, key: &str) -> Result<FieldName, Fail> {
         self.put(key)?;
-        Ok(Text::new(self.alloc, key.as_bytes())?)
+        Ok(FieldName::new(self.alloc, key)?)
     }
 
     // A text in quotes. In a frame it begins and ends with a letter.

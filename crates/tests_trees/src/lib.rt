@@ -8,4 +8,6 @@ mod hostile;
 #[cfg(test)]
 mod messages;
 #[cfg(test)]
+mod shown;
+#[cfg(test)]
 mod trees;

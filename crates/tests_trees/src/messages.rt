@@ -1,6 +1,7 @@
+use crate::shown::shown;
 use base_types::{Text, TextList};
 use event_model::{EventFault, Fields};
-use field_types::{Value, push_value};
+use field_types::Value;
 use std::alloc::Global;
 use std::test::Fail;
 
@@ -33,18 +34,6 @@ fn made(alloc: Global, fields: &mut Fields, call: Call, key: &Text, value: &Valu
         Ok(false) => Answer::Absent,
         Err(fault) => Answer::Refused(fault),
     }
-}
-
-// The fields as `name=value` behind one another.
-fn shown(alloc: Global, fields: &Fields) -> Result<String, Fail> {
-    let mut out = Vec::new(alloc);
-    for pair in fields.pairs() {
-        out.extend_from_slice(pair.0.bytes())?;
-        out.push(b'=')?;
-        push_value(&mut out, &pair.1)?;
-        out.push(b' ')?;
-    }
-    Ok(String::from_str(alloc, std::str::from_utf8(&out)?)?)
 }
 
 struct Edit {

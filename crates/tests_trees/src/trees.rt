@@ -1,21 +1,9 @@
-use event_model::{Fields, Kind, Message, ReadFault, clean_tree};
-use field_types::push_value;
+use crate::shown::shown;
+use event_model::{Kind, Message, ReadFault, clean_tree};
 use scalar_text::quote_decimals;
 use serde_json::Value as Tree;
 use std::alloc::Global;
 use std::test::Fail;
-
-// The fields as `name=value` behind one another.
-fn shown(alloc: Global, fields: &Fields) -> Result<String, Fail> {
-    let mut out = Vec::new(alloc);
-    for pair in fields.pairs() {
-        out.extend_from_slice(pair.0.bytes())?;
-        out.push(b'=')?;
-        push_value(&mut out, &pair.1)?;
-        out.push(b' ')?;
-    }
-    Ok(String::from_str(alloc, std::str::from_utf8(&out)?)?)
-}
 
 fn read(alloc: Global, json: &str) -> Result<Result<Message, ReadFault>, Fail> {
     let quoted = quote_decimals(alloc, json.as_bytes())?;

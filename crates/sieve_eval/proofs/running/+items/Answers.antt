@@ -103,7 +103,7 @@ run_chosen-returns-in-Ok-true-clause-outcome t c =
     let says = sym (ap (λ (k : Setting). holds k.patterns k.moment s.fields case.0) same) ∙ sym c.in-Ok-true.ensures.value ∙ c.in-Ok-true.field-0-test in
     let taken = case_taken H case rest cases otherwise before says in
     subst (λ o. IsOutcome o c.run_all.result c.run_all.new.state)
-    (ap (λ (k : Setting). run_all k.patterns k.moment c.as_slice.result.now s) (c.holds.ensures.same ∙ same)
+    (ap (λ (k : Setting). run_all k.patterns k.moment c.as_slice.result.now s) (c.case_holds.ensures.same ∙ same)
     ∙ ap (λ is. run_all patterns now is s) (c.as_slice.ensures ∙ taken) ∙ ap (λ (z : State). run_all patterns now (chosen (holds patterns now z.fields) cases otherwise) z) c.cases.invariant.1)
     c.run_all.ensures.outcome
 
@@ -123,5 +123,5 @@ run_chosen-cases-preserved t c =
       c.cases.invariant.1,
       behind (all_fixed case.1) (cases_fixed rest) (subst (λ cs. AreCanonical (cases_fixed cs)) split c.cases.invariant.2),
       c.cases.invariant.3,
-      c.holds.ensures.same ∙ c.cases.invariant.4,
+      c.case_holds.ensures.same ∙ c.cases.invariant.4,
     )

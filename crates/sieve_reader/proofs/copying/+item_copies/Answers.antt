@@ -1,5 +1,5 @@
 use Rattle.std.proofs.Common.{◌≡◌, suc, ◌+◌, ap, sym, ◌∙◌}
-use Rattle.sieve_reader.proofs.Weights.{case_falls, case_weight, cases_fall, cases_weight, choice_weight, item_falls, one_of, otherwise_falls, total_weight, weight}
+use Rattle.sieve_reader.proofs.Weights.{case_falls, case_weight, cases_fall, cases_weight, choice_weight, item_falls, one_of, total_weight, weight}
 use Rattle.sieve_reader.proofs.copying.+item_copies.Goals as goal
 
 pub copy_item-copy_cases-requires : goal.copy_item-copy_cases-requires

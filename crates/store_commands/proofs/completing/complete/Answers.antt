@@ -5,7 +5,7 @@ use Rattle.journal_book.specs.Book.{BookView}
 use Rattle.journal_book.specs.Opening.{StandsNow}
 use Rattle.journal_book.specs.Outputs.{AreWritten}
 use Rattle.store_calls.specs.Calls.{IsOpened, StandsOn}
-use Rattle.store_calls.proofs.Called.{still_stands}
+use Rattle.store_calls.proofs.Called.{opened_so, still_stands}
 use Rattle.store_commands.specs.Completed.{said, IsCompleted}
 use Rattle.store_commands.specs.Ends.{IsOpenIn, IsPrinted}
 use Rattle.store_commands.specs.declared.end.StoreEnd.{StoreEnd}
@@ -32,12 +32,8 @@ pub returns-in-Ok-complete_outputs-clause-stands : goal.returns-in-Ok-complete_o
 returns-in-Ok-complete_outputs-clause-stands g c = λ first steps more was.
     let m = g.R.Rules.meaning in
     let opened = c.in-Ok.book in let later = c.complete_outputs.new.book in
-    let is : IsOpened g.D.Disk.disk g.D.Disk.may_leave g.D.Disk.left_since m first steps more c.args.disk opened = record {
-      all = ap (λ (b : BookView _ _). b.kept) c.in-Ok.ensures.book;
-      state = ap (λ (b : BookView _ _). b.state) c.in-Ok.ensures.book;
-      reopened = c.in-Ok.ensures.kept first steps more was;
-      any_moment = c.in-Ok.ensures.any_moment first steps more was;
-    } in
+    let is : IsOpened g.D.Disk.disk g.D.Disk.may_leave g.D.Disk.left_since m first steps more c.args.disk opened =
+    opened_so first steps more c.args.disk c.args.rules _ opened c.in-Ok.ensures.book (c.in-Ok.ensures.kept first steps more was) (c.in-Ok.ensures.any_moment first steps more was) in
     subst (λ d. StandsOn g.D.Disk.disk g.D.Disk.may_leave g.D.Disk.left_since m first steps more c.args.disk d) (sym c.into_disk.ensures)
     (still_stands first steps more [] c.args.disk opened later is c.complete_outputs.ensures.goes_on refl)
 
@@ -53,12 +49,8 @@ pub returns-in-Err-complete_outputs-clause-stands : goal.returns-in-Err-complete
 returns-in-Err-complete_outputs-clause-stands g c = λ first steps more was.
     let m = g.R.Rules.meaning in
     let opened = c.in-Ok.book in let later = c.complete_outputs.new.book in
-    let is : IsOpened g.D.Disk.disk g.D.Disk.may_leave g.D.Disk.left_since m first steps more c.args.disk opened = record {
-      all = ap (λ (b : BookView _ _). b.kept) c.in-Ok.ensures.book;
-      state = ap (λ (b : BookView _ _). b.state) c.in-Ok.ensures.book;
-      reopened = c.in-Ok.ensures.kept first steps more was;
-      any_moment = c.in-Ok.ensures.any_moment first steps more was;
-    } in
+    let is : IsOpened g.D.Disk.disk g.D.Disk.may_leave g.D.Disk.left_since m first steps more c.args.disk opened =
+    opened_so first steps more c.args.disk c.args.rules _ opened c.in-Ok.ensures.book (c.in-Ok.ensures.kept first steps more was) (c.in-Ok.ensures.any_moment first steps more was) in
     subst (λ d. StandsOn g.D.Disk.disk g.D.Disk.may_leave g.D.Disk.left_since m first steps more c.args.disk d) (sym c.into_disk-in-Err-complete_outputs.ensures)
     (still_stands first steps more [] c.args.disk opened later is c.complete_outputs.ensures.goes_on refl)
 

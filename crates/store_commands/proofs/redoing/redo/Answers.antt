@@ -7,6 +7,7 @@ use Rattle.journal_book.specs.Opening.{StandsNow}
 use Rattle.journal_book.specs.Outputs.{AreWritten}
 use Rattle.journal_book.specs.Staged.{step_cause}
 use Rattle.store_calls.specs.Calls.{IsOpened, StandsOn}
+use Rattle.store_calls.proofs.Called.{opened_so}
 use Rattle.store_commands.specs.Ends.{AreWrittenAt}
 use Rattle.store_commands.specs.Redone.{redo_step, IsAsked, IsRedoCall, IsRedone, RedoesStep}
 use Rattle.store_commands.specs.declared.end.StoreEnd.{StoreEnd}
@@ -41,12 +42,8 @@ returns-in-Ok-clause-stands g c = λ first steps more was.
     let later = c.redo_dump-end.new.book in
     let step = redo_step opened.state c.args.dump c.args.now in
     let run = c.redo_dump-end.ensures.run in
-    let is : IsOpened g.D.Disk.disk g.D.Disk.may_leave g.D.Disk.left_since m first steps more c.args.disk opened = record {
-      all = ap (λ (b : BookView _ _). b.kept) c.in-Ok.ensures.book;
-      state = ap (λ (b : BookView _ _). b.state) c.in-Ok.ensures.book;
-      reopened = c.in-Ok.ensures.kept first steps more was;
-      any_moment = c.in-Ok.ensures.any_moment first steps more was;
-    } in
+    let is : IsOpened g.D.Disk.disk g.D.Disk.may_leave g.D.Disk.left_since m first steps more c.args.disk opened =
+    opened_so first steps more c.args.disk c.args.rules _ opened c.in-Ok.ensures.book (c.in-Ok.ensures.kept first steps more was) (c.in-Ok.ensures.any_moment first steps more was) in
     let e = c.redo_dump-end.result in
     let call = call_open step run.made e _ _ (no_damage opened.state _ (g.D.Disk.disk opened.disk).told c.args.dump e c.redo_dump-end.ensures.end (c.in-Ok.ensures.long was.files was.tells)) run.made_is
     (stands first steps more c.args.disk opened later is c.args.dump c.args.now e run) (λ one. (later.kept - opened.kept, makes first steps more c.args.disk opened later is c.args.dump c.args.now e run one))

@@ -1,9 +1,8 @@
-use Rattle.std.proofs.Common.{OnOk, Result, Ok, Err, sym, ◌∙◌, ap, subst}
+use Rattle.std.proofs.Common.{sym, ap, subst}
 use Rattle.std.proofs.lemmas.Result.{on_err_weaker}
 use Rattle.step_code.specs.declared.base.Base.{Base}
 use Rattle.step_code.specs.Content.{MayReplay}
-use Rattle.step_code.specs.Fits.{Fits, first_failing, parts}
-use Rattle.step_code.specs.Rules.{IsPlanOf}
+use Rattle.step_code.specs.Fits.{Fits}
 use Rattle.core_state.specs.State.{state_of}
 use Rattle.ack_steps.specs.Core.{reload_of}
 use Rattle.ack_steps.proofs.Hands.{held_after_call}
@@ -21,26 +20,3 @@ invariant_of-self g c =
     (subst (λ w. Fits m s (record { moment = now; what = w }) → MayReplay m s (record { moment = now; what = w })) c.in-Reload.is may)
     c.self.invariant.1 (g.met.R.Rules.bots_are_sound s.bundle bots c.self.invariant.1) c.self.invariant.4 c.self.invariant.5 in
     (call.bundle, call.plan, call.lengths c.self.invariant.2, call.orderly, held.0, held.1)
-
-pub invariant_of-self-in-Ok-None : goal.invariant_of-self-in-Ok-None
-invariant_of-self-in-Ok-None g c =
-    let m = g.R.Rules.meaning in
-    let s = state_of c.self.inside.state in
-    let step = c.args.step.now in
-    let bots = g.R.Rules.bots_of c.self.inside.plan in
-    let call = c.act_and_count.ensures in
-    let may = subst (λ (b : Base). Fits m b step → MayReplay m b step) (sym (ap (λ v. v.state) c.self.view_is)) c.requires.replay in
-    let fits : Fits m s step = ap (λ v. first_failing (parts m v.state step.what)) c.self.view_is ∙ sym c.in-Ok-None.ensures ∙ c.in-Ok-None.field-0-is in
-    let held = held_after_call m s (state_of c.act_and_count.new.state) step bots c.act_and_count.result (ok_always c.act_and_count.result fits) call.ok call.err may
-    c.self.invariant.1 (g.met.R.Rules.bots_are_sound s.bundle bots c.self.invariant.1) c.self.invariant.4 c.self.invariant.5 in (
-      c.self.invariant.0 ∙ sym call.bundle,
-      subst (λ l. IsPlanOf m l bots) (sym call.bundle) c.self.invariant.1,
-      call.lengths c.self.invariant.2,
-      call.orderly,
-      held.0,
-      held.1,
-    )
-  where
-    ok_always : {A E P : Type 0} (result : Result A E) → P → OnOk result P
-    ok_always (Ok x) holds = holds
-    ok_always (Err e) holds = tt
