@@ -1,8 +1,11 @@
 pub mod Appended
 pub mod Everywhere
 pub mod Found
+pub mod Members
 pub mod Names
 pub mod Numerals
+pub mod Options
 pub mod Padding
 pub mod Places
+pub mod Plain
 pub mod Positions

@@ -1,5 +1,6 @@
 -- what public contracts cite
 pub mod Digits
+pub mod JsonText
 pub mod Lines
 pub mod Lists
 pub mod Name

@@ -2,6 +2,7 @@
 #![tactic(auto)]
 
 mod digits;
+mod json_text;
 mod list;
 mod memory;
 mod message;
@@ -11,6 +12,7 @@ mod scalar;
 mod text;
 
 pub use digits::read_digits;
+pub use json_text::{flag_word, has_escapes, hex_digit, is_plain, push_flag, push_quoted};
 pub use list::{
     BlobList, LineList, ListOf, NamedList, NoteList, NumberList, QueueList, SendList, TextList,
 };

@@ -66,6 +66,14 @@ module _ {D R : Type 0} {disk : D → DiskView} {may_leave : D → ℕ → List 
     any_moment = λ first past was. subst (λ (ss : List Step). Leaves disk left_since old.disk new.disk (StandsFor m first (past ++ durable_steps old) ss)) (sym (append-nil (waiting_steps old))) (leaves first past was);
   }
 
+  -- all steps are made durable
+  pub makes_durable : (old new : BookView D R) → new ≡ record old { disk = new.disk; kept = length old.steps }
+      → ((first : Base) (past : List Step) → IsKept disk may_leave m first past old → IsKept disk may_leave m first past new)
+      → ((first : Base) (past : List Step) → IsKept disk may_leave m first past old → Leaves disk left_since old.disk new.disk (StandsFor m first (past ++ durable_steps old) (waiting_steps old)))
+      → GoesOn disk may_leave left_since m old new []
+  makes_durable old new done kept leaves =
+      makes_none old new (changes old new _ _ done) (λ first past was. omega (arith, was.within, ap (λ (b : BookView _ _). b.kept) done)) kept leaves
+
   -- no call at all
   pub goes_nowhere : (book : BookView D R) → ((image : Image) → left_since book.disk (disk book.disk).moment image → IsImage (may_leave book.disk) image) → GoesOn disk may_leave left_since m book book []
   goes_nowhere book only = makes_none book book refl (λ first past kept. omega arith) (λ first past kept. kept) (λ first past kept. waits may_leave book book _ refl only kept.each)

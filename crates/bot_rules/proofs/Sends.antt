@@ -11,10 +11,10 @@ use Rattle.event_model.specs.Fields.{FieldMap}
 use Rattle.event_model.specs.declared.message.Kind.{Kind}
 use Rattle.event_model.specs.declared.message.Kind.TheVariants.{Event, Report}
 use Rattle.event_model.specs.declared.message.Message.{Message}
-use Rattle.event_json.specs.Exact.{strict}
-use Rattle.event_json.specs.Strict.{IsTyped}
-use Rattle.event_json.specs.Text.{message_text}
-use Rattle.event_json.proofs.Exact.{strict-only, strict-reads}
+use Rattle.event_text.specs.Exact.{strict}
+use Rattle.event_text.specs.Strict.{IsTyped}
+use Rattle.event_text.specs.Text.{message_text}
+use Rattle.event_text.proofs.Exact.{strict-only, strict-reads}
 use Rattle.expert_rules.specs.declared.chosen.DedupRule.{DedupRule}
 use Rattle.step_code.specs.declared.rules.Role.TheVariants as role
 use Rattle.runtime_config.specs.declared.plan.Route.{Route}

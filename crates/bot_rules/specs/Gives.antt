@@ -6,8 +6,8 @@ use Rattle.event_model.specs.Fields.{FieldMap}
 use Rattle.event_model.specs.declared.message.Kind.{Kind}
 use Rattle.event_model.specs.declared.message.Kind.TheVariants.{Report, Event}
 use Rattle.event_model.specs.declared.message.Message.{Message}
-use Rattle.event_json.specs.Exact.{strict}
-use Rattle.event_json.specs.Text.{message_text}
+use Rattle.event_text.specs.Exact.{strict}
+use Rattle.event_text.specs.Text.{message_text}
 use Rattle.feed_rows.specs.Notes.{kind_note, sieve_note}
 use Rattle.feed_rows.specs.declared.parsed.Bad.{Bad}
 use Rattle.feed_rows.specs.declared.parsed.Parsed.{Parsed}

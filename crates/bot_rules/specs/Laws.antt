@@ -15,9 +15,9 @@ use Rattle.config_bundle.specs.Bundle.{bundle_in}
 use Rattle.event_model.specs.Fields.{FieldMap}
 use Rattle.event_model.specs.declared.message.Kind.TheVariants.{Report}
 use Rattle.event_model.specs.declared.message.Message.{Message}
-use Rattle.event_json.specs.Exact.{strict}
-use Rattle.event_json.proofs.Exact.{strict-reads}
-use Rattle.event_json.proofs.PairTexts.{nothing_yet}
+use Rattle.event_text.specs.Exact.{strict}
+use Rattle.event_text.proofs.Exact.{strict-reads}
+use Rattle.event_text.proofs.PairTexts.{nothing_yet}
 use Rattle.feed_rows.specs.Notes.{kind_note}
 use Rattle.feed_rows.specs.declared.parsed.Parsed.{Parsed}
 use Rattle.feed_csv.specs.Rows.{csv_parsed}

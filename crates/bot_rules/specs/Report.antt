@@ -5,7 +5,7 @@ use Rattle.scalar_text.specs.Time.{time_text}
 use Rattle.field_types.specs.declared.value.Value.TheVariants.{Text}
 use Rattle.event_model.specs.Fields.{FieldMap}
 use Rattle.event_model.specs.declared.message.Kind.TheVariants.{Report}
-use Rattle.event_json.specs.Text.{message_text}
+use Rattle.event_text.specs.Text.{message_text}
 use Rattle.feed_rows.specs.Reports.{with_raw}
 
 -- from 0001-01-01T00:00:00 UTC to 1970-01-01T00:00:00 UTC, in seconds

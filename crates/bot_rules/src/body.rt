@@ -1,11 +1,11 @@
 //! Bodies of messages.
 ghost use Rattle.std.specs.Prelude.{◌≡◌, ◌∷◌, [], ◌++◌, true, IfOk, OnOk};
-ghost use Rattle.event_json.specs.Exact.{strict};
+ghost use Rattle.event_text.specs.Exact.{strict};
 ghost use Rattle.bot_rules.specs.Gives.{body_of, is_lawful, to_each};
 
 use base_types::{Blob, OutOfMemory, QueueList, QueueName, SendList};
-use event_json::{message_in, write_message};
 use event_model::{Fields, Kind, Message};
+use event_text::{message_in, write_message};
 use std::alloc::Global;
 
 /// The message whose text a body is, if it is one's.

@@ -1,6 +1,6 @@
 //! What a bot makes of a body.
 ghost use Rattle.std.specs.Prelude.{◌≡◌, [], true, None, Some, IfOk};
-ghost use Rattle.event_json.specs.Exact.{strict};
+ghost use Rattle.event_text.specs.Exact.{strict};
 ghost use Rattle.feed_rows.specs.Notes.{kind_note};
 ghost use Rattle.step_code.specs.declared.rules.Given.TheVariants as given;
 ghost use Rattle.bot_rules.specs.Gives.{are_lawful, body_gives, job_gives, takes};

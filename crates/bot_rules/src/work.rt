@@ -17,7 +17,7 @@ use module_settings::{FieldsList, NetworkList};
 use prefix_table::PrefixTable;
 use runtime_config::{Module, NamesList, Planned, Route};
 use sieve_eval::Prepared;
-use sieve_reader::Sieve;
+use sieve_tree::Sieve;
 use std::alloc::Global;
 use std::marker::Model;
 use step_code::Given;

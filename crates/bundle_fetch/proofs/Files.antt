@@ -1,6 +1,5 @@
 -- Files that are fetched one after the other.
-use Rattle.std.proofs.Common.{◌≡◌, ◌⊎◌, inl, inr, ⊎_elim, ◌≤◌, ◌<◌, ◌+◌, ℕ, zero, suc, List, [], ◌∷◌, ◌++◌, length, take, drop, get_or, Option, Some, None, Result, Ok, Err, refl, sym, ap, subst, ◌∙◌, arith, append_assoc}
-use Rattle.std.proofs.Math.Nat.{eq-or-lt_of_le}
+use Rattle.std.proofs.Common.{◌≡◌, ◌⊎◌, inl, inr, ◌≤◌, ◌<◌, ◌+◌, ℕ, zero, suc, List, [], ◌∷◌, ◌++◌, length, take, drop, get_or, Option, Some, None, Result, Ok, Err, refl, sym, ap, subst, ◌∙◌, arith, append_assoc}
 use Rattle.std.proofs.Math.Seq.{drop-cons}
 use Rattle.std.proofs.lemmas.List.{append-nil, drop_all}
 use Rattle.base_types.specs.Lists.{IsIn}
@@ -62,11 +61,6 @@ pub in_list : (names : List (List ℕ)) (i : ℕ) (name : List ℕ) → i < leng
 in_list [] i name within at = absurd (omega arith)
 in_list (n ∷ ns) zero name within at = inl at
 in_list (n ∷ ns) (suc i) name within at = inr (in_list ns i name (omega (arith, within)) at)
-
--- a count that rose later rose
-pub rose_later : (old mid new : ℕ) → old ≤ mid → mid ≤ new → Rose mid new → Rose old new
-rose_later old mid new le later (inl less) = inl (omega (arith, le, less))
-rose_later old mid new le later (inr last) = ⊎_elim (λ (same : old ≡ mid). inr (omega (arith, same, last))) (λ (less : old < mid). inl (omega (arith, less, later))) (eq-or-lt_of_le le)
 
 -- ---- a bundle
 

@@ -195,9 +195,6 @@ ends_here o p end.Memory on is = tt
 pub whole_cause : (broken : Bool) (cause : Option StageRefusal) (f : CommitFault) → broken ≡ false → IsCommitFault (cause_of broken cause) f → IsCommitFault cause f
 whole_cause broken cause f whole is = subst (λ (b : Bool). IsCommitFault (cause_of b cause) f) whole is
 
-pub whole_none : (broken : Bool) (cause : Option StageRefusal) → broken ≡ false → cause_of broken cause ≡ None → cause ≡ None
-whole_none broken cause whole is = subst (λ (b : Bool). cause_of b cause ≡ None) whole is
-
 pub never_broken : (broken : Bool) → broken ≡ false → broken ≡ true → ⊥
 never_broken true whole is = cc
 never_broken false whole is = cc

@@ -2,7 +2,7 @@
 use Rattle.std.specs.Prelude.{ℕ, List, [], ◌∷◌, codes, decimal}
 use Rattle.std.specs.List.{flat_map}
 use Rattle.stored_types.specs.declared.message.Dump.{Dump}
-use Rattle.field_types.specs.Writing.{quoted}
+use Rattle.base_types.specs.JsonText.{quoted}
 
 -- a dump as a line of JSON (RFC 8259), in its parts: the body of its message is JSON already and stands as it is
 abbrev pub dump_parts : Dump → List (List ℕ)

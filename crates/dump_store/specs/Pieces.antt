@@ -1,7 +1,7 @@
 -- The text of a dump in pieces.
 use Rattle.std.specs.Prelude.{ℕ, List, decimal}
 use Rattle.std.specs.List.{flat_map}
-use Rattle.field_types.specs.Writing.{escaped}
+use Rattle.base_types.specs.JsonText.{escaped}
 use Rattle.dump_store.specs.declared.export.Piece.{Piece}
 use Rattle.dump_store.specs.declared.export.Piece.TheVariants as piece
 

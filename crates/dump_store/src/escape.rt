@@ -4,10 +4,10 @@ ghost use Rattle.std.specs.List.{flat_map, prefix_len};
 ghost use Rattle.edge_traits.specs.Count.{Rose};
 ghost use Rattle.edge_traits.specs.Output.{TookFront};
 ghost use Rattle.edge_traits.specs.Sink.{Took};
-ghost use Rattle.field_types.specs.Writing.{escaped, is_plain};
+ghost use Rattle.base_types.specs.JsonText.{escaped, is_plain};
 
+use base_types::{hex_digit, is_plain};
 use edge_traits::{Failed, Sink, write_all};
-use field_types::{hex_digit, is_plain};
 
 fn write_control<S: Sink>(out: &mut S, byte: u8) -> Result<(), Failed>
     requires { byte < 32 }

@@ -257,6 +257,7 @@ impl Disk for MemDisk {
 
     ghost left_since = { left_since };
 
+    #[tactic(auto, using(crate::proofs::Steps::keeps_past))]
     fn len(&mut self, file: u64) -> Result<u64, Failed>
         ensures len { (files : Image) → (disk_view self.old).told ≡ Some files → IfOk result (λ n. n ≡ length (files file)) }
         ensures told { (disk_view self.new).told ≡ (disk_view self.old).told }
@@ -276,6 +277,7 @@ impl Disk for MemDisk {
         Ok(self.log.bytes(file).len() as u64)
     }
 
+    #[tactic(auto, using(crate::proofs::Steps::keeps_past))]
     fn read_at(&mut self, file: u64, at: u64, buf: &mut [u8]) -> Result<usize, Failed>
         ensures within { IfOk result (λ n. n ≤ length buf.new) }
         ensures bytes { (files : Image) → (disk_view self.old).told ≡ Some files

@@ -1,3 +1,4 @@
+pub mod Counts
 pub mod Moments
 pub mod Outcomes
 pub mod Outputs

@@ -6,7 +6,8 @@ use Rattle.std.proofs.lemmas.Bool.{and_from, false≢true}
 use Rattle.std.proofs.lemmas.Option.{none-some, same_Some}
 use Rattle.base_types.proofs.Places.{Key}
 use Rattle.field_types.specs.Field.{field_table, is_extra_name, kind_in, type_of}
-use Rattle.field_types.specs.Writing.{escaped, is_utf8_value, quoted, value_text}
+use Rattle.base_types.specs.JsonText.{escaped, quoted}
+use Rattle.field_types.specs.Writing.{is_utf8_value, value_text}
 use Rattle.field_types.specs.declared.kind.FieldType.{FieldType}
 use Rattle.field_types.specs.declared.kind.FieldType.TheVariants as type
 use Rattle.field_types.specs.declared.value.Value.{Value}

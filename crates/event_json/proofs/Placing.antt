@@ -8,7 +8,7 @@ use Rattle.std.specs.FinMap.Entries.{below_all}
 use Rattle.std.proofs.lemmas.Bool.{and_parts, and_from}
 use Rattle.std.proofs.lemmas.Cmp.{nat_list_cmp_total}
 use Rattle.json.specs.Json as json
-use Rattle.json.specs.Value.{value_view, members_view}
+use Rattle.event_json.specs.Quoted.{quoted_view, quoted_members_view}
 use Rattle.json.specs.declared.value.Value.{Value as Tree}
 use Rattle.serde_json.specs.Data.{no_members, member, put}
 use Rattle.serde_json.specs.Read.{of_members}
@@ -86,14 +86,14 @@ front_sorted (e ∷ front) back sorted =
 
 named-append : (a b : List Held) → named_values (a ++ b) ≡ named_values a ++ named_values b
 named-append [] b = refl
-named-append (m ∷ a) b = ap (λ (t : List Named). (m.0, value_view m.1.now) ∷ t) (named-append a b)
+named-append (m ∷ a) b = ap (λ (t : List Named). (m.0, quoted_view m.1.now) ∷ t) (named-append a b)
 
 pub named-length : (ms : List Held) → length ms ≡ length (named_values ms)
 named-length [] = refl
 named-length (m ∷ ms) = ap suc (named-length ms)
 
 pub named_last : (rest : List Held) (last : Held) → 1 ≤ length rest → last ≡ get_or rest (length rest - 1) last
-    → named_values rest ≡ named_values (take (length rest - 1) rest) ++ (last.0, value_view last.1.now) ∷ []
+    → named_values rest ≡ named_values (take (length rest - 1) rest) ++ (last.0, quoted_view last.1.now) ∷ []
 named_last rest last some is = ap named_values (last_of rest last some is) ∙ named-append (take (length rest - 1) rest) (last ∷ [])
 
 pub passes_last : (name : Key) (all rest front : List Named) (last : Named) → rest ≡ front ++ last ∷ [] → order last.0 name ≡ Greater → Passed name all rest → Passed name all front
@@ -116,15 +116,15 @@ belongs_behind name all rest front last n is less so_far size = record {
 
 -- ---- the place in the vector
 
-named_insert : (items : List Held) (front back : List Named) (m : Held) → named_values items ≡ front ++ back → named_values (place_in items (length front) m) ≡ front ++ (m.0, value_view m.1.now) ∷ back
-named_insert items [] back m is = ap (λ ns. (m.0, value_view m.1.now) ∷ ns) is
+named_insert : (items : List Held) (front back : List Named) (m : Held) → named_values items ≡ front ++ back → named_values (place_in items (length front) m) ≡ front ++ (m.0, quoted_view m.1.now) ∷ back
+named_insert items [] back m is = ap (λ ns. (m.0, quoted_view m.1.now) ∷ ns) is
 named_insert [] (e ∷ front) back m is = absurd (cc)
 named_insert (i ∷ items) (e ∷ front) back m is =
-    let head : (i.0, value_view i.1.now) ≡ e = cc in
+    let head : (i.0, quoted_view i.1.now) ≡ e = cc in
     let tail : named_values items ≡ front ++ back = cc in
     ap (λ n. n ∷ named_values (place_in items (length front) m)) head ∙ ap (λ ns. e ∷ ns) (named_insert items front back m tail)
 
-pub put_there : (items new : List Held) (m : Held) (i : ℕ) → BelongsAt m.0 (named_values items) i → new ≡ place_in items i m → PutsMember m.0 (value_view m.1.now) (named_values items) (named_values new)
+pub put_there : (items new : List Held) (m : Held) (i : ℕ) → BelongsAt m.0 (named_values items) i → new ≡ place_in items i m → PutsMember m.0 (quoted_view m.1.now) (named_values items) (named_values new)
 put_there items new m i at is = record {
   front = at.front;
   back = at.back;
@@ -142,18 +142,18 @@ still_sorted k j old new puts sorted =
 
 -- what is read of all members is what is read of the later ones once these are there
 abbrev pub ReadsOn : List (Bor (List ℕ) × Tree Global) → List (Bor (List ℕ) × Tree Global) → List Named → Type 0
-ReadsOn all later found = AreData found → of_members (members_view all) no_members ≡ of_members (members_view later) (data_members found)
+ReadsOn all later found = AreData found → of_members (quoted_members_view all) no_members ≡ of_members (quoted_members_view later) (data_members found)
 
-pub one_more : (all later more : List (Bor (List ℕ) × Tree Global)) (m : Bor (List ℕ) × Tree Global) (name : Key) (old new : List Named) → later ≡ m ∷ more → name ≡ m.0.now → PutsMember name (value_view m.1) old new
+pub one_more : (all later more : List (Bor (List ℕ) × Tree Global)) (m : Bor (List ℕ) × Tree Global) (name : Key) (old new : List Named) → later ≡ m ∷ more → name ≡ m.0.now → PutsMember name (quoted_view m.1) old new
     → ReadsOn all later old → ReadsOn all more new
 one_more all later more m name old new step named new_puts so_far = λ all_in_range.
     let k = m.0.now in
-    let j = value_view m.1 in
+    let j = quoted_view m.1 in
     let puts = subst (λ n. PutsMember n j old new) named new_puts in
     let parts = data_between k j puts.front puts.back (subst AreData puts.new_is all_in_range) in
-    let rest = members_view more in
+    let rest = quoted_members_view more in
     so_far (subst AreData (sym puts.old_is) parts.0)
-    ∙ ap (λ ms. of_members (members_view ms) (data_members old)) step
+    ∙ ap (λ ms. of_members (quoted_members_view ms) (data_members old)) step
     ∙ ap (option_and_then (λ d. of_members rest (put k d (data_members old)))) parts.1
     ∙ ap (λ ns. of_members rest (put k (data_of j) (data_members ns))) puts.old_is
     ∙ ap (of_members rest) (put_between k j puts.front puts.back puts.above puts.below ∙ ap data_members (sym puts.new_is))

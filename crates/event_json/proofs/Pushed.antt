@@ -17,11 +17,11 @@ use Rattle.event_model.specs.Lenient.{type_key}
 use Rattle.event_model.specs.declared.message.Kind.{Kind}
 use Rattle.event_model.proofs.Last.{above_front}
 use Rattle.event_model.proofs.Pairs.{Pairs, entries-from_entries, sorted_entries}
-use Rattle.event_json.specs.Decode.{opening, pairs_text}
+use Rattle.event_text.specs.Decode.{opening, pairs_text}
 use Rattle.event_json.specs.Direct.{last_behind, written, PutsPair}
-use Rattle.event_json.specs.Strict.{AreTyped}
-use Rattle.event_json.specs.Text.{pair_text}
-use Rattle.event_json.proofs.MessageText.{field_above}
+use Rattle.event_text.specs.Strict.{AreTyped}
+use Rattle.event_text.specs.Text.{pair_text}
+use Rattle.event_text.proofs.MessageText.{field_above}
 use Rattle.event_json.proofs.Putting.{fields_on, texts_on}
 
 last_above : (key from : Key) (es : Pairs) → is_lt (order from key) ≡ true → is_above_all key es ≡ true → is_lt (order (last_behind from es) key) ≡ true

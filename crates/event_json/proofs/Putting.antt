@@ -8,7 +8,7 @@ use Rattle.std.proofs.lemmas.List.{append-nil}
 use Rattle.std.specs.List.{list_all}
 use Rattle.field_types.proofs.KindByKind.{clean_text}
 use Rattle.json.specs.Json as json
-use Rattle.json.specs.Value.{value_view, members_view}
+use Rattle.event_json.specs.Quoted.{decimal_object, quoted_value, quoted_view, quoted_members_view}
 use Rattle.json.specs.declared.value.Value.{Value as Tree}
 use Rattle.scalar_text.specs.Number.{decimal_in}
 use Rattle.serde_json.specs.Data.{Data, null, boolean, number, unsigned, string, array, object, no_members, member}
@@ -17,7 +17,7 @@ use Rattle.base_types.specs.declared.memory.OutOfMemory.{OutOfMemory}
 use Rattle.field_types.specs.Cleaning.{clean, is_short, of_text, IsCleaned}
 use Rattle.field_types.specs.Field.{type_of}
 use Rattle.field_types.specs.Kept.{kept_value, IsKeptAs}
-use Rattle.field_types.specs.Strip.{strip}
+use Rattle.scalar_text.specs.Strip.{strip}
 use Rattle.field_types.specs.declared.fault.FieldFault.{FieldFault}
 use Rattle.field_types.specs.declared.kind.FieldType.{FieldType}
 use Rattle.field_types.specs.declared.texts.Kept.{Kept}
@@ -31,10 +31,10 @@ use Rattle.event_model.specs.declared.part.Part.TheVariants.{Nothing, Set}
 use Rattle.event_model.proofs.Gathering.{Leaves, pairs_of-append, bad_names-append}
 use Rattle.event_model.proofs.Pairs.{Pairs}
 use Rattle.event_model.proofs.Parts.{part_field}
-use Rattle.event_json.specs.Decode.{pairs_text}
-use Rattle.event_json.specs.Direct.{data_of, data_members, named_values, or_null, Named, AreItems, IsDecimal, IsWhole, PutsCleaned, PutsKept, PutsLeaves, PutsAll, PutsAt, PutsMembers, PutsTree, PutsValue, Rise, Written}
-use Rattle.event_json.specs.Strict.{AreTyped, is_utf8_pair}
-use Rattle.event_json.specs.Text.{pair_text}
+use Rattle.event_text.specs.Decode.{pairs_text}
+use Rattle.event_json.specs.Direct.{data_of, data_members, named_values, or_null, Named, AreItems, IsDecimal, IsDecimalNumeral, IsWhole, PutsCleaned, PutsKept, PutsLeaves, PutsAll, PutsAt, PutsMembers, PutsTree, PutsValue, Rise, Written}
+use Rattle.event_text.specs.Strict.{AreTyped, is_utf8_pair}
+use Rattle.event_text.specs.Text.{pair_text}
 use Rattle.event_json.proofs.Placing.{Held}
 
 pub puts_nothing : (line : Written) → PutsLeaves [] line line
@@ -174,16 +174,18 @@ pub flag_put : (key : List ℕ) (b : Bool) (old new : Written) → PutsValue key
 unfolding value_of
 flag_put key b old new puts = record { in_range = refl; puts = leaf_put key (boolean b) (as_value.Flag b) old new refl refl puts }
 
-pub whole_put : (key numeral : List ℕ) (n : ℤ) (old new : Written) → IsWhole numeral n → PutsValue key (as_value.Whole n) old new → PutsTree key (json.number numeral) old new
+pub whole_put : (key numeral : List ℕ) (n : ℤ) (old new : Written) → IsWhole numeral n → PutsValue key (as_value.Whole n) old new → PutsTree key (quoted_value (json.number numeral)) old new
 unfolding value_of
 whole_put key numeral n old new is puts =
     let d = number (unsigned is.value) in
+    let seen : quoted_value (json.number numeral) ≡ json.number numeral = ap (λ b. if b then decimal_object numeral else json.number numeral) is.whole in
     let read : of_json (json.number numeral) ≡ Some d = ap (option_map number) is.read in
     let found : data_of (json.number numeral) ≡ d = ap or_null read in
     let short : is_short (pos is.value) ≡ true = ap is_short (sym is.is) ∙ is.short in
     let value : value_of d ≡ Some (as_value.Whole n) =
     ap (λ (b : Bool). option_map as_value.Whole (if b then Some (pos is.value) else None)) short ∙ ap (λ (k : ℤ). Some (as_value.Whole k)) (sym is.is) in
-    record { in_range = read ∙ ap Some (sym found); puts = subst (λ (t : Data). PutsLeaves (leaves key t) old new) (sym found) (leaf_put key d (as_value.Whole n) old new refl value puts) }
+    subst (λ j. PutsTree key j old new) (sym seen)
+    (record { in_range = read ∙ ap Some (sym found); puts = subst (λ (t : Data). PutsLeaves (leaves key t) old new) (sym found) (leaf_put key d (as_value.Whole n) old new refl value puts) })
 
 pub list_put : (key : List ℕ) (js : json.Items) (items : List Item) (old new : Written) → AreItems js items → PutsValue key (as_value.List items) old new → PutsTree key (json.array js) old new
 unfolding value_of
@@ -203,10 +205,15 @@ decimal_here key lexeme n old new is puts =
     let single : leaves key d ≡ (key, d) ∷ [] = ap (λ (b : Bool). if b then leaves_in key (member dec_key (string lexeme) no_members) else (key, d) ∷ []) (and-false (flattens key)) in
     record { in_range = refl; puts = subst (λ all. PutsLeaves all old new) (sym single) (leaf_put key d (as_value.Decimal n) old new refl value puts) }
 
-pub decimal_put : (key : List ℕ) (m : Bor (List ℕ) × Tree Global) (members : List (Bor (List ℕ) × Tree Global)) (n : ℤ) (old new : Written) → members ≡ m ∷ [] → IsDecimal m.0.now (value_view m.1) n
-    → PutsValue key (as_value.Decimal n) old new → PutsTree key (json.object (members_view members)) old new
+pub decimal_put : (key : List ℕ) (m : Bor (List ℕ) × Tree Global) (members : List (Bor (List ℕ) × Tree Global)) (n : ℤ) (old new : Written) → members ≡ m ∷ [] → IsDecimal m.0.now (quoted_view m.1) n
+    → PutsValue key (as_value.Decimal n) old new → PutsTree key (json.object (quoted_members_view members)) old new
 decimal_put key m members n old new single is puts =
-    subst (λ js. PutsTree key (json.object js) old new) (sym (ap members_view single ∙ ap₂ (λ k j. json.member k j json.no_members) is.named is.text)) (decimal_here key is.lexeme n old new is.read puts)
+    subst (λ js. PutsTree key (json.object js) old new) (sym (ap quoted_members_view single ∙ ap₂ (λ k j. json.member k j json.no_members) is.named is.text)) (decimal_here key is.lexeme n old new is.read puts)
+
+pub numeral_put : (key numeral : List ℕ) (n : ℤ) (old new : Written) → IsDecimalNumeral numeral n → PutsValue key (as_value.Decimal n) old new → PutsTree key (quoted_value (json.number numeral)) old new
+numeral_put key numeral n old new is puts =
+    let seen : quoted_value (json.number numeral) ≡ decimal_object numeral = ap (λ b. if b then decimal_object numeral else json.number numeral) is.decimal in
+    subst (λ j. PutsTree key j old new) (sym seen) (decimal_here key numeral n old new is.read puts)
 
 -- ---- members, one after the other
 

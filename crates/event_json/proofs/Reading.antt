@@ -1,5 +1,5 @@
 -- A text that is read as a message without a tree that owns its texts.
-use Rattle.std.proofs.Common.{◌≡◌, ℕ, List, [], ◌∷◌, ◌++◌, Bool, true, Option, Some, None, Result, Ok, Err, IfOk, IfSome, OnOk, IsUtf8, is_some, option_map, option_and_then, if◌then◌else◌, sym, ap, subst, ◌∙◌}
+use Rattle.std.proofs.Common.{◌≡◌, ℕ, List, [], ◌∷◌, ◌++◌, Bool, true, Option, Some, None, Result, Ok, Err, IfOk, OnOk, IsUtf8, is_some, option_map, option_and_then, if◌then◌else◌, sym, ap, subst, ◌∙◌}
 use Rattle.json.specs.Json as json
 use Rattle.json.specs.Json.{if_last, value}
 use Rattle.json.specs.Lex.{tokens}
@@ -11,19 +11,22 @@ use Rattle.base_types.specs.declared.memory.OutOfMemory.{OutOfMemory}
 use Rattle.scalar_text.specs.Quote.{quote}
 use Rattle.event_model.specs.Lenient.{kind_of, leaves_of, least, lenient_tree, of_kind, set_all, type_key, with_fields}
 use Rattle.event_model.specs.Lenient as lenient_of
-use Rattle.event_model.specs.Trees.{json_of, lexeme_in, tree_in}
+use Rattle.event_model.specs.Trees.{lexeme_in, tree_in}
 use Rattle.event_model.specs.declared.fault.ReadFault.TheVariants as fault
 use Rattle.event_model.specs.declared.message.Kind.{Kind}
 use Rattle.event_model.specs.declared.message.Message.{Message}
 use Rattle.event_model.proofs.Bytes.{json_of-read}
-use Rattle.event_json.specs.Decode.{opening, pairs_text}
+use Rattle.event_text.specs.Decode.{opening, pairs_text}
 use Rattle.event_json.specs.Direct.{Named, data_members, AreData, HasText, IsMessageOf, IsMessageOfTree, PutsAll, ReadsAs, Rise, Written}
-use Rattle.event_json.specs.Lenient.{lenient, of_tree, PutsText}
+use Rattle.event_text.specs.Lenient.{lenient, of_tree, PutsText}
+use Rattle.event_json.specs.Quoted.{quoted_value}
 use Rattle.event_json.proofs.Putting.{if_taken}
+use Rattle.event_json.proofs.QuotedUtf8.{quoted_utf8}
+use Rattle.event_json.proofs.QuotedValues.{value_of_quoted}
 use Rattle.event_json.proofs.Rising.{entries_of, sorted_of, text_of_rising}
-use Rattle.event_json.specs.Strict.{AreTyped, IsTyped}
-use Rattle.event_json.specs.Text.{message_text}
-use Rattle.event_json.proofs.Exact.{strict-reads}
+use Rattle.event_text.specs.Strict.{AreTyped, IsTyped}
+use Rattle.event_text.specs.Text.{message_text}
+use Rattle.event_text.proofs.Exact.{strict-reads}
 
 -- the text that was put together is that of the message
 pub message_is : (js : json.Members) (ordered : List Named) (kind : Kind) (opened put : Written) (text : List ℕ) → (AreData ordered → of_members js no_members ≡ Some (data_members ordered)) → lexeme_in (data_members ordered) ≡ None
@@ -45,10 +48,10 @@ message_is js ordered kind opened put text reads none is begun puts ended =
       text_is = ended ∙ ap (λ (t : List ℕ). t ++ 125 ∷ []) (puts.puts.text ∙ ap (λ (l : Written). l.0 ++ pairs_text pairs) begun) ∙ sym (text_of_rising kind pairs put.1 rise);
     }
 
-whole : (text : List ℕ) (j : json.Json) → value 127 (tokens text) ≡ Some (j, []) → read text ≡ of_json j
-whole text j is = ap (λ o. option_and_then of_json (option_and_then (λ p. if_last p.0 p.1) o)) is
+whole : (text : List ℕ) (j : json.Json) → value 126 (tokens text) ≡ Some (j, []) → read (quote text) ≡ of_json (quoted_value j)
+whole text j is = ap (λ o. option_and_then of_json (option_and_then (λ p. if_last p.0 p.1) o)) (value_of_quoted 126 text j is)
 
-reads_tree : (text : List ℕ) (j : json.Json) (message : Message) → value 127 (tokens text) ≡ Some (j, []) → IsMessageOfTree j message → ReadsAs text message
+reads_tree : (text : List ℕ) (j : json.Json) (message : Message) → read (quote text) ≡ of_json j → IsMessageOfTree j message → ReadsAs text message
 unfolding lenient_tree
 reads_tree text json.null message is of = absurd of
 reads_tree text (json.boolean b) message is of = absurd of
@@ -57,32 +60,26 @@ reads_tree text (json.string s) message is of = absurd of
 reads_tree text (json.array js) message is of = absurd of
 reads_tree text (json.object ms) message is of = record {
   tree = object of.members;
-  read = whole text (json.object ms) is ∙ ap (option_map object) of.in_range;
+  read = is ∙ ap (option_map object) of.in_range;
   is = of.read;
 }
 
-quoted_read : (bytes text : List ℕ) (message : Message) → text ≡ bytes → IsUtf8 bytes → ReadsAs text message → of_tree (json_of bytes) ≡ Ok message
-quoted_read bytes text message same good reads = ap of_tree (json_of-read bytes reads.tree good (ap read (sym same) ∙ reads.read)) ∙ reads.is
-
-lenient_quoted : (bytes q : List ℕ) (message : Message) → q ≡ quote bytes → of_tree (json_of q) ≡ Ok message → lenient bytes ≡ Ok message
+read_lenient : (bytes text : List ℕ) (message : Message) → text ≡ bytes → IsUtf8 bytes → ReadsAs text message → lenient bytes ≡ Ok message
 unfolding lenient tree_in
-lenient_quoted bytes q message same is = ap (λ t. of_tree (json_of t)) (sym same) ∙ is
+read_lenient bytes text message same good reads =
+    ap of_tree (json_of-read (quote bytes) reads.tree (quoted_utf8 bytes good) (ap (λ t. read (quote t)) (sym same) ∙ reads.read)) ∙ reads.is
 
 -- what is said of the message of a text that was taken
 pub text_on : (r : Result Bool OutOfMemory) (text : List ℕ) (P Q : Message → Type 0) → ((m : Message) → P m → Q m) → IfOk r (λ taken. taken ≡ true → HasText P text) → IfOk r (λ taken. taken ≡ true → HasText Q text)
 text_on r text P Q f = if_taken r _ _ (λ has. record { message = has.message; is = f has.message has.is; typed = has.typed; text_is = has.text_is })
 
-pub all_quoted : (bytes text line : List ℕ) (r : Result Bool OutOfMemory) → text ≡ bytes → IsUtf8 bytes → IfOk r (λ taken. taken ≡ true → HasText (ReadsAs text) line)
-    → IfOk r (λ taken. taken ≡ true → HasText (λ m. of_tree (json_of bytes) ≡ Ok m) line)
-all_quoted bytes text line r same good = text_on r line _ _ (λ m. quoted_read bytes text m same good)
-
-pub all_lenient : (bytes q line : List ℕ) (r : Result Bool OutOfMemory) → q ≡ quote bytes → IfOk r (λ taken. taken ≡ true → HasText (λ m. of_tree (json_of q) ≡ Ok m) line)
+pub all_lenient : (bytes text line : List ℕ) (r : Result Bool OutOfMemory) → text ≡ bytes → IsUtf8 bytes → IfOk r (λ taken. taken ≡ true → HasText (ReadsAs text) line)
     → IfOk r (λ taken. taken ≡ true → HasText (λ m. lenient bytes ≡ Ok m) line)
-all_lenient bytes q line r same = text_on r line _ _ (λ m. lenient_quoted bytes q m same)
+all_lenient bytes text line r same good = text_on r line _ _ (λ m. read_lenient bytes text m same good)
 
-pub all_read : (text line : List ℕ) (j : json.Json) (r : Result Bool OutOfMemory) → value 127 (tokens text) ≡ Some (j, []) → IfOk r (λ taken. taken ≡ true → HasText (IsMessageOfTree j) line)
+pub all_read : (text line : List ℕ) (j : json.Json) (r : Result Bool OutOfMemory) → value 126 (tokens text) ≡ Some (j, []) → IfOk r (λ taken. taken ≡ true → HasText (IsMessageOfTree (quoted_value j)) line)
     → IfOk r (λ taken. taken ≡ true → HasText (ReadsAs text) line)
-all_read text line j r is = text_on r line _ _ (λ m. reads_tree text j m is)
+all_read text line j r is = text_on r line _ _ (λ m. reads_tree text (quoted_value j) m (whole text j is))
 
 pub all_objects : (j : json.Json) (js : json.Members) (line : List ℕ) (r : Result Bool OutOfMemory) → j ≡ json.object js → IfOk r (λ taken. taken ≡ true → HasText (IsMessageOf js) line)
     → IfOk r (λ taken. taken ≡ true → HasText (IsMessageOfTree j) line)
@@ -99,11 +96,3 @@ the_read bytes text message has is typed =
 pub puts_text : {A E : Type 0} (r : Result A E) (bytes line text old new : List ℕ) → HasText (λ m. lenient bytes ≡ Ok m) line → text ≡ line → OnOk r (new ≡ old ++ text) → OnOk r (PutsText (lenient bytes) old new)
 puts_text (Ok a) bytes line text old new has same is = record { message = has.message; read = has.is; text = is ∙ ap (λ (t : List ℕ). old ++ t) (same ∙ has.text_is) }
 puts_text (Err e) bytes line text old new has same is = tt
-
--- the same of a text that was read without a look for decimals
-pub found_lenient : (bytes text line : List ℕ) (r : Result (Option Bool) OutOfMemory) → text ≡ bytes → IsUtf8 bytes → IfOk r (λ found. IfSome found (λ taken. taken ≡ true → HasText (ReadsAs text) line))
-    → IfOk r (λ found. IfSome found (λ taken. taken ≡ true → quote text ≡ text)) → IfOk r (λ found. IfSome found (λ taken. taken ≡ true → HasText (λ m. lenient bytes ≡ Ok m) line))
-found_lenient bytes text line (Err e) same good has stays = tt
-found_lenient bytes text line (Ok None) same good has stays = tt
-found_lenient bytes text line (Ok (Some taken)) same good has stays = λ is.
-    all_lenient bytes bytes line (Ok taken) (sym same ∙ sym (stays is) ∙ ap quote same) (all_quoted bytes text line (Ok taken) same good has) is

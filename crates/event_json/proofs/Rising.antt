@@ -9,10 +9,10 @@ use Rattle.event_model.specs.Lenient.{set_all, type_key}
 use Rattle.event_model.specs.declared.message.Kind.{Kind}
 use Rattle.event_model.proofs.Pairs.{Pairs, entries-from_entries}
 use Rattle.event_model.proofs.Settling.{rising_set}
-use Rattle.event_json.specs.Decode.{opening, pairs_text}
+use Rattle.event_text.specs.Decode.{opening, pairs_text}
 use Rattle.event_json.specs.Direct.{Rise}
-use Rattle.event_json.specs.Text.{message_text}
-use Rattle.event_json.proofs.MessageText.{message_text-above}
+use Rattle.event_text.specs.Text.{message_text}
+use Rattle.event_text.proofs.MessageText.{message_text-above}
 
 below_from : (x from : Key) (pairs : Pairs) (to : Key) → order x from ≡ Less → Rise from pairs to → below_all order x pairs ≡ true
 below_from x from [] to less rise = refl

@@ -8,15 +8,16 @@ use Rattle.std.specs.FinMap.{entries}
 use Rattle.std.specs.FinMap.Entries.{below_all}
 use Rattle.std.specs.List.{AllByRecursion}
 use Rattle.json.specs.Json as json
-use Rattle.json.specs.Value.{value_view, members_view}
+use Rattle.event_json.specs.Quoted.{quoted_view, quoted_members_view}
 use Rattle.json.specs.declared.value.Value.{Value as Tree}
 use Rattle.serde_json.specs.Data.{Data, null, unsigned, Items, Members, no_members, member}
 use Rattle.serde_json.specs.Read.{of_json, of_items, of_members, number_of, read as read_json}
 use Rattle.base_types.specs.Place.{is_above_all}
 use Rattle.scalar_text.specs.Number.{decimal_in}
+use Rattle.scalar_text.specs.Quote.{is_decimal, quote}
 use Rattle.field_types.specs.Cleaning.{is_short}
 use Rattle.field_types.specs.Kept.{kept_value}
-use Rattle.field_types.specs.Writing.{quoted}
+use Rattle.base_types.specs.JsonText.{quoted}
 use Rattle.field_types.specs.declared.fault.FieldFault.{FieldFault}
 use Rattle.field_types.specs.declared.kind.FieldType.{FieldType}
 use Rattle.field_types.specs.declared.kind.FieldType.TheVariants as kind
@@ -28,9 +29,9 @@ use Rattle.event_model.specs.Lenient.{bad_names, pairs_of, leaves, leaves_at, le
 use Rattle.event_model.specs.Trees.{dec_key, item_of, items_of}
 use Rattle.event_model.specs.declared.message.Kind.{Kind}
 use Rattle.event_model.specs.declared.message.Message.{Message}
-use Rattle.event_json.specs.Decode.{opening, pairs_text}
-use Rattle.event_json.specs.Strict.{AreTyped, is_utf8_pair, IsTyped}
-use Rattle.event_json.specs.Text.{pair_text, message_text}
+use Rattle.event_text.specs.Decode.{opening, pairs_text}
+use Rattle.event_text.specs.Strict.{AreTyped, is_utf8_pair, IsTyped}
+use Rattle.event_text.specs.Text.{pair_text, message_text}
 
 -- ---- the data of JSON values
 
@@ -52,6 +53,12 @@ pub record IsWhole (numeral : List ℕ) (n : ℤ) : Type 0 where
   pub is : n ≡ pos value
   pub read : number_of numeral ≡ Some (unsigned value)
   pub short : is_short n ≡ true
+  pub whole : is_decimal numeral ≡ false
+
+-- the decimal that a numeral writes
+pub record IsDecimalNumeral (numeral : List ℕ) (n : ℤ) : Type 0 where
+  pub decimal : is_decimal numeral ≡ true
+  pub read : decimal_in numeral ≡ Some n
 
 -- a decimal under quotes, by its name and its value
 pub record IsDecimal (name : List ℕ) (j : json.Json) (n : ℤ) : Type 0 where
@@ -78,7 +85,7 @@ Named = List ℕ × json.Json
 
 -- names and values of members
 abbrev pub named_values : List (List ℕ × Bor (Tree Global)) → List Named
-named_values ms = map (λ m. (m.0, value_view m.1.now)) ms
+named_values ms = map (λ m. (m.0, quoted_view m.1.now)) ms
 
 -- the members of their data
 abbrev pub data_members : List Named → Members
@@ -100,7 +107,7 @@ pub record PutsMember (name : List ℕ) (j : json.Json) (old new : List Named) :
 
 -- what is read of the members are these, in byte order of their names
 abbrev pub ReadsInOrder : List (Bor (List ℕ) × Tree Global) → List Named → Type 0
-ReadsInOrder members ordered = AreData ordered → of_members (members_view members) no_members ≡ Some (data_members ordered)
+ReadsInOrder members ordered = AreData ordered → of_members (quoted_members_view members) no_members ≡ Some (data_members ordered)
 
 -- ---- what is put into a text
 
@@ -215,10 +222,10 @@ IsMessageOfTree (json.string s) message = ⊥
 IsMessageOfTree (json.array js) message = ⊥
 IsMessageOfTree (json.object ms) message = IsMessageOf ms message
 
--- the tree of the text is the message
+-- the tree of the text, its decimals under quotes, is the message
 pub record ReadsAs (text : List ℕ) (message : Message) : Type 0 where
   pub tree : Data
-  pub read : read_json text ≡ Some tree
+  pub read : read_json (quote text) ≡ Some tree
   pub is : lenient_tree tree ≡ Ok message
 
 -- the text is that of such a message

@@ -1,10 +1,4 @@
--- what public contracts cite
-pub mod Exact
-pub mod Lenient
-pub mod Strict
-pub mod Text
 -- what only proofs and private contracts use
-pub mod Decode
 pub mod Direct
-pub mod Plain
 pub mod Put
+pub mod Quoted

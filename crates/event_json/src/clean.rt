@@ -1,37 +1,20 @@
 //! The lenient reading of messages.
-ghost use Rattle.std.specs.Prelude.{◌≡◌, ◌++◌, ◌∷◌, [], Ok, Err, IfErr, IfOk, IfSome, IsErr, MatchResult, OnErr, OnOk, true};
+ghost use Rattle.std.specs.Prelude.{◌≡◌, ◌++◌, ◌∷◌, [], Ok, Err, IfErr, IfOk, IsErr, MatchResult, OnErr, OnOk, true};
 ghost use Rattle.event_model.specs.Lenient.{IsFaultOf};
-ghost use Rattle.event_model.specs.Trees.{json_of};
 ghost use Rattle.event_json.specs.Direct.{ended, HasText};
-ghost use Rattle.event_json.specs.Lenient.{lenient, of_tree, PutsText};
+ghost use Rattle.event_text.specs.Lenient.{lenient, PutsText};
 
-use crate::direct::{write_plain, write_text};
+use crate::direct::write_text;
 use crate::line::Line;
-use crate::write::write_message;
 use base_types::OutOfMemory;
-use event_model::{Message, ReadFault, clean_tree, read_tree};
+use event_model::{Message, ReadFault};
+use event_text::{clean_any, write_message};
 use json::Scratch;
-use scalar_text::{has_decimals, quote_decimals};
 use std::alloc::Global;
 use std::str;
 
-// Makes the line the message of bytes whose decimals stand under quotes, or its text, where they are of the usual forms.
-fn write_quoted(
-    alloc: Global,
-    bytes: &[u8],
-    scratch: &mut Scratch,
-    line: &mut Line,
-) -> Result<bool, OutOfMemory>
-    ensures { IfOk result (λ taken. taken ≡ true → HasText (λ message. of_tree (json_of bytes.now) ≡ Ok message) (ended line.new)) }
-{
-    match str::from_utf8(bytes) {
-        Ok(text) => write_text(alloc, text, scratch, line),
-        Err(_) => Ok(false),
-    }
-}
-
-// Makes the line the message of bytes of the usual forms, or its text, after a look for decimals.
-fn write_scanned(
+// Makes the line the message of bytes of the usual forms, or its text.
+fn write_line(
     alloc: Global,
     bytes: &[u8],
     scratch: &mut Scratch,
@@ -39,36 +22,9 @@ fn write_scanned(
 ) -> Result<bool, OutOfMemory>
     ensures { IfOk result (λ taken. taken ≡ true → HasText (λ message. lenient bytes.now ≡ Ok message) (ended line.new)) }
 {
-    if !has_decimals(bytes) {
-        return write_quoted(alloc, bytes, scratch, line);
-    }
-    let quoted = quote_decimals(alloc, bytes)?;
-    write_quoted(alloc, quoted.bytes(), scratch, line)
-}
-
-// The same without that look: nothing where there may be decimals.
-fn write_unscanned(
-    alloc: Global,
-    bytes: &[u8],
-    scratch: &mut Scratch,
-    line: &mut Line,
-) -> Result<Option<bool>, OutOfMemory>
-    ensures { IfOk result (λ found. IfSome found (λ taken. taken ≡ true → HasText (λ message. lenient bytes.now ≡ Ok message) (ended line.new))) }
-{
     match str::from_utf8(bytes) {
-        Ok(text) => write_plain(alloc, text, scratch, line),
-        Err(_) => Ok(Some(false)),
-    }
-}
-
-/// The message of any bytes, or their first fault, by a tree.
-#[tactic(auto, unfolding(crate::specs::Lenient::lenient))]
-pub fn clean_any(alloc: Global, bytes: &[u8]) -> Result<Message, ReadFault>
-    ensures { MatchResult result (λ message. lenient bytes.now ≡ Ok message) (IsFaultOf (lenient bytes.now)) }
-{
-    match read_tree(alloc, bytes) {
-        Ok(tree) => clean_tree(alloc, &tree),
-        Err(fault) => Err(fault),
+        Ok(text) => write_text(alloc, text, scratch, line),
+        Err(_) => Ok(false),
     }
 }
 
@@ -141,40 +97,10 @@ fn push_line(alloc: Global, bytes: &[u8], line: &Line, out: &mut Vec<u8>) -> Res
     }
 }
 
-// Behind a message with decimals, so many are looked through for decimals ahead of their reading.
-const SCANS: u8 = 64;
-
-// Reads messages of the usual forms, in memory that it keeps.
-#[derive(Drop)]
-struct Usual {
-    scratch: Scratch,
-    // How many of the next messages are looked through for decimals first. Where there are none, reading shows it.
-    scans: u8,
-}
-
-impl Usual {
-    // Makes the line the message of bytes of the usual forms, or its text.
-    fn write(&mut self, alloc: Global, bytes: &[u8], line: &mut Line) -> Result<bool, OutOfMemory>
-        ensures { IfOk result (λ taken. taken ≡ true → HasText (λ message. lenient bytes.now ≡ Ok message) (ended line.new)) }
-    {
-        if self.scans > 0 {
-            self.scans -= 1;
-            return write_scanned(alloc, bytes, &mut self.scratch, line);
-        }
-        match write_unscanned(alloc, bytes, &mut self.scratch, line)? {
-            Some(taken) => Ok(taken),
-            None => {
-                self.scans = SCANS;
-                write_scanned(alloc, bytes, &mut self.scratch, line)
-            }
-        }
-    }
-}
-
 /// Reads messages leniently, one after the other, in memory that it keeps.
 #[derive(Drop)]
 pub struct Cleaner {
-    usual: Usual,
+    scratch: Scratch,
     // The text of the last message.
     line: Line,
 }
@@ -183,10 +109,7 @@ impl Cleaner {
     /// It takes no memory yet.
     pub fn new(alloc: Global) -> Self {
         Cleaner {
-            usual: Usual {
-                scratch: Scratch::new(alloc),
-                scans: 0,
-            },
+            scratch: Scratch::new(alloc),
             line: Line::of_text(alloc),
         }
     }
@@ -203,7 +126,7 @@ impl Cleaner {
         ensures fault { IfErr result (IsFaultOf (lenient bytes.now)) }
         ensures same { OnErr result (out.new.items ≡ out.old.items) }
     {
-        match self.usual.write(alloc, bytes, &mut self.line) {
+        match write_line(alloc, bytes, &mut self.scratch, &mut self.line) {
             Ok(true) => push_line(alloc, bytes, &self.line, out),
             Ok(false) => push_any(alloc, bytes, out),
             Err(OutOfMemory) => Err(ReadFault::OutOfMemory),
@@ -216,7 +139,7 @@ impl Cleaner {
         ensures { MatchResult result (λ message. lenient bytes.now ≡ Ok message) (IsFaultOf (lenient bytes.now)) }
     {
         let mut line = Line::of_message(alloc);
-        match self.usual.write(alloc, bytes, &mut line) {
+        match write_line(alloc, bytes, &mut self.scratch, &mut line) {
             Ok(true) => message_of(alloc, bytes, line),
             Ok(false) => clean_any(alloc, bytes),
             Err(OutOfMemory) => Err(ReadFault::OutOfMemory),

@@ -2,15 +2,14 @@
 ghost use Rattle.std.specs.Prelude.{◌≡◌, [], true, Some, IfOk, IfSome};
 ghost use Rattle.json.specs.Json.{value};
 ghost use Rattle.json.specs.Lex.{tokens};
-ghost use Rattle.json.specs.Value.{value_view, members_view};
+ghost use Rattle.json.specs.Value.{value_view};
 ghost use Rattle.serde_json.specs.Find.{get_member};
-ghost use Rattle.scalar_text.specs.Quote.{quote};
 ghost use Rattle.event_model.specs.Lenient.{kind_of, type_key};
+ghost use Rattle.event_json.specs.Quoted.{quoted_view, quoted_members_view};
 ghost use Rattle.event_json.specs.Direct.{data_members, named_values, kind_in, ended, HasText, IsMessageOf, IsMessageOfTree, ReadsAs, PutsAt, PutsAll};
 
 use crate::leaf::{may_be_decimal, push_tree};
 use crate::line::Line;
-use crate::numbers::is_plain;
 use crate::ordered::{Member, in_order};
 use base_types::OutOfMemory;
 use event_model::{Kind, kind_of_word};
@@ -20,18 +19,15 @@ use std::alloc::Global;
 
 const TYPE_KEY: &str = "__type";
 
-// As deep as `serde_json` reads.
-const READ_DEPTH: usize = 127;
-
-// What has fields nests no deeper, a list in an object below the others.
-const PLAIN_DEPTH: usize = 18;
+// Nearly as deep as `serde_json` reads: a decimal under quotes nests once more.
+const READ_DEPTH: usize = 126;
 
 // Objects of fields nest less.
 const FIELD_DEPTH: usize = 16;
 
 // The kind that a value under `__type` says.
 fn kind_of_value(value: &Tree<'_>) -> Option<Kind>
-    ensures { IfSome result (λ kind. kind_in (value_view value.now) ≡ Some kind) }
+    ensures { IfSome result (λ kind. kind_in (quoted_view value.now) ≡ Some kind) }
 {
     match value {
         Tree::String(word) => kind_of_word(word),
@@ -60,7 +56,7 @@ fn push_member<'m, 't>(
     value: &'m Tree<'t>,
     line: &mut Line,
 ) -> Result<bool, OutOfMemory>
-    ensures { IfOk result (λ taken. taken ≡ true → PutsAt name.now (value_view value.now) line.old line.new) }
+    ensures { IfOk result (λ taken. taken ≡ true → PutsAt name.now (quoted_view value.now) line.old line.new) }
 {
     if name.as_str() == TYPE_KEY {
         return Ok(matches!(value, Tree::String(_)));
@@ -91,7 +87,7 @@ fn write_members<'m, 't>(
     members: &'m [(&'t str, Tree<'t>)],
     line: &mut Line,
 ) -> Result<bool, OutOfMemory>
-    ensures { IfOk result (λ taken. taken ≡ true → HasText (IsMessageOf (members_view members.now)) (ended line.new)) }
+    ensures { IfOk result (λ taken. taken ≡ true → HasText (IsMessageOf (quoted_members_view members.now)) (ended line.new)) }
 {
     let Some(ordered) = in_order(alloc, members)? else {
         return Ok(false);
@@ -116,7 +112,7 @@ fn tree_of<'t>(
     text: &'t str,
     scratch: &'t mut Scratch,
 ) -> Result<Option<Tree<'t>>, OutOfMemory>
-    ensures { IfOk result (λ found. IfSome found (λ tree. value 127 (tokens text.now) ≡ Some (value_view tree, []))) }
+    ensures { IfOk result (λ found. IfSome found (λ tree. value 126 (tokens text.now) ≡ Some (value_view tree, []))) }
 {
     let Ok(mut reader) = Reader::new(text, scratch) else {
         return Err(OutOfMemory);
@@ -138,7 +134,7 @@ fn write_tree<'m, 't>(
     tree: &'m Tree<'t>,
     line: &mut Line,
 ) -> Result<bool, OutOfMemory>
-    ensures { IfOk result (λ taken. taken ≡ true → HasText (IsMessageOfTree (value_view tree.now)) (ended line.new)) }
+    ensures { IfOk result (λ taken. taken ≡ true → HasText (IsMessageOfTree (quoted_view tree.now)) (ended line.new)) }
 {
     match tree {
         Tree::Object(members) => write_members(alloc, members, line),
@@ -160,26 +156,4 @@ pub fn write_text(
         return Ok(false);
     };
     write_tree(alloc, &tree, line)
-}
-
-/// As `write_text`, of a text in which there is no decimal to put under quotes: nothing where there may be one.
-pub fn write_plain(
-    alloc: Global,
-    text: &str,
-    scratch: &mut Scratch,
-    line: &mut Line,
-) -> Result<Option<bool>, OutOfMemory>
-    ensures text { IfOk result (λ found. IfSome found (λ taken. taken ≡ true → HasText (ReadsAs text.now) (ended line.new))) }
-    ensures plain { IfOk result (λ found. IfSome found (λ taken. taken ≡ true → quote text.now ≡ text.now)) }
-{
-    let Some(tree) = tree_of(alloc, text, scratch)? else {
-        return Ok(Some(false));
-    };
-    if !is_plain(&tree, PLAIN_DEPTH) {
-        return Ok(None);
-    }
-    match write_tree(alloc, &tree, line) {
-        Ok(taken) => Ok(Some(taken)),
-        Err(OutOfMemory) => Err(OutOfMemory),
-    }
 }

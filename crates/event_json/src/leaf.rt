@@ -1,27 +1,26 @@
 //! What the values of JSON members put into a canonical text.
 ghost use Rattle.std.specs.Prelude.{◌≡◌, ◌==◌, ◌∷◌, [], true, false, flat_map, None, Some, IfOk, IfSome, slice_index, string_bytes};
-ghost use Rattle.json.specs.Json.{object};
-ghost use Rattle.json.specs.Value.{value_view, items_view, members_view};
-ghost use Rattle.serde_json.specs.Data.{string, unsigned};
-ghost use Rattle.serde_json.specs.Read.{number_from};
+ghost use Rattle.json.specs.Json.{number, object};
+ghost use Rattle.event_json.specs.Quoted.{quoted_value, quoted_view, quoted_items_view, quoted_members_view};
+ghost use Rattle.serde_json.specs.Data.{string};
 ghost use Rattle.event_model.specs.Fields.{IsField};
 ghost use Rattle.event_model.specs.Lenient.{member_name};
 ghost use Rattle.event_model.specs.Trees.{lexeme_in};
 ghost use Rattle.field_types.specs.Field.{type_of};
 ghost use Rattle.field_types.specs.Kept.{kept_value};
-ghost use Rattle.field_types.specs.Writing.{escaped};
-ghost use Rattle.event_json.specs.Direct.{data_members, named_values, is_extra, IsItem, IsDecimal, AreItems, IsWhole, PutsCleaned, PutsKept, PutsLeaves, PutsValue, PutsTree, PutsMembers};
+ghost use Rattle.base_types.specs.JsonText.{escaped};
+ghost use Rattle.event_json.specs.Direct.{data_members, named_values, is_extra, IsItem, IsDecimal, AreItems, PutsCleaned, PutsKept, PutsLeaves, PutsValue, PutsTree, PutsMembers};
 
 use crate::line::Line;
+use crate::numbers::{decimal_in, whole_in};
 use crate::ordered::{Member, in_order};
 use base_types::{OutOfMemory, Text};
 use event_model::{flattens, is_dropped_text};
-use fast_float::Numeral;
 use field_types::{
-    FieldFault, FieldKey, FieldType, Item, ItemList, Kept, Value, keep, sanitise_own, strip,
+    FieldFault, FieldKey, FieldType, Item, ItemList, Kept, Value, keep, sanitise_own,
 };
 use json::Value as Tree;
-use scalar_text::read_decimal;
+use scalar_text::{read_decimal, strip};
 use std::alloc::Global;
 
 const DEC_KEY: &str = "$dec";
@@ -29,38 +28,9 @@ const DEC_KEY: &str = "$dec";
 // No field has a longer name.
 const LONGEST_NAME: usize = 206;
 
-// A whole number of more than 18 digits is none that a field takes.
-const TOO_LONG: u64 = 1_000_000_000_000_000_000;
-
-fn has_minus(numeral: &[u8]) -> bool
-    ensures { result ≡ (slice_index numeral.now 0 == 45) }
-{
-    !numeral.is_empty() && numeral[0] == b'-'
-}
-
-fn unsigned(numeral: &Numeral<'_>) -> Option<u64>
-    ensures { IfSome result (λ n. number_from false numeral.now ≡ Some (unsigned n)) }
-{
-    numeral.to_u64()
-}
-
-// The whole number that a numeral writes, if it has no minus and at most 18 digits.
-fn whole_in(numeral: &str) -> Option<i64>
-    ensures { IfSome result (IsWhole numeral.now) }
-{
-    let bytes = numeral.as_bytes();
-    if has_minus(bytes) {
-        return None;
-    }
-    match unsigned(&Numeral::scan(bytes)) {
-        Some(n) if n < TOO_LONG => Some(n as i64),
-        _ => None,
-    }
-}
-
-// The text of a decimal under quotes.
-fn decimal_in(name: &str, value: &Tree<'_>) -> Option<i64>
-    ensures { IfSome result (IsDecimal name.now (value_view value.now)) }
+// The decimal that a member is, its text under quotes.
+fn quoted_decimal(name: &str, value: &Tree<'_>) -> Option<i64>
+    ensures { IfSome result (IsDecimal name.now (quoted_view value.now)) }
 {
     if name != DEC_KEY {
         return None;
@@ -71,16 +41,29 @@ fn decimal_in(name: &str, value: &Tree<'_>) -> Option<i64>
     }
 }
 
+// What a number is as an item of a list.
+fn number_item(numeral: &str) -> Option<Item>
+    ensures { IfSome result (IsItem (quoted_value (number numeral.now))) }
+{
+    if let Some(n) = whole_in(numeral) {
+        return Some(Item::Whole(n));
+    }
+    match decimal_in(numeral) {
+        Some(n) => Some(Item::Decimal(n)),
+        None => None,
+    }
+}
+
 // What a value is as an item of a list, if it is a text, a number or a flag.
 fn item_of(alloc: Global, value: &Tree<'_>) -> Result<Option<Item>, OutOfMemory>
-    ensures { IfOk result (λ found. IfSome found (IsItem (value_view value.now))) }
+    ensures { IfOk result (λ found. IfSome found (IsItem (quoted_view value.now))) }
 {
     match value {
         Tree::String(text) => Ok(Some(Item::Text(Text::from(String::from_str(alloc, text)?)))),
         Tree::Bool(flag) => Ok(Some(Item::Flag(*flag))),
-        Tree::Number(numeral) => Ok(whole_in(numeral).map(Item::Whole)),
+        Tree::Number(numeral) => Ok(number_item(numeral)),
         Tree::Object(members) => match members.as_slice() {
-            [(name, inner)] => Ok(decimal_in(name, inner).map(Item::Decimal)),
+            [(name, inner)] => Ok(quoted_decimal(name, inner).map(Item::Decimal)),
             _ => Ok(None),
         },
         Tree::Null | Tree::Array(_) => Ok(None),
@@ -89,7 +72,7 @@ fn item_of(alloc: Global, value: &Tree<'_>) -> Result<Option<Item>, OutOfMemory>
 
 // The values as items of a list.
 fn items_of(alloc: Global, values: &[Tree<'_>]) -> Result<Option<ItemList>, OutOfMemory>
-    ensures { IfOk result (λ found. IfSome found (AreItems (items_view values.now))) }
+    ensures { IfOk result (λ found. IfSome found (AreItems (quoted_items_view values.now))) }
 {
     let mut items = Vec::with_capacity(alloc, values.len())?;
     let mut rest = values;
@@ -158,6 +141,24 @@ fn push_value(
         sanitise_own(alloc, kind, value),
         line,
     )
+}
+
+// Puts a field with the number that a numeral writes.
+fn push_number(
+    alloc: Global,
+    key: &FieldKey<'_>,
+    numeral: &str,
+    line: &mut Line,
+) -> Result<bool, OutOfMemory>
+    ensures { IfOk result (λ taken. taken ≡ true → PutsTree key.now (quoted_value (number numeral.now)) line.old line.new) }
+{
+    if let Some(n) = whole_in(numeral) {
+        return push_value(alloc, key, Value::Whole(n), line);
+    }
+    match decimal_in(numeral) {
+        Some(n) => push_value(alloc, key, Value::Decimal(n), line),
+        None => Ok(false),
+    }
 }
 
 // Puts a field with what its kind made of a stripped text, which isn't copied before.
@@ -241,16 +242,13 @@ pub fn push_tree<'m, 't>(
     depth: usize,
     line: &mut Line,
 ) -> Result<bool, OutOfMemory>
-    ensures { IfOk result (λ taken. taken ≡ true → PutsTree key.now (value_view value.now) line.old line.new) }
+    ensures { IfOk result (λ taken. taken ≡ true → PutsTree key.now (quoted_view value.now) line.old line.new) }
 {
     match value {
         Tree::Null => Ok(true),
         Tree::String(text) => push_text(alloc, key, text, line),
         Tree::Bool(flag) => push_value(alloc, key, Value::Flag(*flag), line),
-        Tree::Number(numeral) => match whole_in(numeral) {
-            Some(n) => push_value(alloc, key, Value::Whole(n), line),
-            None => Ok(false),
-        },
+        Tree::Number(numeral) => push_number(alloc, key, numeral, line),
         Tree::Array(values) => match items_of(alloc, values)? {
             Some(items) => push_value(alloc, key, Value::List(items), line),
             None => Ok(false),
@@ -267,10 +265,10 @@ fn push_object<'m, 't>(
     depth: usize,
     line: &mut Line,
 ) -> Result<bool, OutOfMemory>
-    ensures { IfOk result (λ taken. taken ≡ true → PutsTree key.now (object (members_view members.now)) line.old line.new) }
+    ensures { IfOk result (λ taken. taken ≡ true → PutsTree key.now (object (quoted_members_view members.now)) line.old line.new) }
 {
     if let [member] = members {
-        if let Some(n) = decimal_in(member.0, &member.1) {
+        if let Some(n) = quoted_decimal(member.0, &member.1) {
             return push_value(alloc, key, Value::Decimal(n), line);
         }
     }

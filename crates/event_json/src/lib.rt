@@ -1,21 +1,13 @@
-//! The texts of messages: the lenient reading of JSON, the canonical text, and its strict reading.
+//! The lenient reading of messages, as JSON comes in feeds: to canonical texts, or to messages.
 #![tactic(auto)]
 
 mod clean;
 mod direct;
-pub mod laws;
 mod leaf;
 mod line;
 mod message_line;
 mod numbers;
 mod ordered;
-mod pairs;
-mod strict;
-mod string;
 mod text_line;
-mod value;
-mod write;
 
 pub use clean::{Cleaner, clean_message};
-pub use strict::{message_in, read_message};
-pub use write::{push_message, write_message};

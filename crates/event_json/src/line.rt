@@ -1,13 +1,13 @@
 //! What the pairs of a message are put into, one behind the other.
 ghost use Rattle.std.specs.Prelude.{◌≡◌, true, flat_map, IfOk, IfSome, OnOk};
-ghost use Rattle.field_types.specs.Writing.{escaped};
+ghost use Rattle.base_types.specs.JsonText.{escaped};
 ghost use Rattle.field_types.specs.declared.value.Value.TheVariants as as_value;
 ghost use Rattle.event_model.specs.Fields.{IsField};
 ghost use Rattle.event_model.specs.Lenient.{type_key};
-ghost use Rattle.event_json.specs.Decode.{opening};
+ghost use Rattle.event_text.specs.Decode.{opening};
 ghost use Rattle.event_json.specs.Direct.{ended, PutsPair};
-ghost use Rattle.event_json.specs.Strict.{IsTyped};
-ghost use Rattle.event_json.specs.Text.{message_text};
+ghost use Rattle.event_text.specs.Strict.{IsTyped};
+ghost use Rattle.event_text.specs.Text.{message_text};
 
 use crate::message_line::MessageLine;
 use crate::text_line::TextLine;

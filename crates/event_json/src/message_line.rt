@@ -5,10 +5,10 @@ ghost use Rattle.std.specs.Str.{is_utf8};
 ghost use Rattle.field_types.specs.Writing.{is_utf8_item, is_utf8_value};
 ghost use Rattle.event_model.specs.Fields.{IsField};
 ghost use Rattle.event_model.specs.Lenient.{type_key};
-ghost use Rattle.event_json.specs.Decode.{opening};
+ghost use Rattle.event_text.specs.Decode.{opening};
 ghost use Rattle.event_json.specs.Direct.{ended, PutsPair};
-ghost use Rattle.event_json.specs.Strict.{IsTyped};
-ghost use Rattle.event_json.specs.Text.{message_text};
+ghost use Rattle.event_text.specs.Strict.{IsTyped};
+ghost use Rattle.event_text.specs.Text.{message_text};
 
 use base_types::{OutOfMemory, Text};
 use event_model::{Fields, Kind, Message};
@@ -29,7 +29,7 @@ impl Model for MessageLine {
     ghost use Rattle.std.specs.Coded.{coded_ℕ, coded_list, coded×};
     ghost use Rattle.std.specs.FinMap.{entries};
     ghost use Rattle.event_json.specs.Direct.{written};
-    ghost use Rattle.event_json.specs.Strict.{AreTyped};
+    ghost use Rattle.event_text.specs.Strict.{AreTyped};
 
     ghost Value = { List ℕ × List ℕ };
 
@@ -40,29 +40,29 @@ impl Model for MessageLine {
     ghost invariant = { λ l. AreTyped (entries l.fields) };
 }
 
-// A text is UTF-8 by its type, and there is nothing to look at. The same of the texts of items, and of a value.
-fn is_utf8(text: &Text)
+// A text is UTF-8 by its type: this says so, and has nothing to look at. The same of the texts of items, and of a value.
+fn prove_utf8_text(text: &Text)
     ensures { is_utf8 text.now ≡ true }
 {
     let _ = text.as_str();
 }
 
-fn are_utf8(items: &[Item])
+fn prove_utf8_items(items: &[Item])
     ensures { list_all is_utf8_item items.now ≡ true }
 {
     'items: for item in items {
         if let Item::Text(text) = item {
-            is_utf8(text);
+            prove_utf8_text(text);
         }
     }
 }
 
-fn has_utf8(value: &Value)
+fn prove_utf8_value(value: &Value)
     ensures { is_utf8_value value.now ≡ true }
 {
     match value {
-        Value::Text(text) => is_utf8(text),
-        Value::List(items) => are_utf8(items.as_slice()),
+        Value::Text(text) => prove_utf8_text(text),
+        Value::List(items) => prove_utf8_items(items.as_slice()),
         Value::Whole(_) | Value::Flag(_) | Value::Decimal(_) => {}
     }
 }
@@ -95,7 +95,7 @@ impl MessageLine {
         requires { IsField name.now value }
         ensures { IfOk result (λ is_above. is_above ≡ true → PutsPair (name.now, value) self.old self.new) }
     {
-        has_utf8(&value);
+        prove_utf8_value(&value);
         let name = FieldName::new(alloc, name.as_str())?;
         self.fields.push(name, value)
     }

@@ -4,7 +4,7 @@ ghost use Rattle.std.specs.FinMap.{is_sorted};
 ghost use Rattle.std.specs.Ordering.{nat_cmp};
 ghost use Rattle.std.specs.Cmp.Lexicographic.{slice_cmp};
 ghost use Rattle.base_types.specs.Place.{BelongsAt};
-ghost use Rattle.json.specs.Value.{value_view};
+ghost use Rattle.event_json.specs.Quoted.{quoted_view};
 ghost use Rattle.event_json.specs.Direct.{named_values, PutsMember, ReadsInOrder};
 
 use base_types::OutOfMemory;
@@ -49,7 +49,7 @@ fn put<'m, 't>(
     value: &'m Value<'t>,
 ) -> Result<bool, OutOfMemory>
     requires { is_sorted (slice_cmp nat_cmp) (named_values found.old.items) ≡ true }
-    ensures { IfOk result (λ is_new. is_new ≡ true → PutsMember name.entry (value_view value.now) (named_values found.old.items) (named_values found.new.items)) }
+    ensures { IfOk result (λ is_new. is_new ≡ true → PutsMember name.entry (quoted_view value.now) (named_values found.old.items) (named_values found.new.items)) }
 {
     match place_of(found, &name) {
         Some(at) => {

@@ -3,16 +3,16 @@ ghost use Rattle.std.specs.Prelude.{◌≡◌, ◌++◌, ◌∷◌, [], true, fl
 ghost use Rattle.std.specs.Ordering.{nat_cmp, is_lt};
 ghost use Rattle.std.specs.Cmp.Lexicographic.{slice_cmp};
 ghost use Rattle.std.specs.Str.{is_utf8};
-ghost use Rattle.field_types.specs.Writing.{escaped, quoted};
+ghost use Rattle.base_types.specs.JsonText.{escaped, quoted};
 ghost use Rattle.field_types.specs.declared.value.Value.TheVariants as as_value;
 ghost use Rattle.event_model.specs.Lenient.{type_key};
-ghost use Rattle.event_json.specs.Decode.{opening};
+ghost use Rattle.event_text.specs.Decode.{opening};
 ghost use Rattle.event_json.specs.Direct.{PutsName, PutsPair};
 
-use crate::write::opening;
-use base_types::OutOfMemory;
+use base_types::{OutOfMemory, push_quoted};
 use event_model::Kind;
-use field_types::{FieldKey, Value, push_quoted, push_value};
+use event_text::opening;
+use field_types::{FieldKey, Value, push_value};
 use std::alloc::Global;
 use std::marker::Model;
 
@@ -61,7 +61,7 @@ fn push_string(out: &mut Vec<u8>, text: &[u8], plain: bool) -> Result<(), OutOfM
     push_plain(out, text)
 }
 
-#[tactic(auto, unfolding(field_types::specs::Writing::quoted))]
+#[tactic(auto, unfolding(base_types::specs::JsonText::quoted))]
 fn push_plain(out: &mut Vec<u8>, text: &[u8]) -> Result<(), OutOfMemory>
     requires { flat_map escaped text.now ≡ text.now }
     ensures { OnOk result (out.new.items ≡ out.old.items ++ quoted text.now) }

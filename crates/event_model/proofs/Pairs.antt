@@ -1,5 +1,5 @@
 -- Fields as pairs in byte order of their names: looking one up, setting it, taking it out.
-use Rattle.std.proofs.Common.{◌≡◌, ℕ, suc, [], ◌∷◌, ◌++◌, length, get_or, Bool, true, false, cond, Option, Some, None, Ordering, Less, Equal, Greater, T, drop, refl, sym, ap, subst, ◌∙◌, arith}
+use Rattle.std.proofs.Common.{◌≡◌, ◌<◌, ◌≤◌, ℕ, suc, [], ◌∷◌, ◌++◌, length, get_or, Bool, true, false, cond, Option, Some, None, Ordering, Less, Equal, Greater, T, drop, refl, sym, ap, subst, ◌∙◌, arith}
 use Rattle.std.specs.Ordering.{is_lt, is_eq, eq_by_cmp, ordering_reverse}
 use Rattle.std.specs.FinMap.{empty, entries, insert, get, remove, retain_keys, from_entries, find, put, is_sorted, entries-insert, entries_sorted, len-entries, len-empty, get-from_entries, get-remove, get-retain_keys, same_map, same_entries_map, slice_cmp-IsAntisymmetric, nat_cmp-IsAntisymmetric}
 use Rattle.std.specs.FinMap.Entries.{below_all, where_key, find-where_key, is_sorted-where_key}
@@ -8,6 +8,7 @@ use Rattle.std.proofs.Math.Seq.{set-append_seam, take-append_seam, drop-append_s
 use Rattle.std.specs.List.{insert as place_in, remove as without_item}
 use Rattle.std.proofs.lemmas.Bool.{and_parts, and_from}
 use Rattle.std.proofs.lemmas.Cmp.{nat_list_cmp_total, tied_itself}
+use Rattle.std.proofs.lemmas.List.{length-append}
 use Rattle.field_types.specs.declared.value.Value.{Value}
 use Rattle.event_model.specs.Fields.{FieldMap, IsField, AreFields, AreFieldsInOrder}
 use Rattle.base_types.specs.Place.{is_above_all, StandsAt, BelongsAt}
@@ -277,3 +278,22 @@ kept_of p pairs m is map =
 
 pub entries_of : (pairs : Pairs) (m : FieldMap) → AreFieldsInOrder pairs → from_entries pairs ≡ m → pairs ≡ entries m
 entries_of pairs m is map = sym (entries-from_entries pairs is.order) ∙ ap (λ (n : FieldMap). entries n) map
+
+-- a place among the entries of a map is one among the pairs that are this map
+pub stands_in : (key : Key) (pairs : Pairs) (m : FieldMap) (i : ℕ) → AreFieldsInOrder pairs → from_entries pairs ≡ m → StandsAt key (entries m) i → StandsAt key pairs i
+stands_in key pairs m i is map at = subst (λ (ps : Pairs). StandsAt key ps i) (sym (entries_of pairs m is map)) at
+
+pub belongs_in : (key : Key) (pairs : Pairs) (m : FieldMap) (i : ℕ) → AreFieldsInOrder pairs → from_entries pairs ≡ m → BelongsAt key (entries m) i → BelongsAt key pairs i
+belongs_in key pairs m i is map at = subst (λ (ps : Pairs). BelongsAt key ps i) (sym (entries_of pairs m is map)) at
+
+pub stands_inside : (key : Key) (pairs : Pairs) (i : ℕ) → StandsAt key pairs i → i < length pairs
+stands_inside key pairs i at =
+    let size = ap (λ (ps : Pairs). length ps) at.splits ∙ length-append at.front ((key, at.value) ∷ at.back) in
+    let place = at.place in
+    omega (arith, size, place)
+
+pub belongs_inside : (key : Key) (pairs : Pairs) (i : ℕ) → BelongsAt key pairs i → i ≤ length pairs
+belongs_inside key pairs i at =
+    let size = ap (λ (ps : Pairs). length ps) at.splits ∙ length-append at.front at.back in
+    let place = at.place in
+    omega (arith, size, place)

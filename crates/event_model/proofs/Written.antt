@@ -5,7 +5,7 @@ use Rattle.std.specs.List.{join_with_byte}
 use Rattle.std.proofs.lemmas.List.{append-nil}
 use Rattle.serde_json.specs.View.{view, items_view, members_view}
 use Rattle.serde_json.specs.declared.value.Value.{Value}
-use Rattle.field_types.specs.Writing.{quoted}
+use Rattle.base_types.specs.JsonText.{quoted}
 use Rattle.event_model.specs.Trees.{both, comma, compact, compact_items, compact_members, Appends, AppendsBetween}
 use Rattle.event_model.proofs.TreeLemmas.{Entry}
 

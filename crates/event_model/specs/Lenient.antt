@@ -10,7 +10,7 @@ use Rattle.serde_json.specs.Errors.{IsMemory}
 use Rattle.serde_json.specs.declared.error.Error.{Error}
 use Rattle.serde_json.specs.Find.{as_str, as_object, get_member}
 use Rattle.field_types.specs.Field.{extra_front}
-use Rattle.field_types.specs.Strip.{strip}
+use Rattle.scalar_text.specs.Strip.{strip}
 use Rattle.field_types.specs.declared.value.Value.{Value}
 use Rattle.event_model.specs.Fields.{FieldMap, value_for}
 use Rattle.event_model.specs.Trees.{lexeme_in, value_of}

@@ -9,7 +9,7 @@ use Rattle.serde_json.specs.Read.{read}
 use Rattle.scalar_text.specs.Number.{decimal_in}
 use Rattle.scalar_text.specs.Quote.{quote}
 use Rattle.field_types.specs.Cleaning.{is_short}
-use Rattle.field_types.specs.Writing.{flag_word, quoted}
+use Rattle.base_types.specs.JsonText.{flag_word, quoted}
 use Rattle.field_types.specs.declared.value.Item.{Item}
 use Rattle.field_types.specs.declared.value.Item.TheVariants as as_item
 use Rattle.field_types.specs.declared.value.Value.{Value}

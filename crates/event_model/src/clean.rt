@@ -29,19 +29,13 @@ pub fn kind_of_word(word: &str) -> Option<Kind>
     }
 }
 
-fn kind_of_tree(tree: &Tree) -> Option<Kind>
-    ensures { result ≡ kind_of (Some (view tree.now)) }
-{
-    kind_of_word(tree.as_str()?)
-}
-
 // An event, or what the word under `__type` says.
 fn kind_of(members: &Map<String, Tree>) -> Option<Kind>
     ensures { result ≡ kind_of (get_member type_key (members_view members.now.entries)) }
 {
     match members.get(TYPE_KEY) {
         None => Some(Kind::Event),
-        Some(tree) => kind_of_tree(tree),
+        Some(tree) => kind_of_word(tree.as_str()?),
     }
 }
 

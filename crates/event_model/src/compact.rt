@@ -1,12 +1,12 @@
 //! The compact text of a tree.
 ghost use Rattle.std.specs.Prelude.{◌≡◌, ◌++◌, None, OnOk, IsErrOf};
-ghost use Rattle.field_types.specs.Writing.{quoted};
+ghost use Rattle.base_types.specs.JsonText.{quoted};
 ghost use Rattle.serde_json.specs.View.{view, number_view, members_view, items_view};
 ghost use Rattle.event_model.specs.Trees.{comma, compact, compact_items, compact_members, number_text, Appends, AppendsBetween};
 ghost use Rattle.event_model.specs.declared.compact.NoText.TheVariants.{OutOfMemory};
 
 use crate::tree::lexeme_in;
-use field_types::push_quoted;
+use base_types::push_quoted;
 use serde_json::{Map, Number, Value as Tree};
 use std::alloc::AllocError;
 

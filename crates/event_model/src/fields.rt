@@ -1,7 +1,8 @@
-ghost use Rattle.std.specs.Prelude.{◌≡◌, ◌↔◌, ◌<◌, length, slice_set, filter, is_some, IfOk, IfSome, IsTrue, OnOk, OnErr};
+ghost use Rattle.std.specs.Prelude.{◌≡◌, ◌↔◌, ◌<◌, length, slice_set, filter, is_ok, is_some, IfOk, IfSome, IsTrue, OnOk, OnErr};
 ghost use Rattle.std.specs.Str.{bytes_eq};
 ghost use Rattle.std.specs.List.{list_any, remove as without_item};
 ghost use Rattle.std.specs.Option.{option_copied};
+ghost use Rattle.base_types.specs.Place.{IsPlace};
 ghost use Rattle.event_model.specs.Fields.{IsField, AreFieldsInOrder};
 ghost use Rattle.event_model.specs.Edits.{wanted, set_to, added, updated, is_kept, restricted, IsEdit, IsPush, IsWanted};
 
@@ -71,16 +72,12 @@ fn copied_pairs(
     Ok(copied)
 }
 
-fn is_name(key: &FieldName, other: &Text) -> bool
-    ensures { result ≡ bytes_eq key.now other.now }
-{
-    key.as_str() == other.as_str()
-}
-
 fn is_one_of(keys: &TextList, key: &FieldName) -> bool
     ensures { result ≡ list_any (bytes_eq key.now) keys.now }
 {
-    keys.as_slice().iter().any(|other| is_name(key, other))
+    keys.as_slice()
+        .iter()
+        .any(|other| key.as_str() == other.as_str())
 }
 
 fn is_kept(keys: &TextList, keep: bool, key: &FieldName) -> bool
@@ -174,14 +171,25 @@ impl Fields {
     pub fn get_near(&self, key: &FieldName, hint: &mut PlaceHint) -> Option<&Value>
         ensures { option_copied result ≡ get self.now key.now }
     {
+        match self.place_near(key, hint) {
+            Ok(i) => Some(&self.pairs[i].1),
+            Err(_) => None,
+        }
+    }
+
+    /// Where a field stands, or else where it would stand. It may stand where the last one was found, or right behind it.
+    pub fn place_near(&self, key: &FieldName, hint: &mut PlaceHint) -> Result<usize, usize>
+        ensures place { IsPlace key.now (entries self.now) result }
+        ensures there { is_ok result ≡ is_some (get self.now key.now) }
+    {
         match place_near(&self.pairs, &key.as_key(), hint.at) {
             Ok(i) => {
                 hint.at = i;
-                Some(&self.pairs[i].1)
+                Ok(i)
             }
             Err(i) => {
                 hint.at = i.saturating_sub(1);
-                None
+                Err(i)
             }
         }
     }
@@ -204,21 +212,25 @@ impl Fields {
         ensures ok { OnOk result (self.new ≡ insert self.old key value) }
         ensures err { OnErr result (self.new ≡ self.old) }
     {
-        self.put_near(key, value, &mut PlaceHint::new())
+        let mut hint = PlaceHint::new();
+        let place = self.place_near(&key, &mut hint);
+        self.put_at(place, key, value, &mut hint)
     }
 
-    /// The same for a name that may stand or belong where the last one was looked for.
-    pub fn put_near(
+    /// The same at the place of the name, which isn't looked for again. The next name may stand right behind it.
+    pub fn put_at(
         &mut self,
+        place: Result<usize, usize>,
         key: FieldName,
         value: Value,
         hint: &mut PlaceHint,
     ) -> Result<(), OutOfMemory>
-        requires { IsField key value }
+        requires place { IsPlace key (entries self.old) place }
+        requires field { IsField key value }
         ensures ok { OnOk result (self.new ≡ insert self.old key value) }
         ensures err { OnErr result (self.new ≡ self.old) }
     {
-        match place_near(&self.pairs, &key.as_key(), hint.at) {
+        match place {
             Ok(i) => {
                 overwrite(&mut self.pairs, i, (key, value));
                 hint.at = i;

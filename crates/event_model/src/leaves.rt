@@ -10,7 +10,8 @@ use crate::part::Part;
 use crate::tree::lexeme_in;
 use crate::tree_value::value_of;
 use base_types::{OutOfMemory, Text};
-use field_types::{FieldFault, FieldName, sanitise_own, strip, type_of_bytes};
+use field_types::{FieldFault, FieldName, sanitise_own, type_of_bytes};
+use scalar_text::strip;
 use serde_json::{Map, Value as Tree};
 use std::alloc::Global;
 

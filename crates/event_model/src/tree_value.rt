@@ -1,17 +1,16 @@
 //! The values that trees stand for.
 ghost use Rattle.std.specs.Prelude.{◌≡◌, IfOk, option_map, option_and_then, string_bytes};
-ghost use Rattle.serde_json.specs.View.{view, number_view, items_view, members_view};
-ghost use Rattle.field_types.specs.declared.value.Item.TheVariants as as_item;
+ghost use Rattle.serde_json.specs.View.{view, items_view, members_view};
 ghost use Rattle.field_types.specs.declared.value.Value.TheVariants as as_value;
 ghost use Rattle.scalar_text.specs.Number.{decimal_in};
-ghost use Rattle.event_model.specs.Trees.{compact, item_of, items_of, lexeme_in, value_of, whole_of};
+ghost use Rattle.event_model.specs.Trees.{compact, item_of, items_of, lexeme_in, value_of};
 
 use crate::compact::{NoText, push_compact};
 use crate::tree::{lexeme_in, whole_of};
 use base_types::{OutOfMemory, Text};
 use field_types::{Item, ItemList, Value};
 use scalar_text::read_decimal;
-use serde_json::{Map, Number, Value as Tree};
+use serde_json::{Map, Value as Tree};
 use std::alloc::Global;
 
 // The compact text of a tree, if it has one.
@@ -43,45 +42,18 @@ fn copy_of(alloc: Global, text: &String) -> Result<Text, OutOfMemory>
     Ok(Text::from(String::from_str(alloc, text.as_str())?))
 }
 
-fn compact_item(alloc: Global, tree: &Tree) -> Result<Option<Item>, OutOfMemory>
-    ensures { IfOk result (λ item. item ≡ option_map as_item.Text (compact (view tree.now))) }
-{
-    match compact_of(alloc, tree)? {
-        Some(text) => Ok(Some(Item::Text(text))),
-        None => Ok(None),
-    }
-}
-
-fn whole_item(number: &Number) -> Option<Item>
-    ensures { result ≡ option_map as_item.Whole (whole_of (number_view number.now)) }
-{
-    match whole_of(number) {
-        Some(n) => Some(Item::Whole(n)),
-        None => None,
-    }
-}
-
-fn decimal_item(lexeme: &str) -> Option<Item>
-    ensures { result ≡ option_map as_item.Decimal (decimal_in lexeme.now) }
-{
-    match decimal_of(lexeme) {
-        Some(n) => Some(Item::Decimal(n)),
-        None => None,
-    }
-}
-
 // What a tree is as an item of a list.
 fn item_of(alloc: Global, tree: &Tree) -> Result<Option<Item>, OutOfMemory>
     ensures { IfOk result (λ item. item ≡ item_of (view tree.now)) }
 {
     match tree {
-        Tree::Null | Tree::Array(_) => compact_item(alloc, tree),
+        Tree::Null | Tree::Array(_) => Ok(compact_of(alloc, tree)?.map(Item::Text)),
         Tree::Bool(flag) => Ok(Some(Item::Flag(*flag))),
-        Tree::Number(number) => Ok(whole_item(number)),
+        Tree::Number(number) => Ok(whole_of(number).map(Item::Whole)),
         Tree::String(text) => Ok(Some(Item::Text(copy_of(alloc, text)?))),
         Tree::Object(members) => match lexeme_in(members) {
-            Some(lexeme) => Ok(decimal_item(lexeme)),
-            None => compact_item(alloc, tree),
+            Some(lexeme) => Ok(decimal_of(lexeme).map(Item::Decimal)),
+            None => Ok(compact_of(alloc, tree)?.map(Item::Text)),
         },
     }
 }
@@ -99,22 +71,10 @@ fn items_of(alloc: Global, trees: &[Tree]) -> Result<Option<ItemList>, OutOfMemo
     Ok(Some(ItemList::from(items)))
 }
 
-fn whole_value(number: &Number) -> Option<Value>
-    ensures { result ≡ option_map as_value.Whole (whole_of (number_view number.now)) }
-{
-    match whole_of(number) {
-        Some(n) => Some(Value::Whole(n)),
-        None => None,
-    }
-}
-
 fn decimal_value(members: &Map<String, Tree>) -> Option<Value>
     ensures { result ≡ option_and_then (λ lexeme. option_map as_value.Decimal (decimal_in lexeme)) (lexeme_in (members_view members.now.entries)) }
 {
-    match decimal_of(lexeme_in(members)?) {
-        Some(n) => Some(Value::Decimal(n)),
-        None => None,
-    }
+    decimal_of(lexeme_in(members)?).map(Value::Decimal)
 }
 
 /// The value that a tree stands for, if it stands for one.
@@ -125,7 +85,7 @@ pub fn value_of(alloc: Global, tree: &Tree) -> Result<Option<Value>, OutOfMemory
     match tree {
         Tree::Null => Ok(None),
         Tree::Bool(flag) => Ok(Some(Value::Flag(*flag))),
-        Tree::Number(number) => Ok(whole_value(number)),
+        Tree::Number(number) => Ok(whole_of(number).map(Value::Whole)),
         Tree::String(text) => Ok(Some(Value::Text(copy_of(alloc, text)?))),
         Tree::Array(trees) => match items_of(alloc, trees)? {
             Some(items) => Ok(Some(Value::List(items))),

@@ -1,23 +1,13 @@
 -- The fields of the longest network that holds an event's source.
-use Rattle.std.specs.Prelude.{◌≡◌, ℕ, Bool, true, false, List, ◌++◌, Option, Some, None, codes, refl, option_and_then, slice_get, unwrap_or}
+use Rattle.std.specs.Prelude.{ℕ, Bool, true, false, List, ◌++◌, Option, Some, None, codes, option_and_then, slice_get, unwrap_or}
 use Rattle.std.specs.FinMap.{empty, get, entries, from_entries}
 use Rattle.scalar_net.specs.declared.address.Ip.{Ip}
 use Rattle.scalar_net.specs.declared.network.Network.{Network}
-use Rattle.scalar_net.specs.Address.{ip_in}
-use Rattle.scalar_net.proofs.Ranges.{ip_in-fits}
+use Rattle.field_types.specs.Written.{address_in}
 use Rattle.field_types.specs.declared.value.Value.{Value}
 use Rattle.field_types.specs.declared.value.Value.TheVariants.{Text, Whole, Flag, Decimal, List as ItemsOf}
 use Rattle.event_model.specs.Fields.{FieldMap}
 use Rattle.prefix_table.specs.Longest.{longest}
-
--- the address of that family with that number, where a text writes one
-abbrev pub ip_with : (text : List ℕ) (found : Option (Bool × ℕ)) → ip_in text ≡ found → Option Ip
-ip_with text None is = None
-ip_with text (Some ip) is = Some (record { six = ip.0; bits = ip.1; in_range = ip_in-fits text ip is })
-
--- the address that a text writes, if it writes one
-unfoldable pub address_in : List ℕ → Option Ip
-address_in text = ip_with text (ip_in text) refl
 
 -- the address that a value is
 abbrev pub address_of : Value → Option Ip

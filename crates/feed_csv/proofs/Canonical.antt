@@ -12,34 +12,21 @@ use Rattle.scalar_text.proofs.PrintedTimes.{reads_back}
 use Rattle.scalar_text.proofs.TimeForms.{time_form}
 use Rattle.field_types.specs.Cleaning.{clean, of_text}
 use Rattle.field_types.specs.Field.{type_of}
-use Rattle.field_types.specs.Strip.{strip}
+use Rattle.scalar_text.specs.Strip.{strip}
 use Rattle.field_types.specs.declared.kind.FieldType.{FieldType}
 use Rattle.field_types.specs.declared.kind.FieldType.TheVariants as kind
 use Rattle.field_types.specs.declared.value.Value.{Value}
 use Rattle.field_types.specs.declared.value.Value.TheVariants.{Text}
 use Rattle.field_types.proofs.CleanedTwice.{cleaned_stays}
 use Rattle.field_types.proofs.KindByKind.{clean_text}
-use Rattle.field_types.proofs.Stripped.{clear_ahead, dark_byte, strip-clear}
+use Rattle.field_types.proofs.TwiceTexts.{time_back, time_front}
+use Rattle.scalar_text.proofs.Stripped.{clear_ahead, dark_byte, strip-clear}
 use Rattle.event_model.specs.Fields.{IsField, value_for as field_value}
 use Rattle.feed_csv.specs.Columns.{attempt, is_ignored, last_moment, moment_text, seconds_to_1970, set_or, stamp_in, value_for, value_under}
 use Rattle.feed_csv.specs.declared.column.Taken.{Taken}
 use Rattle.feed_csv.specs.declared.column.Taken.TheVariants.{Ends, Sets}
 
 -- ---- times
-
-time_front : (n : ℕ) → clear_ahead (time_text n) ≡ true
-unfolding time_text
-time_front n =
-    let year = (year_of_day 9998 1 (n / 86400)).0 in
-    dark_byte (48 + year / 100 / 10) (le-leb 33 (48 + year / 100 / 10) (omega arith))
-
-time_back : (n : ℕ) → clear_ahead (reverse (time_text n)) ≡ true
-unfolding time_text
-time_back n =
-    let front = day_text (n / 86400) in
-    let clock = 84 ∷ clock_text (n % 86400) in
-    ap (λ t. clear_ahead (reverse t)) (sym (append_assoc front clock (codes "+00:00")))
-    ∙ ap clear_ahead (reverse-append (front ++ clock) (codes "+00:00"))
 
 time_clean : (n : ℕ) → n ≤ 315537897599 → clean kind.DateTime (Text (time_text n)) ≡ Some (Text (time_text n))
 time_clean n last =

@@ -7,7 +7,7 @@ use Rattle.base_types.specs.Digits.{IsDigits}
 use Rattle.base_types.proofs.Numerals.{digits_in-some, digits_in-none}
 use Rattle.field_types.specs.Cleaning.{clean}
 use Rattle.field_types.specs.Field.{type_of}
-use Rattle.field_types.specs.Strip.{strip}
+use Rattle.scalar_text.specs.Strip.{strip}
 use Rattle.field_types.specs.declared.kind.FieldType.{FieldType}
 use Rattle.field_types.specs.declared.kind.FieldType.TheVariants as kind
 use Rattle.field_types.specs.declared.value.Value.{Value}

@@ -8,7 +8,7 @@ use Rattle.base_types.specs.declared.message.FaultNote.{FaultNote}
 use Rattle.scalar_text.specs.Time.{time_text}
 use Rattle.field_types.specs.Cleaning.{clean, of_text}
 use Rattle.field_types.specs.Field.{type_of}
-use Rattle.field_types.specs.Strip.{strip}
+use Rattle.scalar_text.specs.Strip.{strip}
 use Rattle.field_types.specs.declared.kind.FieldType.{FieldType}
 use Rattle.field_types.specs.declared.kind.FieldType.TheVariants as kind
 use Rattle.field_types.specs.declared.value.Value.{Value}

@@ -2,7 +2,7 @@
 ghost use Rattle.std.specs.Prelude.{◌≡◌, ◌<◌, ◌==◌, ◌∷◌, [], Ok, IfOk, IfSome, MatchOption, MatchResult, length, map};
 ghost use Rattle.std.specs.List.{list_any, slice_split};
 ghost use Rattle.field_types.specs.Cleaning.{of_text};
-ghost use Rattle.field_types.specs.Strip.{strip};
+ghost use Rattle.scalar_text.specs.Strip.{strip};
 ghost use Rattle.field_types.specs.declared.value.Value.TheVariants as value;
 ghost use Rattle.feed_rows.specs.Rows.{IsFaultOf};
 ghost use Rattle.feed_csv.specs.Columns.{attempt_text, is_ignored, moment_in, moment_text, put_cell, put_cells, put_stripped, stamp_in, text_for, text_under};
@@ -10,8 +10,8 @@ ghost use Rattle.feed_csv.specs.Columns.{attempt_text, is_ignored, moment_in, mo
 use base_types::{ListOf, OutOfMemory, Text, TextList, read_digits};
 use event_model::{Fields, is_dropped_text};
 use feed_rows::{ParseFault, column_note};
-use field_types::{FieldFault, FieldName, FieldType, Kept, Value, keep, strip};
-use scalar_text::print_time;
+use field_types::{FieldFault, FieldName, FieldType, Kept, Value, keep};
+use scalar_text::{print_time, strip};
 use std::alloc::Global;
 use std::str;
 

@@ -3,7 +3,7 @@ use Rattle.std.proofs.Common.{◌≡◌, ℕ, List, Option, Some, None, refl}
 use Rattle.serde_json.specs.Data.{Data}
 use Rattle.event_model.specs.Fields.{FieldMap}
 use Rattle.event_model.specs.Trees.{tree_in}
-use Rattle.event_json.specs.Lenient.{lenient, of_tree as message_of}
+use Rattle.event_text.specs.Lenient.{lenient, of_tree as message_of}
 use Rattle.feed_rows.specs.Reports.{with_raw}
 use Rattle.feed_json.specs.Objects.{event_in, event_of, of_reading, of_tree}
 

@@ -15,12 +15,12 @@ use Rattle.base_types.specs.declared.memory.OutOfMemory.{OutOfMemory}
 use Rattle.scalar_text.specs.Raw.{raw_of, raw_text}
 use Rattle.field_types.specs.Cleaning.{clean, of_text}
 use Rattle.field_types.specs.Field.{type_of, field_table}
-use Rattle.field_types.specs.Strip.{strip}
+use Rattle.scalar_text.specs.Strip.{strip}
 use Rattle.field_types.specs.declared.kind.FieldType.TheVariants as kind
 use Rattle.field_types.specs.declared.value.Value.{Value}
 use Rattle.field_types.specs.declared.value.Value.TheVariants.{Text, Whole, Flag, Decimal, List as ItemsOf}
 use Rattle.field_types.proofs.KindByKind.{clean_text}
-use Rattle.field_types.proofs.Stripped.{are_dark, is_dark, strip-dark, dark_append}
+use Rattle.scalar_text.proofs.Stripped.{are_dark, is_dark, strip-dark, dark_append}
 use Rattle.event_model.specs.Fields.{FieldMap, IsField, value_for}
 use Rattle.feed_rows.specs.Reports.{content_in, raw_bytes, raw_key, with_raw}
 

@@ -3,8 +3,8 @@ use Rattle.std.proofs.Common.{◌≡◌, ◌⊎◌, inl, inr, ℕ, ℤ, List, Bo
 use Rattle.std.specs.Fmt.{signed_decimal}
 use Rattle.std.proofs.lemmas.Bool.{false≢true}
 use Rattle.scalar_text.specs.Number.{decimal_text}
-use Rattle.field_types.specs.Strip.{strip}
-use Rattle.field_types.specs.Writing.{flag_word}
+use Rattle.scalar_text.specs.Strip.{strip}
+use Rattle.base_types.specs.JsonText.{flag_word}
 use Rattle.field_types.specs.Cleaning.{clean, of_text, IsCleaned}
 use Rattle.field_types.specs.Kept.{takes_words, takes_items, IsKeptAs}
 use Rattle.field_types.specs.declared.fault.FieldFault.{FieldFault}

@@ -1,16 +1,14 @@
 pub mod Cases
 pub mod CleanedTwice
-pub mod Ends
 pub mod Joined
 pub mod KindByKind
 pub mod Order
 pub mod Unchanged
 pub mod Utf8
-pub mod Plain
-pub mod Stripped
 pub mod Tables
 pub mod Twice
 pub mod TwiceAddresses
 pub mod TwiceMore
 pub mod TwiceTexts
 pub mod Wholes
+pub mod Written

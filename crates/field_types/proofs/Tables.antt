@@ -8,11 +8,11 @@ use Rattle.base_types.proofs.Places.{Key}
 use Rattle.field_types.specs.Field.{kind_in, field_table, is_extra_name, type_of}
 use Rattle.field_types.specs.Hash.{hash, if_named}
 use Rattle.field_types.specs.Names.{rows}
-use Rattle.field_types.specs.Writing.{escaped, is_plain}
+use Rattle.base_types.specs.JsonText.{escaped, is_plain}
 use Rattle.field_types.specs.declared.field.TheConstants as table
 use Rattle.field_types.specs.declared.kind.FieldType.{FieldType}
 use Rattle.field_types.specs.declared.kind.FieldType.TheVariants as type
-use Rattle.field_types.proofs.Plain.{content-plain}
+use Rattle.base_types.proofs.Plain.{content-plain}
 
 abbrev Table : Type 0
 Table = List (Key × FieldType)

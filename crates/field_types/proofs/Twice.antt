@@ -9,14 +9,14 @@ use Rattle.scalar_text.specs.Number.{decimal_in}
 use Rattle.scalar_text.specs.Raw.{raw_of}
 use Rattle.scalar_text.specs.Words.{spelled, tlp_words, tlp_of, registry_words, registry_name, registry_of, classes, class_in, taxonomy_word_in}
 use Rattle.scalar_text.proofs.Spellings.{passes, class_is_spelled, taxonomy_is_spelled, tlp_stays, registry_stays, class_stays, taxonomy_stays}
-use Rattle.field_types.specs.Strip.{is_blank, strip}
+use Rattle.scalar_text.specs.Strip.{is_blank, strip}
 use Rattle.field_types.specs.Cleaning.{clean, of_text, text_in, printed, takes, is_accuracy, accuracy_of}
 use Rattle.field_types.specs.declared.kind.FieldType.{FieldType}
 use Rattle.field_types.specs.declared.kind.FieldType.TheVariants as kind
 use Rattle.field_types.specs.declared.value.Value.{Value}
 use Rattle.field_types.specs.declared.value.Value.TheVariants as value
 use Rattle.field_types.proofs.KindByKind.{clean_text}
-use Rattle.field_types.proofs.Stripped.{clear_ahead, strip-clear, strip-strip, strip-dark, are_dark, strip_first, strip_last}
+use Rattle.scalar_text.proofs.Stripped.{clear_ahead, strip-clear, strip-strip, strip-dark, are_dark, strip_first, strip_last}
 use Rattle.field_types.proofs.Wholes.{own_accuracy_kept}
 
 -- what is kept is kept of a stripped text

@@ -3,11 +3,11 @@ use Rattle.std.proofs.Common.{◌≡◌, ◌++◌, codes, decimal, Some, option_
 use Rattle.scalar_net.specs.Address.{ip_in, text_of_bits}
 use Rattle.scalar_net.specs.Network.{network_in}
 use Rattle.scalar_net.proofs.Again.{ip_in_again, network_in_again, text_of_bits-dark, network_text_of-dark}
-use Rattle.field_types.specs.Strip.{strip}
+use Rattle.scalar_text.specs.Strip.{strip}
 use Rattle.field_types.specs.Cleaning.{clean, printed, takes, address_value, network_value}
 use Rattle.field_types.specs.declared.kind.FieldType.TheVariants as kind
 use Rattle.field_types.specs.declared.value.Value.{Value}
-use Rattle.field_types.proofs.Stripped.{strip-dark}
+use Rattle.scalar_text.proofs.Stripped.{strip-dark}
 use Rattle.field_types.proofs.Twice.{from_text, mapped, kept_again}
 
 pub address_twice : (u v : Value) → clean kind.Ip u ≡ Some v → clean kind.Ip v ≡ Some v

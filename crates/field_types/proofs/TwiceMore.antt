@@ -15,13 +15,13 @@ use Rattle.scalar_text.specs.Words.{flag_of}
 use Rattle.scalar_text.proofs.NumberForms.{whole_form, decimal_form}
 use Rattle.scalar_text.proofs.Numerals.{part_below, front_digits}
 use Rattle.scalar_net.specs.Asn.{is_asn, behind_as, asn_in}
-use Rattle.field_types.specs.Strip.{strip}
+use Rattle.scalar_text.specs.Strip.{strip}
 use Rattle.field_types.specs.Cleaning.{clean, printed, takes, is_short, is_alphanumeric, is_country_code, is_extra_item}
 use Rattle.field_types.specs.declared.kind.FieldType.TheVariants as kind
 use Rattle.field_types.specs.declared.value.Value.{Value}
 use Rattle.field_types.specs.declared.value.Value.TheVariants as value
 use Rattle.field_types.proofs.KindByKind.{flag_kept}
-use Rattle.field_types.proofs.Stripped.{strip-strip}
+use Rattle.scalar_text.proofs.Stripped.{strip-strip}
 use Rattle.field_types.proofs.Twice.{from_text, mapped, text_of, kept_again, mapped_stripped, upper_clear, map_twice, upper_twice_byte}
 use Rattle.field_types.proofs.Wholes.{whole_kept, port_kept, asn_kept, own_decimal_kept}
 

@@ -13,12 +13,12 @@ use Rattle.scalar_net.specs.Fqdn.{fqdn, is_label, is_label_byte, has_end_hyphen}
 use Rattle.scalar_net.specs.Url.{is_defanged, refanged, url_text}
 use Rattle.scalar_net.proofs.FqdnLaws.{fqdn_again, fqdn_labels}
 use Rattle.scalar_net.proofs.Urls.{url_text_again}
-use Rattle.field_types.specs.Strip.{strip}
+use Rattle.scalar_text.specs.Strip.{strip}
 use Rattle.field_types.specs.Cleaning.{clean, printed, takes}
 use Rattle.field_types.specs.declared.kind.FieldType.TheVariants as kind
 use Rattle.field_types.specs.declared.value.Value.{Value}
 use Rattle.field_types.specs.declared.value.Value.TheVariants as value
-use Rattle.field_types.proofs.Stripped.{clear_ahead, ahead_of_front, strip-clear, strip-dark, is_dark, are_dark, dark_byte, dark_append, strip_first, strip_last}
+use Rattle.scalar_text.proofs.Stripped.{clear_ahead, ahead_of_front, strip-clear, strip-dark, is_dark, are_dark, dark_byte, dark_append, strip_first, strip_last}
 use Rattle.field_types.proofs.Twice.{from_text, mapped, kept_again, again_word}
 
 -- ---- domain names
@@ -95,13 +95,13 @@ url_twice u v h =
 
 -- ---- times
 
-time_front : (n : ℕ) → clear_ahead (time_text n) ≡ true
+pub time_front : (n : ℕ) → clear_ahead (time_text n) ≡ true
 unfolding time_text
 time_front n =
     let year = (year_of_day 9998 1 (n / 86400)).0 in
     dark_byte (48 + year / 100 / 10) (le-leb 33 (48 + year / 100 / 10) (omega arith))
 
-time_back : (n : ℕ) → clear_ahead (reverse (time_text n)) ≡ true
+pub time_back : (n : ℕ) → clear_ahead (reverse (time_text n)) ≡ true
 unfolding time_text
 time_back n =
     let front = day_text (n / 86400) in

@@ -3,13 +3,13 @@ use Rattle.std.proofs.Common.{◌≡◌, ◌↔◌, ℕ, List, Bool, true, false
 use Rattle.std.proofs.lemmas.Bool.{eqb-true, eq-eqb}
 use Rattle.field_types.specs.Cleaning.{clean, of_text, IsOfKind}
 use Rattle.field_types.specs.Kept.{takes_items}
-use Rattle.field_types.specs.Strip.{strip}
+use Rattle.scalar_text.specs.Strip.{strip}
 use Rattle.field_types.specs.declared.kind.FieldType.{FieldType}
 use Rattle.field_types.specs.declared.value.Item.{Item}
 use Rattle.field_types.specs.declared.value.Value.{Value}
 use Rattle.field_types.specs.declared.value.Value.TheVariants as value
 use Rattle.field_types.proofs.KindByKind.{clean_text, clean_items, no_items}
-use Rattle.field_types.proofs.Stripped.{strip_whole}
+use Rattle.scalar_text.proofs.Stripped.{strip_whole}
 
 some_of : (v w : Value) → Some v ≡ Some w → v ≡ w
 some_of v w e = cc

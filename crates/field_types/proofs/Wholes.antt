@@ -18,12 +18,12 @@ use Rattle.scalar_text.proofs.PrintedDecimals.{part_numeral}
 use Rattle.scalar_text.proofs.PrintedNumbers.{digits_fit, digits_pass, whole_fits, whole_passes, port_fits, port_passes, decimal_of_whole, decimal_of_great_whole, decimal_fits, decimal_passes}
 use Rattle.scalar_text.specs.Number.{port_in}
 use Rattle.scalar_net.specs.Asn.{behind_as, asn_in}
-use Rattle.field_types.specs.Strip.{strip}
+use Rattle.scalar_text.specs.Strip.{strip}
 use Rattle.field_types.specs.Cleaning.{clean, is_short, is_accuracy, accuracy_of}
 use Rattle.field_types.specs.declared.kind.FieldType.TheVariants as kind
 use Rattle.field_types.specs.declared.value.Value.{Value}
 use Rattle.field_types.specs.declared.value.Value.TheVariants as value
-use Rattle.field_types.proofs.Stripped.{are_dark, strip-dark, dark_append}
+use Rattle.scalar_text.proofs.Stripped.{are_dark, strip-dark, dark_append}
 
 -- ---- printed numbers have no blanks
 

@@ -14,8 +14,8 @@ use Rattle.scalar_net.specs.Asn.{asn_in}
 use Rattle.scalar_net.specs.Fqdn.{fqdn}
 use Rattle.scalar_net.specs.Network.{network_in}
 use Rattle.scalar_net.specs.Url.{url_text}
-use Rattle.field_types.specs.Strip.{strip}
-use Rattle.field_types.specs.Writing.{flag_word}
+use Rattle.scalar_text.specs.Strip.{strip}
+use Rattle.base_types.specs.JsonText.{flag_word}
 use Rattle.field_types.specs.declared.fault.FieldFault.{FieldFault}
 use Rattle.field_types.specs.declared.fault.FieldFault.TheVariants as fault
 use Rattle.field_types.specs.declared.kind.FieldType.{FieldType}

@@ -4,5 +4,5 @@ pub mod Field
 pub mod Hash
 pub mod Kept
 pub mod Names
-pub mod Strip
 pub mod Writing
+pub mod Written

@@ -5,11 +5,11 @@ ghost use Rattle.field_types.specs.declared.value.Value.TheVariants as value;
 ghost use Rattle.field_types.specs.Cleaning.{IsCleaned, IsOfKind};
 ghost use Rattle.field_types.specs.Kept.{takes_items};
 
-use crate::blanks::strip;
 use crate::cleaning::{clean_decimal, clean_flag, clean_whole, takes_items};
 use crate::texts::{Kept, keep};
 use crate::{FieldFault, FieldType, Value};
 use base_types::OutOfMemory;
+use scalar_text::strip;
 use std::alloc::Global;
 
 // The value that cleaning gave, if it gave one.

@@ -5,14 +5,13 @@ ghost use Rattle.field_types.specs.declared.value.Value.{Value as AnyValue};
 ghost use Rattle.field_types.specs.declared.value.Value.TheVariants as value;
 ghost use Rattle.field_types.specs.Cleaning.{clean, is_extra_item, is_short, IsCleaned, IsOfKind};
 ghost use Rattle.field_types.specs.Kept.{takes_words, takes_items};
-ghost use Rattle.field_types.specs.Writing.{flag_word};
+ghost use Rattle.base_types.specs.JsonText.{flag_word};
 
-use crate::blanks::strip;
 use crate::texts::{Kept, is_accuracy, keep};
 use crate::value::copy_items;
 use crate::{FieldFault, FieldType, Item, ItemList, Value};
-use base_types::Text;
-use scalar_text::print_decimal;
+use base_types::{Text, flag_word};
+use scalar_text::{print_decimal, strip};
 use std::alloc::Global;
 
 const MILLION: i64 = 1_000_000;
@@ -180,17 +179,11 @@ pub fn clean_decimal(alloc: Global, kind: FieldType, n: i64) -> Result<Value, Fi
     }
 }
 
-fn word_of(flag: bool) -> &'static str
-    ensures { result.now ≡ flag_word flag }
-{
-    if flag { "true" } else { "false" }
-}
-
 pub fn clean_flag(alloc: Global, kind: FieldType, flag: bool) -> Result<Value, FieldFault>
     ensures { IsCleaned (clean kind (value.Flag flag)) result }
 {
     if takes_words(kind) {
-        return sanitise_text(alloc, kind, word_of(flag));
+        return sanitise_text(alloc, kind, flag_word(flag));
     }
     match kind {
         FieldType::Flag | FieldType::Extra => Ok(Value::Flag(flag)),

@@ -1,7 +1,6 @@
 //! The fields of a message: their names, kinds and canonical values.
 #![tactic(auto)]
 
-mod blanks;
 mod canonical;
 mod cleaning;
 mod fault;
@@ -13,7 +12,6 @@ mod texts;
 mod value;
 mod writing;
 
-pub use blanks::strip;
 pub use canonical::is_canonical;
 pub use cleaning::{clean_values_stay, sanitise, sanitise_own, sanitise_text};
 pub use fault::FieldFault;
@@ -23,6 +21,4 @@ pub use kind::FieldType;
 pub use name::FieldName;
 pub use texts::{Kept, keep};
 pub use value::{Item, ItemList, Value};
-pub use writing::{
-    has_escapes, hex_digit, is_plain, push_name, push_quoted, push_text, push_value,
-};
+pub use writing::{push_name, push_text, push_value};

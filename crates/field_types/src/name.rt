@@ -4,7 +4,7 @@ ghost use Rattle.std.proofs.Common.{rules};
 ghost use Rattle.std.specs.Cmp.Rules.{comparing};
 ghost use Rattle.field_types.specs.Field.{type_of};
 ghost use Rattle.field_types.specs.Names.{IsRowOf};
-ghost use Rattle.field_types.specs.Writing.{escaped};
+ghost use Rattle.base_types.specs.JsonText.{escaped};
 
 use crate::field::{Row, row_of, type_of};
 use crate::{FieldKey, FieldType};
@@ -133,7 +133,7 @@ impl FieldName {
             Name::Known(known, row) => Ok(FieldName {
                 name: Name::Known(known, *row),
             }),
-            Name::Other(text) => FieldName::new(alloc, text.as_str()),
+            Name::Other(text) => Ok(FieldName::from(text.copy(alloc)?)),
         }
     }
 }

@@ -1,9 +1,10 @@
 -- The bundle in force is one that loads, in each state of a history.
-use Rattle.std.proofs.Common.{◌≡◌, ◌+◌, true, is_some, List, [], ◌∷◌, Option, Some, None, find, refl, ◌∙◌, ap}
+use Rattle.std.proofs.Common.{◌≡◌, ◌+◌, List, [], ◌∷◌, Option, Some, None, find, refl, ◌∙◌, ap}
 use Rattle.stored_types.specs.declared.message.Dump.{Dump}
 use Rattle.base_types.specs.declared.message.Moment.{Moment}
 use Rattle.base_types.specs.declared.message.Msg.{Msg}
 use Rattle.base_types.specs.Name.{queue_name}
+use Rattle.base_types.proofs.Options.{some_value}
 use Rattle.step_code.specs.declared.base.Base.{Base}
 use Rattle.step_code.specs.declared.rules.Facts.{Facts}
 use Rattle.step_code.specs.declared.step.StepKind.{StepKind}
@@ -14,10 +15,6 @@ use Rattle.step_code.specs.After.{after, instances_of, redone, taken_first}
 use Rattle.step_code.specs.Fits.{Fits}
 use Rattle.step_code.proofs.Parts.{reload_fits}
 use Rattle.step_code.proofs.GivenBack.{kept-all_given_back}
-
-some_there : {A : Type 0} (o : Option A) → is_some o ≡ true → (x : A) × (o ≡ Some x)
-some_there None holds = absurd (cc)
-some_there (Some x) holds = (x, refl)
 
 module _ (m : Meaning) where
   pub still_loads : (s : Base) (now : Moment) (what : StepKind) → Fits m s (record { moment = now; what = what }) → (bots : List Facts) × (m.facts s.bundle ≡ Some bots)
@@ -34,7 +31,7 @@ module _ (m : Meaning) where
   still_loads s now (kind.Retry bot instance message bundle fault) fits plan = plan
   still_loads s now (kind.Fail bot instance message bundle fault queues halts) fits plan = plan
   still_loads s now (kind.Reload bundle) fits plan =
-      let new = some_there (m.facts bundle) (reload_fits m s now bundle fits) in
+      let new = some_value (m.facts bundle) (reload_fits m s now bundle fits) in
       (new.0, ap m.facts (kept-all_given_back (λ (t : Base). t.bundle) (λ t queues hands. refl) (bots_of m bundle) (instances_of (bots_in_force m s)) _) ∙ new.1)
   still_loads s now (kind.Redo dump) fits plan = (plan.0, ap m.facts (go (find (is_dump dump) s.dumps)) ∙ plan.1)
     where

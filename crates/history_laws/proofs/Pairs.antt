@@ -52,15 +52,6 @@ all_added_found P is change new (x ∷ xs) fresh all fits =
 
 -- members
 
-pub in_front : {A : Type 0} (x : A) (xs ys : List A) → IsIn x xs → IsIn x (xs ++ ys)
-in_front x [] ys there = absurd there
-in_front x (y ∷ xs) ys (inl is) = inl is
-in_front x (y ∷ xs) ys (inr there) = inr (in_front x xs ys there)
-
-pub in_back : {A : Type 0} (x : A) (xs ys : List A) → IsIn x ys → IsIn x (xs ++ ys)
-in_back x [] ys there = there
-in_back x (y ∷ xs) ys there = inr (in_back x xs ys there)
-
 pub in-map : {A B : Type 0} (f : A → B) (x : A) (xs : List A) → IsIn x xs → IsIn (f x) (map f xs)
 in-map f x [] there = absurd there
 in-map f x (y ∷ xs) (inl is) = inl (ap f is)

@@ -11,6 +11,7 @@ use Rattle.base_types.specs.declared.message.Msg.{Msg}
 use Rattle.base_types.specs.Lists.{IsIn, changed, without}
 use Rattle.base_types.specs.Name.{queue_name}
 use Rattle.base_types.proofs.Everywhere.{all-append, all_changed, all_found, all_wider, all_without}
+use Rattle.base_types.proofs.Members.{in_back, in_front}
 use Rattle.stored_types.specs.declared.hand.Hand.{Hand}
 use Rattle.stored_types.specs.Hand.{is_hand}
 use Rattle.step_code.specs.declared.rules.Facts.{Facts}
@@ -18,7 +19,7 @@ use Rattle.step_code.specs.After.{falling, instances_of}
 use Rattle.step_code.specs.Rules.{bot_named, collects, last_moment, passes}
 use Rattle.step_code.specs.Sound.{IsSoundHand, is_same_hand, most_tries}
 use Rattle.step_code.specs.State.{is_instance}
-use Rattle.history_laws.proofs.Pairs.{Pairwise, all_changed_found, in_back, in_front, in-map, pairs-append, pairs-changed, pairs-without}
+use Rattle.history_laws.proofs.Pairs.{Pairwise, all_changed_found, in-map, pairs-append, pairs-changed, pairs-without}
 use Rattle.step_code.proofs.Lists.{all_fail}
 use Rattle.history_laws.proofs.SoundParts.{AreHands}
 

@@ -12,11 +12,12 @@ use Rattle.base_types.specs.declared.message.Msg.{Msg}
 use Rattle.base_types.specs.Lists.{IsIn, changed_or_added}
 use Rattle.base_types.proofs.Everywhere.{all_in}
 use Rattle.base_types.proofs.Names.{less_differs}
+use Rattle.base_types.proofs.Members.{in_back, in_front}
 use Rattle.stored_types.specs.declared.queue.Queue.{Queue}
 use Rattle.stored_types.specs.Queue.{is_queue, put, put_all, put_first, queued}
 use Rattle.step_code.specs.declared.rules.Facts.{Facts}
 use Rattle.step_code.specs.Rules.{AreSound}
-use Rattle.history_laws.proofs.Pairs.{all-map, all_at, all_fail_any, filter_in, in_back, in_front, in-filter, in-map, one_passes, pairs-added, pairs-append, pairs-filter, pairs-map}
+use Rattle.history_laws.proofs.Pairs.{all-map, all_at, all_fail_any, filter_in, in-filter, in-map, one_passes, pairs-added, pairs-append, pairs-filter, pairs-map}
 use Rattle.history_laws.proofs.SoundParts.{AreNamed, names_of}
 
 -- queues

@@ -10,6 +10,7 @@ use Rattle.base_types.specs.declared.message.Msg.{Msg}
 use Rattle.base_types.specs.Lists.{IsIn, without}
 use Rattle.base_types.specs.Name.{queue_ending, queue_name}
 use Rattle.base_types.proofs.Everywhere.{all-append, all_in, all_wider, filter_all}
+use Rattle.base_types.proofs.Members.{in_back, in_either, in_front}
 use Rattle.stored_types.specs.declared.hand.Hand.{Hand}
 use Rattle.stored_types.specs.declared.queue.Queue.{Queue}
 use Rattle.stored_types.specs.Hand.{is_hand}
@@ -22,7 +23,7 @@ use Rattle.step_code.specs.History.{AreStranded, IsGivenBack}
 use Rattle.step_code.specs.Rules.{AreSound, Meaning, collects}
 use Rattle.step_code.specs.Sound.{IsSoundHand, IsSoundState, is_same_hand}
 use Rattle.step_code.specs.State.{bots_in_force, bots_of, hand_of, is_instance, waiting}
-use Rattle.history_laws.proofs.Pairs.{Pairwise, all-map, all_at, from_distinct, from_distinct_map, in_back, in_front, pairs-append, pairs-filter, pairs-map, pairs-without, to_rising}
+use Rattle.history_laws.proofs.Pairs.{Pairwise, all-map, all_at, from_distinct, from_distinct_map, pairs-append, pairs-filter, pairs-map, pairs-without, to_rising}
 use Rattle.history_laws.proofs.SoundHands.{hand_is, instance_there, is_own}
 use Rattle.history_laws.proofs.SoundNames.{bots_apart}
 use Rattle.history_laws.proofs.SoundParts.{AreNamed, names_of}
@@ -78,11 +79,6 @@ without_filter false false p x xs rest gone is same = rw is same
 filter-without : {A : Type 0} (p is : A → Bool) (xs : List A) → ((x : A) → is x ≡ true → p x ≡ false) → filter p (without is xs) ≡ filter p xs
 filter-without p is [] gone = refl
 filter-without p is (x ∷ xs) gone = without_filter (is x) (p x) p x xs (without is xs) (gone x) refl (filter-without p is xs gone)
-
-which_part : {A : Type 0} (x : A) (xs ys : List A) → IsIn x (xs ++ ys) → IsIn x xs ⊎ IsIn x ys
-which_part x [] ys there = inr there
-which_part x (y ∷ xs) ys (inl is) = inl (inl is)
-which_part x (y ∷ xs) ys (inr there) = ⊎_elim (λ left. inl (inr left)) (λ right. inr right) (which_part x xs ys there)
 
 in_without : {A : Type 0} (is : A → Bool) (x : A) (xs : List A) → is x ≡ false → IsIn x xs → IsIn x (without is xs)
 in_without is x [] stays there = absurd there
@@ -283,7 +279,7 @@ module _ (bots : List Facts) where
         (λ later. let was = given xs (next x s) h later in
         record { key = inr was.key; held = hands_next (is_live x) x (hand_of x.0 x.1 s) s h was.held; name = was.name; gone = was.gone })
         (λ now. (one_given (is_live x) (bytes_eq (queue_name x.0) queue) x xs (hand_of x.0 x.1 s) s h refl refl refl now).2)
-        (which_part h (stranded xs (next x s)) one there)
+        (in_either h (stranded xs (next x s)) one there)
 
     gives : (xs : List (List ℕ × ℕ)) (s : Base) (h : Hand) → IsApart s.hands → IsGiven xs s.hands h → IsIn h (stranded xs s)
     gives [] s h apart was = absurd was.key

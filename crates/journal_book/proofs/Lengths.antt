@@ -2,15 +2,12 @@
 use Rattle.std.proofs.Common.{◌≡◌, ◌≤◌, ◌<◌, ◌+◌, inl, inr, ℕ, suc, zero, List, [], ◌∷◌, length, take, Option, Some, None, sym, ap, subst, ◌∙◌, arith}
 use Rattle.std.specs.List.{slice_get}
 use Rattle.std.specs.Option.{IsSomeAnd}
+use Rattle.base_types.proofs.Options.{some_and}
 use Rattle.edge_traits.specs.Disk.{Image}
 use Rattle.step_code.specs.declared.output.Output.{Output}
 use Rattle.store_image.specs.Damage.{IsShort}
 use Rattle.store_image.specs.Files.{out_file}
 use Rattle.store_image.specs.Opens.{AreLong}
-
-pub some_and : {A : Type 0} (o : Option A) (P Q : A → Type 0) → ((x : A) → P x → Q x) → IsSomeAnd o P → IsSomeAnd o Q
-some_and None P Q wider found = found
-some_and (Some x) P Q wider found = wider x found
 
 long_from : (start n : ℕ) (outs : List Output) (i : ℕ) (files : Image) → n ≡ start + i → IsSomeAnd (slice_get outs i) (λ o. o.sealed_bytes ≤ length (files (out_file n))) → AreLong start (take i outs) files
     → AreLong start (take (suc i) outs) files

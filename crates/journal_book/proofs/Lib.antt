@@ -1,4 +1,5 @@
 pub mod Beginning
+pub mod Causes
 pub mod Completing
 pub mod Flushing
 pub mod Histories

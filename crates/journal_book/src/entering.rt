@@ -13,14 +13,18 @@ use std::alloc::Global;
 use step_code::{Rules, Step};
 use stored_types::Coded;
 
-// Drops what an earlier call left behind the first so many bytes.
+// Drops what an earlier call left behind the first so many bytes. There is room for as much again, as a flush is followed by
+// one of about its length.
 fn cut_back(alloc: Global, pending: &mut Blob, used: usize) -> Result<(), OutOfMemory>
     requires { used ≤ length pending.old }
     ensures ok { OnOk result (pending.new ≡ take used pending.old) }
     ensures err { OnErr result (pending.new ≡ pending.old) }
 {
-    if pending.bytes().len() > used {
-        *pending = Blob::new(alloc, &pending.bytes()[..used])?;
+    let len = pending.bytes().len();
+    if len > used {
+        let mut bytes = Vec::with_capacity(alloc, len)?;
+        bytes.extend_from_slice(&pending.bytes()[..used])?;
+        *pending = Blob::from(bytes);
     }
     Ok(())
 }

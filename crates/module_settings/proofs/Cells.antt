@@ -9,7 +9,7 @@ use Rattle.scalar_net.specs.Network.{network_in}
 use Rattle.scalar_net.proofs.Again.{network_text_of}
 use Rattle.scalar_net.proofs.NetworkTexts.{network_text_one_to_one}
 use Rattle.field_types.specs.Field.{type_of}
-use Rattle.field_types.specs.Strip.{strip}
+use Rattle.scalar_text.specs.Strip.{strip}
 use Rattle.field_types.specs.declared.value.Value.{Value}
 use Rattle.field_types.specs.declared.value.Value.TheVariants as value
 use Rattle.field_types.proofs.CleanedTwice.{cleaned_stays}

@@ -6,7 +6,7 @@ use Rattle.base_types.specs.Lines.{lines_of}
 use Rattle.scalar_net.specs.declared.network.Network.{Network}
 use Rattle.scalar_net.specs.Network.{network_in}
 use Rattle.field_types.specs.Field.{type_of}
-use Rattle.field_types.specs.Strip.{strip}
+use Rattle.scalar_text.specs.Strip.{strip}
 use Rattle.field_types.specs.declared.value.Value.TheVariants as value
 use Rattle.csv_line.specs.Cells.{bare, has_odd_quotes}
 use Rattle.csv_line.specs.Line.{one_record}

@@ -15,9 +15,10 @@ use csv_line::{
     bare, fields_in, has_odd_quotes, is_plain, is_text, parts_of, plain_lines_are_split, record_of,
 };
 use event_model::Fields;
-use field_types::{FieldFault, FieldName, Value, sanitise_text, strip};
+use field_types::{FieldFault, FieldName, Value, sanitise_text};
 use report_cut::first_line;
 use scalar_net::{Network, read_network};
+use scalar_text::strip;
 use std::alloc::{AllocError, Global};
 use std::str;
 

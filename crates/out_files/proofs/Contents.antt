@@ -2,7 +2,6 @@
 use Rattle.std.proofs.Common.{◌≡◌, ◌<◌, ◌≤◌, ◌+◌, ⊎_elim, ℕ, min, List, [], ◌∷◌, ◌++◌, length, get_or, take, drop, sym, ◌∙◌, ap, arith, length-append, append_assoc}
 use Rattle.std.proofs.lemmas.List.{get_or_default, length-take, length-take-le, take-take, take_at, take_more, take-append-drop, append-nil, nil_from_length}
 use Rattle.std.proofs.lemmas.Bool.{cases_lt}
-use Rattle.edge_traits.specs.Count.{Rose}
 use Rattle.std.proofs.lemmas.Grind.{flat_map-append}
 use Rattle.edge_traits.specs.Disk.{Torn, Cut, overwritten}
 use Rattle.out_files.specs.Output.{lines_text, completed}
@@ -86,10 +85,6 @@ size_more at sealed gathered more lines i line within is pushed before =
     let added = line ++ 10 ∷ [] in
     let one = pushed ∙ append_assoc gathered line (10 ∷ []) in
     omega (arith, ap length one, length-append gathered added, ap length (lines_more lines i line within is), length-append (lines_text (take i lines)) added)
-
--- a count that rose later rose
-pub rose_later : (old mid new : ℕ) → old ≤ mid → mid ≤ new → Rose mid new → Rose old new
-rose_later old mid new before after rose = grind arith
 
 -- no line is longer, one line later
 pub longest_more : (lines : List (List ℕ)) (i : ℕ) (item : List ℕ) (before now : ℕ) → i < length lines → item ≡ get_or lines i item

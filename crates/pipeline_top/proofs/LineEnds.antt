@@ -2,8 +2,8 @@
 use Rattle.std.proofs.Common.{◌≡◌, ◌+◌, ◌<◌, ◌≤◌, ℕ, List, [], ◌∷◌, ◌++◌, true, false, ◌==◌, nat_lt, Option, Some, None, unwrap_or, length, Result, Ok, IfOk, refl, sym, ◌∙◌, ap, subst, append_assoc}
 use Rattle.std.proofs.lemmas.Bool.{cond-true, cond-false, lt-ltb, le-ltb}
 use Rattle.event_model.specs.declared.message.Message.{Message}
-use Rattle.event_json.specs.Lenient.{lenient, PutsText}
-use Rattle.event_json.specs.Text.{message_text}
+use Rattle.event_text.specs.Lenient.{lenient, PutsText}
+use Rattle.event_text.specs.Text.{message_text}
 use Rattle.report_cut.specs.Line.{without_newline}
 use Rattle.report_cut.specs.Pieces.{longest_line}
 use Rattle.pipeline_top.specs.Convert.{Line, empty, text, refused, line_of, short_line, read_line, line_of_reading, longest_feed, convert_bot, behind_line, put_line, converted, end_at, end_from}

@@ -4,8 +4,8 @@ use Rattle.base_types.specs.Lines.{lines_of}
 use Rattle.edge_traits.specs.Sink.{SinkView, Took}
 use Rattle.event_model.specs.declared.fault.ReadFault.{ReadFault}
 use Rattle.event_model.specs.declared.message.Message.{Message}
-use Rattle.event_json.specs.Lenient.{lenient}
-use Rattle.event_json.specs.Text.{message_text}
+use Rattle.event_text.specs.Lenient.{lenient}
+use Rattle.event_text.specs.Text.{message_text}
 use Rattle.report_cut.specs.Line.{without_newline}
 use Rattle.report_cut.specs.Pieces.{longest_line}
 use Rattle.pipeline_top.specs.declared.line.Place.{Place}

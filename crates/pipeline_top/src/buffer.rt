@@ -2,7 +2,7 @@ ghost use Rattle.std.specs.Prelude.{◌≡◌, ◌<◌, ◌≤◌, ℕ, List, []
 ghost use Rattle.edge_traits.specs.Count.{Rose};
 ghost use Rattle.edge_traits.specs.Sink.{Took};
 ghost use Rattle.event_model.specs.Lenient.{IsFaultOf};
-ghost use Rattle.event_json.specs.Lenient.{lenient, PutsText};
+ghost use Rattle.event_text.specs.Lenient.{lenient, PutsText};
 ghost use Rattle.edge_traits.specs.Output.{TookFront, Moved};
 
 use base_types::OutOfMemory;

@@ -14,7 +14,7 @@ use Rattle.event_model.specs.Fields.{FieldMap}
 use Rattle.runtime_config.specs.declared.plan.Module.TheVariants as as_module
 use Rattle.runtime_config.specs.declared.plan.Planned.{Planned}
 use Rattle.runtime_config.specs.declared.plan.Route.{Route}
-use Rattle.sieve_reader.specs.SieveView.{SieveView}
+use Rattle.sieve_tree.specs.SieveView.{SieveView}
 
 abbrev Found : Type 0
 Found = Option LoadFault

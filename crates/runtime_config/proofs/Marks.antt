@@ -6,23 +6,10 @@ use Rattle.std.proofs.lemmas.List.{get_or-map, get_or-set_same, get_or-set_other
 use Rattle.std.proofs.lemmas.List.Sums.{sum_by-set}
 use Rattle.std.proofs.lemmas.Bool.{cases_eq}
 use Rattle.base_types.specs.Lists.{IsIn}
+use Rattle.base_types.proofs.Members.{in_back, in_either, in_front}
 use Rattle.runtime_config.specs.Wires.{is_found, marked, marked_all, wires_at, AreBelow, AreInside, First, Leads, Next, State}
 
 -- ---- items of lists
-
-pub in_front : {A : Type 0} (x : A) (xs ys : List A) → IsIn x xs → IsIn x (xs ++ ys)
-in_front x [] ys h = absurd h
-in_front x (y ∷ xs) ys (inl same) = inl same
-in_front x (y ∷ xs) ys (inr later) = inr (in_front x xs ys later)
-
-pub in_back : {A : Type 0} (x : A) (xs ys : List A) → IsIn x ys → IsIn x (xs ++ ys)
-in_back x [] ys h = h
-in_back x (y ∷ xs) ys h = inr (in_back x xs ys h)
-
-pub in_either : {A : Type 0} (x : A) (xs ys : List A) → IsIn x (xs ++ ys) → IsIn x xs ⊎ IsIn x ys
-in_either x [] ys h = inr h
-in_either x (y ∷ xs) ys (inl same) = inl (inl same)
-in_either x (y ∷ xs) ys (inr later) = elim (in_either x xs ys later) [ inl h ↦ inl (inr h) | inr h ↦ inr h ]
 
 pub in_one : {A : Type 0} (x y : A) → IsIn x (y ∷ []) → x ≡ y
 in_one x y (inl same) = same

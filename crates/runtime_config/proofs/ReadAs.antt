@@ -3,7 +3,7 @@ use Rattle.std.proofs.Common.{◌≡◌, ℕ, List, Result, Ok, Err, IfOk, IfErr
 use Rattle.sieve_reader.specs.Answer.{IsGivenBy}
 use Rattle.sieve_reader.specs.Reads.{IsFault, Reads}
 use Rattle.runtime_config.specs.SieveIn.{sieve_in, IsReadAs}
-use Rattle.sieve_reader.specs.SieveView.{SieveView}
+use Rattle.sieve_tree.specs.SieveView.{SieveView}
 use Rattle.sieve_reader.specs.declared.sieve.SieveFault.{SieveFault}
 use Rattle.sieve_reader.specs.declared.sieve.SieveFault.TheVariants as fault
 use Rattle.sieve_reader.proofs.TextGives.{given, one_answer}

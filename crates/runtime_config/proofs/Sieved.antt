@@ -2,7 +2,7 @@
 use Rattle.std.proofs.Common.{◌≡◌, ℕ, List, Option, Some, None, Result, Ok, Err, refl, sym, ap, subst}
 use Rattle.std.specs.Prelude.{option_map}
 use Rattle.runtime_config.specs.SieveIn.{sieve_in, IsReadAs}
-use Rattle.sieve_reader.specs.SieveView.{SieveView}
+use Rattle.sieve_tree.specs.SieveView.{SieveView}
 use Rattle.sieve_reader.specs.declared.sieve.SieveFault.{SieveFault}
 use Rattle.sieve_reader.specs.declared.sieve.SieveFault.TheVariants as sieve
 use Rattle.runtime_config.specs.Found.{IsSieveOf}

@@ -15,7 +15,7 @@ use Rattle.module_settings.specs.Table.{row_count, table_in}
 use Rattle.runtime_config.specs.declared.fault.LoadFault.{LoadFault}
 use Rattle.runtime_config.specs.declared.fault.LoadFault.TheVariants as fault
 use Rattle.module_settings.specs.declared.table.Table.{Table}
-use Rattle.sieve_reader.specs.SieveView.{SieveView}
+use Rattle.sieve_tree.specs.SieveView.{SieveView}
 
 -- one bot of a bundle, as loading looks at it
 pub record Place : Type 0 where

@@ -1,6 +1,6 @@
 -- What a text gives as a sieve.
 use Rattle.std.specs.Prelude.{◌≡◌, ℕ, List, Result, Ok, Err}
-use Rattle.sieve_reader.specs.SieveView.{SieveView}
+use Rattle.sieve_tree.specs.SieveView.{SieveView}
 use Rattle.sieve_reader.specs.declared.sieve.SieveFault.{SieveFault}
 use Rattle.sieve_reader.specs.declared.sieve.SieveFault.TheVariants as fault
 use Rattle.sieve_reader.proofs.TextGives.{given}

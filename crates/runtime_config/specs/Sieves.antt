@@ -1,7 +1,7 @@
 -- The file of a sieve's bot.
 use Rattle.std.specs.Prelude.{ℕ, List, [], ◌∷◌, Option, Some, None, Result, Ok, Err}
 use Rattle.runtime_config.specs.SieveIn.{sieve_in}
-use Rattle.sieve_reader.specs.SieveView.{SieveView}
+use Rattle.sieve_tree.specs.SieveView.{SieveView}
 use Rattle.sieve_reader.specs.declared.sieve.SieveFault.{SieveFault}
 use Rattle.sieve_reader.specs.declared.sieve.SieveFault.TheVariants as sieve
 use Rattle.runtime_config.specs.declared.fault.LoadFault.{LoadFault}

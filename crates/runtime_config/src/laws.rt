@@ -3,7 +3,7 @@ ghost use Rattle.std.specs.Prelude.{◌≡◌, ◌≤◌, ◌↔◌, ℕ, List, 
 ghost use Rattle.serde_json.specs.Data.{Data};
 ghost use Rattle.config_bundle.specs.declared.bundle.Bundle.{Bundle as AnyBundle};
 ghost use Rattle.sieve_reader.specs.Answer.{IsGivenBy};
-ghost use Rattle.sieve_reader.specs.SieveView.{SieveView};
+ghost use Rattle.sieve_tree.specs.SieveView.{SieveView};
 ghost use Rattle.sieve_reader.specs.declared.sieve.SieveFault.{SieveFault as AnyFault};
 ghost use Rattle.runtime_config.specs.Load.{load};
 ghost use Rattle.module_settings.specs.Parameters.{taken_as};

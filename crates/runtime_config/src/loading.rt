@@ -33,7 +33,7 @@ use crate::{LoadFault, Plan, Planned, PlannedList};
 use base_types::OutOfMemory;
 use config_bundle::Bundle;
 use serde_json::Value as Tree;
-use sieve_reader::Sieve;
+use sieve_tree::Sieve;
 use std::alloc::Global;
 
 const LONGEST_RUNTIME: usize = 1_048_576;

@@ -2,7 +2,7 @@ use base_types::{BotName, ListOf, QueueList, Text, TextList};
 use event_model::Fields;
 use module_settings::{FieldsList, NetworkList};
 use scalar_net::Network;
-use sieve_reader::Sieve;
+use sieve_tree::Sieve;
 
 pub type NamesList = ListOf<TextList>;
 

@@ -18,7 +18,7 @@ use crate::{LoadFault, Module, NamesList, Planned, RouteList};
 use base_types::{OutOfMemory, Text, TextList};
 use config_bundle::Bundle;
 use module_settings::{ModuleWord, Table, TableFault, copies_of, table_in};
-use sieve_reader::Sieve;
+use sieve_tree::Sieve;
 use std::alloc::{AllocError, Global};
 
 fn small(n: u64) -> u32

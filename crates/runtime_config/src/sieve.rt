@@ -14,7 +14,8 @@ use crate::object::Object;
 use crate::rules::sieve_text;
 use base_types::{Text, TextList};
 use config_bundle::Bundle;
-use sieve_reader::{Sieve, SieveFault, read_sieve};
+use sieve_reader::{SieveFault, read_sieve};
+use sieve_tree::Sieve;
 use std::alloc::Global;
 
 // A text of so many bytes isn't read.

@@ -1,6 +1,7 @@
 pub mod CanonicalDecimals
 pub mod CanonicalOnly
 pub mod DayTexts
+pub mod Ends
 pub mod Forms
 pub mod NumberForms
 pub mod Numerals
@@ -11,5 +12,6 @@ pub mod PrintedTimes
 pub mod Quoted
 pub mod Requoted
 pub mod Spellings
+pub mod Stripped
 pub mod TimeForms
 pub mod Times

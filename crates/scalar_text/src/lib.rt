@@ -1,6 +1,7 @@
 //! Numbers, flags, times, words and bytes as texts.
 #![tactic(auto)]
 
+mod blanks;
 mod number;
 mod printing;
 mod quote;
@@ -8,6 +9,7 @@ mod raw;
 mod time;
 mod words;
 
+pub use blanks::strip;
 pub use number::{
     decimal_of_a_text_is_one, number_forms_are_exact, read_decimal, read_port, read_whole,
 };

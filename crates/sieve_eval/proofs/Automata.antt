@@ -25,10 +25,6 @@ finds p text tree names same reads formed filled hay bytes =
     ap is_some (find_str_of_filled (meaning p.hir) hay all ∣ parts ∣₁ (λ i t e. let long = no_shorter_lem p hay i t e in omega (arith, long, filled)) 0)
     ∙ read_matches text hay p.hir names (subst (λ t. Reads default_config text t names) same reads) bytes
 
--- a run leaves what it finds
-pub still_finds : (p q : Program) (text : List ℕ) → q.hir ≡ p.hir → q.min_len ≡ p.min_len → Finds p text → Finds q text
-still_finds p q text same length h filled hay bytes = ap (λ tree. is_some (find (meaning tree) hay 0)) same ∙ h (subst (λ n. 0 < n) length filled) hay bytes
-
 -- what a run from the front of a text says that ends as soon as a match is known
 abbrev pub Ended : Program → List ℕ → End → Type 0
 Ended p hay = IsEnd p.dfa.nfa hay 0 (length hay) false true (end_from p.dfa.nfa hay (length hay) p.dfa.nfa.unanchored 0)

@@ -2,10 +2,10 @@
 use Rattle.std.proofs.Common.{◌≡◌, ℕ, Bool, ◌||◌, ◌&&◌, List, [], ◌∷◌, map, refl, ap, sym, ◌∙◌}
 use Rattle.std.specs.List.{list_all, list_any}
 use Rattle.event_model.specs.Fields.{FieldMap}
-use Rattle.sieve_reader.specs.declared.tree.Cond.{Cond}
-use Rattle.sieve_reader.specs.declared.tree.Cond.TheFolds.{fold-roll-Cond}
-use Rattle.sieve_reader.specs.declared.tree.Cond.TheOpen.{Cond-F}
-use Rattle.sieve_reader.specs.declared.tree.Cond.TheVariants.{rolls-All, rolls-Any, All, Any}
+use Rattle.sieve_tree.specs.declared.tree.Cond.{Cond}
+use Rattle.sieve_tree.specs.declared.tree.Cond.TheFolds.{fold-roll-Cond}
+use Rattle.sieve_tree.specs.declared.tree.Cond.TheOpen.{Cond-F}
+use Rattle.sieve_tree.specs.declared.tree.Cond.TheVariants.{rolls-All, rolls-Any, All, Any}
 use Rattle.sieve_eval.specs.Holds.{holds, holds_with}
 
 any_mapped : {A : Type 0} (f : A → Bool) (xs : List A) → list_any (λ b. b) (map f xs) ≡ list_any f xs

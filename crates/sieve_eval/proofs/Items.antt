@@ -3,15 +3,15 @@ use Rattle.std.proofs.Common.{◌≡◌, ℕ, ◌+◌, ◌<◌, Bool, true, fals
 use Rattle.std.specs.Prelude.{if◌then◌else◌}
 use Rattle.std.proofs.lemmas.List.{drop_more}
 use Rattle.event_model.specs.Fields.{value_for}
-use Rattle.sieve_reader.specs.declared.tree.Cond.{Cond}
-use Rattle.sieve_reader.specs.declared.tree.How.{How}
-use Rattle.sieve_reader.specs.declared.tree.PutSource.{PutSource}
-use Rattle.sieve_reader.specs.declared.tree.PutSource.TheVariants as source
-use Rattle.sieve_reader.specs.declared.tree.SieveItem.{SieveItem}
-use Rattle.sieve_reader.specs.declared.tree.SieveItem.TheFolds.{fold-roll-SieveItem}
-use Rattle.sieve_reader.specs.declared.tree.SieveItem.TheOpen.{SieveItem-F}
-use Rattle.sieve_reader.specs.declared.tree.SieveItem.TheVariants.{rolls-Choice, rolls-Put, Choice, Put}
-use Rattle.sieve_reader.specs.Fixed.{fixed_at, fixed_in, fixed_with, AreCanonical, Settings}
+use Rattle.sieve_tree.specs.declared.tree.Cond.{Cond}
+use Rattle.sieve_tree.specs.declared.tree.How.{How}
+use Rattle.sieve_tree.specs.declared.tree.PutSource.{PutSource}
+use Rattle.sieve_tree.specs.declared.tree.PutSource.TheVariants as source
+use Rattle.sieve_tree.specs.declared.tree.SieveItem.{SieveItem}
+use Rattle.sieve_tree.specs.declared.tree.SieveItem.TheFolds.{fold-roll-SieveItem}
+use Rattle.sieve_tree.specs.declared.tree.SieveItem.TheOpen.{SieveItem-F}
+use Rattle.sieve_tree.specs.declared.tree.SieveItem.TheVariants.{rolls-Choice, rolls-Put, Choice, Put}
+use Rattle.sieve_tree.specs.Fixed.{fixed_at, fixed_in, fixed_with, AreCanonical, Settings}
 use Rattle.sieve_eval.specs.Holds.{holds}
 use Rattle.sieve_eval.specs.Outcome.{going, IsOutcome, Outcome}
 use Rattle.sieve_eval.specs.Putting.{IsSound}

@@ -1,4 +1,3 @@
-pub mod Addresses
 pub mod Automata
 pub mod Conditions
 pub mod Ends

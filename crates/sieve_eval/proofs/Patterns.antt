@@ -13,7 +13,7 @@ use Rattle.regex.specs.Patterns.{find_str, Re}
 use Rattle.regex.specs.Strings.{regex_config, regex_pattern, regex_source, IsReadFromSource}
 use Rattle.regex.specs.declared.string.regex.Regex.{Regex}
 use Rattle.regex.proofs.ForCallers.{is_match_alike}
-use Rattle.sieve_reader.specs.Pattern.{pattern_of, within_depth}
+use Rattle.sieve_tree.specs.Pattern.{pattern_of, within_depth}
 use Rattle.sieve_eval.specs.Says.{has_match, matches, passes}
 
 -- what the grammar read, with the tree that was made of it

@@ -8,8 +8,8 @@ use Rattle.field_types.specs.declared.value.Item.{Item}
 use Rattle.field_types.specs.declared.value.Item.TheVariants as item
 use Rattle.field_types.specs.declared.value.Value.{Value}
 use Rattle.field_types.specs.declared.value.Value.TheVariants.{Text, Whole, Flag, Decimal, List as ItemsOf}
-use Rattle.sieve_reader.specs.declared.tree.Amount.{Amount}
-use Rattle.sieve_reader.specs.declared.tree.Amount.TheVariants as written
+use Rattle.sieve_tree.specs.declared.tree.Amount.{Amount}
+use Rattle.sieve_tree.specs.declared.tree.Amount.TheVariants as written
 
 -- a whole number in millionths
 abbrev pub millionths : ℤ → ℤ

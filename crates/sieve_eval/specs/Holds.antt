@@ -3,8 +3,8 @@ use Rattle.std.specs.Prelude.{ℕ, Bool, not, List}
 use Rattle.std.specs.FinMap.{get}
 use Rattle.std.specs.List.{list_all, list_any}
 use Rattle.event_model.specs.Fields.{FieldMap}
-use Rattle.sieve_reader.specs.declared.tree.Cond.{Cond, fold-Cond}
-use Rattle.sieve_reader.specs.declared.tree.Cond.TheOpen.{Cond-F}
+use Rattle.sieve_tree.specs.declared.tree.Cond.{Cond, fold-Cond}
+use Rattle.sieve_tree.specs.declared.tree.Cond.TheOpen.{Cond-F}
 use Rattle.sieve_eval.specs.Says.{says_of}
 
 module _ (patterns : List (List ℕ)) (now : ℕ) (fields : FieldMap) where

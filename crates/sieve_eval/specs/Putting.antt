@@ -2,8 +2,8 @@
 use Rattle.std.specs.Prelude.{◌≡◌, ℕ, List, Option, Some, None, Result, Ok, Err}
 use Rattle.event_model.specs.Fields.{IsField}
 use Rattle.field_types.specs.declared.value.Value.{Value}
-use Rattle.sieve_reader.specs.declared.tree.PutSource.{PutSource}
-use Rattle.sieve_reader.specs.declared.tree.PutSource.TheVariants as source
+use Rattle.sieve_tree.specs.declared.tree.PutSource.{PutSource}
+use Rattle.sieve_tree.specs.declared.tree.PutSource.TheVariants as source
 use Rattle.sieve_eval.specs.declared.fault.EvalFault.{EvalFault}
 use Rattle.sieve_eval.specs.declared.fault.EvalFault.TheVariants as fault
 

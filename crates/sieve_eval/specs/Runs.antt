@@ -3,13 +3,13 @@ use Rattle.std.specs.Prelude.{ℕ, Bool, true, not, List, [], ◌∷◌, map, Op
 use Rattle.std.specs.FinMap.{get, insert, remove}
 use Rattle.event_model.specs.Fields.{value_for, FieldMap}
 use Rattle.field_types.specs.declared.value.Value.{Value}
-use Rattle.sieve_reader.specs.declared.tree.Cond.{Cond}
-use Rattle.sieve_reader.specs.declared.tree.How.{How}
-use Rattle.sieve_reader.specs.declared.tree.How.TheVariants as how
-use Rattle.sieve_reader.specs.declared.tree.PutSource.{PutSource}
-use Rattle.sieve_reader.specs.declared.tree.PutSource.TheVariants as source
-use Rattle.sieve_reader.specs.declared.tree.SieveItem.{SieveItem, fold-SieveItem}
-use Rattle.sieve_reader.specs.declared.tree.SieveItem.TheOpen.{SieveItem-F}
+use Rattle.sieve_tree.specs.declared.tree.Cond.{Cond}
+use Rattle.sieve_tree.specs.declared.tree.How.{How}
+use Rattle.sieve_tree.specs.declared.tree.How.TheVariants as how
+use Rattle.sieve_tree.specs.declared.tree.PutSource.{PutSource}
+use Rattle.sieve_tree.specs.declared.tree.PutSource.TheVariants as source
+use Rattle.sieve_tree.specs.declared.tree.SieveItem.{SieveItem, fold-SieveItem}
+use Rattle.sieve_tree.specs.declared.tree.SieveItem.TheOpen.{SieveItem-F}
 use Rattle.sieve_eval.specs.Holds.{holds}
 use Rattle.sieve_eval.specs.Outcome.{bad, dropped, ended, forwarded, going, Outcome}
 use Rattle.sieve_eval.specs.declared.state.State.{State}

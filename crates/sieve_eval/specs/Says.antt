@@ -1,17 +1,16 @@
 -- What an operator says of the value of a field.
-use Rattle.std.specs.Prelude.{◌≡◌, ℕ, ◌+◌, ℤ, Bool, true, false, ◌||◌, not, List, [], ◌∷◌, Option, Some, None, nat_eq, nat_lt, int_lt, int_le, is_some, slice_get, option_and_then, refl}
+use Rattle.std.specs.Prelude.{ℕ, ◌+◌, ℤ, Bool, true, false, ◌||◌, not, List, [], ◌∷◌, Option, Some, None, nat_eq, nat_lt, int_lt, int_le, is_some, slice_get, option_and_then}
 use Rattle.std.specs.List.{list_any, starts_with}
 use Rattle.regex.specs.Patterns.{Re, find_str}
-use Rattle.scalar_net.proofs.Ranges.{ip_in-fits}
-use Rattle.scalar_net.specs.Address.{ip_in}
 use Rattle.scalar_net.specs.Network.{is_inside}
+use Rattle.field_types.specs.Written.{address_in}
 use Rattle.scalar_net.specs.declared.address.Ip.{Ip}
 use Rattle.scalar_text.specs.Time.{time_in}
 use Rattle.field_types.specs.declared.value.Value.{Value}
 use Rattle.field_types.specs.declared.value.Value.TheVariants.{Text, Whole, Flag, Decimal, List as ItemsOf}
-use Rattle.sieve_reader.specs.Pattern.{pattern_of}
-use Rattle.sieve_reader.specs.declared.tree.Test.{Test}
-use Rattle.sieve_reader.specs.declared.tree.Test.TheVariants as test
+use Rattle.sieve_tree.specs.Pattern.{pattern_of}
+use Rattle.sieve_tree.specs.declared.tree.Test.{Test}
+use Rattle.sieve_tree.specs.declared.tree.Test.TheVariants as test
 use Rattle.sieve_eval.specs.Amount.{amount, amount_of, equal}
 
 -- the text of a value that is one
@@ -45,17 +44,6 @@ matches text pattern = passes (has_match text) (pattern_of pattern)
 -- the pattern with that number has a match in the text
 abbrev pub finds : List (List ℕ) → ℕ → List ℕ → Bool
 finds patterns n text = passes (matches text) (slice_get patterns n)
-
--- ---- addresses
-
--- the address of that family with that number, where a text writes one
-abbrev pub ip_with : (text : List ℕ) (found : Option (Bool × ℕ)) → ip_in text ≡ found → Option Ip
-ip_with text None is = None
-ip_with text (Some ip) is = Some (record { six = ip.0; bits = ip.1; in_range = ip_in-fits text ip is })
-
--- the address that a text writes, if it writes one
-unfoldable pub address_in : List ℕ → Option Ip
-address_in text = ip_with text (ip_in text) refl
 
 -- ---- times
 

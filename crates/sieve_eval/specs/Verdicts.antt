@@ -1,7 +1,7 @@
 -- What a sieve makes of an event.
 use Rattle.std.specs.Prelude.{◌≡◌, ℕ, List, [], ◌∷◌, Result, Ok, Err, codes}
 use Rattle.event_model.specs.Fields.{FieldMap}
-use Rattle.sieve_reader.specs.SieveView.{SieveView}
+use Rattle.sieve_tree.specs.SieveView.{SieveView}
 use Rattle.sieve_eval.specs.Outcome.{bad, ended, forwarded, going, Outcome}
 use Rattle.sieve_eval.specs.Runs.{run_all}
 use Rattle.sieve_eval.specs.declared.fault.EvalFault.{EvalFault}

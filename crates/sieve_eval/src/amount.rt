@@ -4,7 +4,7 @@ ghost use Rattle.sieve_eval.specs.Says.{is_number};
 
 use base_types::Text;
 use field_types::{ItemList, Value};
-use sieve_reader::Amount;
+use sieve_tree::Amount;
 
 fn millionths(n: i64) -> i128
     ensures { result ≡ millionths n }

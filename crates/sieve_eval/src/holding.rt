@@ -9,7 +9,7 @@ use crate::saying::{Setting, says, says_of_none};
 use base_types::OutOfMemory;
 use event_model::Fields;
 use field_types::FieldName;
-use sieve_reader::{Cond, Test};
+use sieve_tree::{Cond, Test};
 use std::alloc::Global;
 
 fn says_of(

@@ -1,6 +1,7 @@
 ghost use Rattle.std.specs.Prelude.{◌≡◌, ◌≤◌, ◌++◌, length, take, drop, option_and_then, IfSome};
 ghost use Rattle.scalar_text.specs.Time.{time_in};
-ghost use Rattle.sieve_eval.specs.Says.{address_in, text_of};
+ghost use Rattle.field_types.specs.Written.{address_in};
+ghost use Rattle.sieve_eval.specs.Says.{text_of};
 
 use field_types::Value;
 use scalar_net::{Ip, read_ip};
@@ -124,7 +125,7 @@ pub struct AddressMemo {
 
 impl Model for AddressMemo {
     ghost use Rattle.std.specs.Prelude.{◌≡◌};
-    ghost use Rattle.sieve_eval.specs.Says.{address_in};
+    ghost use Rattle.field_types.specs.Written.{address_in};
 
     ghost Value = { Unit {0} };
 

@@ -11,7 +11,7 @@ use crate::state::{Flow, State, at_first};
 use crate::verdict::{Fate, Verdict};
 use base_types::{Moment, OutOfMemory};
 use event_model::{Fields, PlaceHint};
-use sieve_reader::Sieve;
+use sieve_tree::Sieve;
 use std::alloc::Global;
 use std::marker::Model;
 
@@ -25,8 +25,8 @@ pub struct Prepared {
 impl Model for Prepared {
     ghost use Rattle.std.specs.Coded.{codes};
     ghost use Rattle.std.specs.Prelude.{◌≡◌};
-    ghost use Rattle.sieve_reader.specs.SieveView.{SieveView};
-    ghost use Rattle.sieve_reader.specs.contracts.tree.SieveItem as items_code;
+    ghost use Rattle.sieve_tree.specs.SieveView.{SieveView};
+    ghost use Rattle.sieve_tree.specs.contracts.tree.SieveItem as items_code;
 
     ghost Value = { SieveView };
 

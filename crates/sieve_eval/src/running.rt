@@ -1,6 +1,6 @@
 ghost use Rattle.std.specs.Prelude.{◌≡◌};
 ghost use Rattle.std.specs.List.{flat_map};
-ghost use Rattle.sieve_reader.specs.Fixed.{all_fixed, fixed_in, AreCanonical};
+ghost use Rattle.sieve_tree.specs.Fixed.{all_fixed, fixed_in, AreCanonical};
 ghost use Rattle.sieve_eval.specs.Holds.{holds};
 ghost use Rattle.sieve_eval.specs.Outcome.{IsOutcome};
 ghost use Rattle.sieve_eval.specs.Runs.{chosen, run_all, runs};
@@ -11,7 +11,7 @@ use crate::putting::put;
 use crate::saying::Setting;
 use crate::state::{Flow, State, set_paths};
 use event_model::Fields;
-use sieve_reader::{Case, SieveItem};
+use sieve_tree::{Case, SieveItem};
 use std::alloc::Global;
 
 /// Runs an item.

@@ -11,7 +11,7 @@ use base_types::{OutOfMemory, Text};
 use event_model::PlaceHint;
 use field_types::Value;
 use scalar_net::{Ip, Network, holds};
-use sieve_reader::Test;
+use sieve_tree::Test;
 use std::alloc::Global;
 
 /// What tests look at beside the event: the patterns by their numbers, the moment in seconds since 1970-01-01T00:00:00 UTC, and

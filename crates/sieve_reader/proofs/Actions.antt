@@ -9,12 +9,12 @@ use Rattle.sieve_reader.specs.Lexeme as lex
 use Rattle.sieve_reader.specs.Lexeme.{literal_of, symbols, Lexeme, Symbol}
 use Rattle.sieve_reader.specs.Parse.{field, if_plain, item_at, item_by, literal, path_name, put, put_source, quoted_of, read_map, row, sign, source_at, texts, texts_at, Parser, Read}
 use Rattle.sieve_reader.specs.Refusal as cause
-use Rattle.sieve_reader.specs.declared.tree.How.{How}
-use Rattle.sieve_reader.specs.declared.tree.How.TheVariants as how
-use Rattle.sieve_reader.specs.declared.tree.PutSource.{PutSource}
-use Rattle.sieve_reader.specs.declared.tree.PutSource.TheVariants as source
-use Rattle.sieve_reader.specs.declared.tree.SieveItem.{SieveItem}
-use Rattle.sieve_reader.specs.declared.tree.SieveItem.TheVariants as item
+use Rattle.sieve_tree.specs.declared.tree.How.{How}
+use Rattle.sieve_tree.specs.declared.tree.How.TheVariants as how
+use Rattle.sieve_tree.specs.declared.tree.PutSource.{PutSource}
+use Rattle.sieve_tree.specs.declared.tree.PutSource.TheVariants as source
+use Rattle.sieve_tree.specs.declared.tree.SieveItem.{SieveItem}
+use Rattle.sieve_tree.specs.declared.tree.SieveItem.TheVariants as item
 use Rattle.sieve_reader.proofs.Picks.{bound, held, mapped, picked_sound, plain_is, quoted_is, sign_is, sign_sound, Complete, Nonempty, Sound}
 use Rattle.sieve_reader.proofs.Rows.{row_complete, row_sound, Anything}
 use Rattle.sieve_reader.proofs.Tests.{field_sound, literal_sound, Fits}

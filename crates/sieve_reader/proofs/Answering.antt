@@ -13,14 +13,14 @@ use Rattle.sieve_reader.specs.Parse.{an_item, file, is_end, items, or_more, refu
 use Rattle.sieve_reader.specs.Reads.{Gives, IsFault, IsRefused, Reads}
 use Rattle.sieve_reader.specs.Refusal as told
 use Rattle.sieve_reader.specs.Refusal.{place}
-use Rattle.sieve_reader.specs.SieveView.{SieveView}
+use Rattle.sieve_tree.specs.SieveView.{SieveView}
 use Rattle.sieve_reader.specs.declared.fault.Cause.{Cause}
 use Rattle.sieve_reader.specs.declared.fault.Cause.TheVariants as cause
 use Rattle.sieve_reader.specs.declared.fault.Fault.{Fault}
 use Rattle.sieve_reader.specs.declared.fault.Fault.TheVariants as faults
 use Rattle.sieve_reader.specs.declared.sieve.SieveFault.{SieveFault}
 use Rattle.sieve_reader.specs.declared.sieve.SieveFault.TheVariants as fault
-use Rattle.sieve_reader.specs.declared.tree.SieveItem.{SieveItem}
+use Rattle.sieve_tree.specs.declared.tree.SieveItem.{SieveItem}
 use Rattle.sieve_reader.proofs.Cursors.{lexemes_len}
 use Rattle.sieve_reader.proofs.Files.{file_complete, file_sound}
 use Rattle.sieve_reader.proofs.FirstWrong.{first_wrong}

@@ -7,8 +7,8 @@ use Rattle.sieve_reader.specs.Leaf.{Leaf, Reading}
 use Rattle.sieve_reader.specs.Lexeme as lex
 use Rattle.sieve_reader.specs.Lexeme.{symbols, Lexeme, Symbol}
 use Rattle.sieve_reader.specs.Parse.{both, cond_of, field, grouped_of, is_sign, negated_of, one, one_at, one_by, sees, test_at, tested, too_deep, Parser, Read, Refusal, ◌>>=◌}
-use Rattle.sieve_reader.specs.declared.tree.Cond.{Cond}
-use Rattle.sieve_reader.specs.declared.tree.Cond.TheVariants as cond
+use Rattle.sieve_tree.specs.declared.tree.Cond.{Cond}
+use Rattle.sieve_tree.specs.declared.tree.Cond.TheVariants as cond
 use Rattle.sieve_reader.proofs.Picks.{bound, closed_is, closed_sound, mapped, tells_sign, Complete, Nonempty, Sound}
 use Rattle.sieve_reader.proofs.Rows.{enough, separated_complete, separated_sound, Anything}
 use Rattle.sieve_reader.proofs.Tests.{tested_sound, Fits}

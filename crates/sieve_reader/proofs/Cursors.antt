@@ -1,8 +1,8 @@
 -- Tokens as the reader sees them.
-use Rattle.std.proofs.Common.{◌≡◌, ℕ, suc, ◌+◌, ◌≤◌, true, List, [], ◌∷◌, length, refl, ap}
+use Rattle.std.proofs.Common.{◌≡◌, ℕ, suc, ◌+◌, true, List, [], ◌∷◌, length, refl, ap}
 use Rattle.std.specs.Prelude.{if◌then◌else◌, nat_le, ◌&&◌, IsUtf8}
 use Rattle.std.proofs.lemmas.Str.{IsUtf8-from_is_utf8}
-use Rattle.std.proofs.lemmas.Bool.{and_parts, leb-true}
+use Rattle.std.proofs.lemmas.Bool.{and_parts}
 use Rattle.sieve_tokens.specs.Quoted.{IsQuoted}
 use Rattle.sieve_tokens.specs.Scan.{piece_at}
 use Rattle.sieve_tokens.specs.Token.{bytes_of}
@@ -16,12 +16,6 @@ use Rattle.sieve_reader.specs.Lexeme.{is_pattern_sign, lexeme_of, lexemes_from}
 pub lexemes_len : (text : List ℕ) (tokens : List Token) (before : ℕ) → length (lexemes_from before text tokens) ≡ length tokens
 lexemes_len text [] before = refl
 lexemes_len text (t ∷ ts) before = ap (λ n. suc n) (lexemes_len text ts (if is_pattern_sign (lexeme_of before text t).symbol then before + 1 else before))
-
-pub in_text : (text : List ℕ) (token : Token) → is_right text token ≡ true → (token.from ≤ token.upto) × (token.upto ≤ length text)
-in_text text token is =
-    let parts = and_parts (nat_le token.from token.upto && nat_le token.upto (length text)) (is_right_of token.kind (bytes_of text token)) is in
-    let ends = and_parts (nat_le token.from token.upto) (nat_le token.upto (length text)) parts.0 in
-    (leb-true token.from token.upto ends.0, leb-true token.upto (length text) ends.1)
 
 quoted_of : (k : TokenKind) (bytes : List ℕ) → is_right_of k bytes ≡ true → k ≡ kinds.Quoted → IsQuoted bytes
 quoted_of kinds.Quoted bytes is e = alone_quoted bytes (piece_at bytes) refl is

@@ -8,10 +8,10 @@ use Rattle.sieve_reader.specs.Leaf.{Leaf, Reading}
 use Rattle.sieve_reader.specs.Lexeme as lex
 use Rattle.sieve_reader.specs.Lexeme.{symbols, Lexeme, Symbol}
 use Rattle.sieve_reader.specs.Parse.{an_item, block, choice, condition, deep_block, file, is_elif, is_else, is_end, is_sign, item_at, item_by, items, sees, sign, Read}
-use Rattle.sieve_reader.specs.declared.tree.Cond.{Cond}
-use Rattle.sieve_reader.specs.declared.tree.How.{How}
-use Rattle.sieve_reader.specs.declared.tree.How.TheVariants as how
-use Rattle.sieve_reader.specs.declared.tree.SieveItem.{SieveItem}
+use Rattle.sieve_tree.specs.declared.tree.Cond.{Cond}
+use Rattle.sieve_tree.specs.declared.tree.How.{How}
+use Rattle.sieve_tree.specs.declared.tree.How.TheVariants as how
+use Rattle.sieve_tree.specs.declared.tree.SieveItem.{SieveItem}
 use Rattle.sieve_reader.proofs.Actions.{action_complete, item_by_sound, one_token, two_tokens}
 use Rattle.sieve_reader.proofs.Conditions.{cond_complete, cond_some, cond_sound, NeitherSign}
 use Rattle.sieve_reader.proofs.Items.{block_complete, block_opens, block_sound, choice_complete, choice_sound, items_complete, items_enough, items_sound, NoElse}

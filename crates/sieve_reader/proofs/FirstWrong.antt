@@ -8,7 +8,7 @@ use Rattle.sieve_reader.specs.Lexeme.{Lexeme}
 use Rattle.sieve_reader.specs.Parse.{file, refusal, Read, Refusal}
 use Rattle.sieve_reader.specs.Refusal as cause
 use Rattle.sieve_reader.specs.Refusal.{head, nests, rank, Begins, Cause, IsFirstWrong, IsWrong}
-use Rattle.sieve_reader.specs.declared.tree.SieveItem.{SieveItem}
+use Rattle.sieve_tree.specs.declared.tree.SieveItem.{SieveItem}
 use Rattle.sieve_reader.proofs.Files.{file_complete, file_sound}
 use Rattle.sieve_reader.proofs.Going.{always, seen, Any, Blamed, Calm, Completes, Ran, Stays, Stopped}
 use Rattle.sieve_reader.proofs.GoingItems.{file_runs}

@@ -12,11 +12,11 @@ use Rattle.sieve_reader.specs.Lexeme.{Lexeme, Symbol}
 use Rattle.sieve_reader.specs.Parse.{field, item_at, item_by, literal, path_name, put, put_source, read_map, refusal, row, sign, source_at, texts, texts_at, Parser, Read, ◌>>=◌}
 use Rattle.sieve_reader.specs.Refusal as cause
 use Rattle.sieve_reader.specs.Refusal.{nests}
-use Rattle.sieve_reader.specs.declared.tree.How.{How}
-use Rattle.sieve_reader.specs.declared.tree.How.TheVariants as how
-use Rattle.sieve_reader.specs.declared.tree.PutSource.TheVariants as source
-use Rattle.sieve_reader.specs.declared.tree.SieveItem.{SieveItem}
-use Rattle.sieve_reader.specs.declared.tree.SieveItem.TheVariants as item
+use Rattle.sieve_tree.specs.declared.tree.How.{How}
+use Rattle.sieve_tree.specs.declared.tree.How.TheVariants as how
+use Rattle.sieve_tree.specs.declared.tree.PutSource.TheVariants as source
+use Rattle.sieve_tree.specs.declared.tree.SieveItem.{SieveItem}
+use Rattle.sieve_tree.specs.declared.tree.SieveItem.TheVariants as item
 use Rattle.sieve_reader.proofs.Actions.{path_name_some, path_name_sound}
 use Rattle.sieve_reader.proofs.Going.{alike, always, bind_runs, bound_completes, front, map_runs, pure_runs, unexpected_here, Any, Calm, Completes, Is, Ran, Runs}
 use Rattle.sieve_reader.proofs.GoingRows.{row_runs, shrinks_of, Expects, Shrinks}

@@ -8,9 +8,9 @@ use Rattle.sieve_reader.specs.Lexeme.{Lexeme, Symbol}
 use Rattle.sieve_reader.specs.Parse.{both, closed, cond_of, condition, field, grouped_of, is_sign, negated_of, one, one_at, read_map, refusal, separated, tested, too_deep, Parser, ◌>>=◌}
 use Rattle.sieve_reader.specs.Refusal as cause
 use Rattle.sieve_reader.specs.Refusal.{head, nests}
-use Rattle.sieve_reader.specs.declared.tree.Cond.{Cond}
-use Rattle.sieve_reader.specs.declared.tree.Cond.TheVariants as cond
-use Rattle.sieve_reader.specs.declared.tree.Test.TheVariants as test
+use Rattle.sieve_tree.specs.declared.tree.Cond.{Cond}
+use Rattle.sieve_tree.specs.declared.tree.Cond.TheVariants as cond
+use Rattle.sieve_tree.specs.declared.tree.Test.TheVariants as test
 use Rattle.sieve_reader.proofs.Conditions.{both_some, both_sound, cond_of_some, cond_of_sound, one_complete, one_some, one_sound}
 use Rattle.sieve_reader.proofs.Going.{alike, always, bind_runs, bound_completes, deep_here, front, lifted, map_runs, tail_still, unexpected_here, Any, Calm, Completes, Ran, Runs}
 use Rattle.sieve_reader.proofs.GoingRows.{sees_none, sep, sep_runs, shrinks_of, Expects, Shrinks}

@@ -9,9 +9,9 @@ use Rattle.sieve_reader.specs.Lexeme.{Lexeme, Symbol}
 use Rattle.sieve_reader.specs.Parse.{an_item, block, case, choice, closed, condition, deep_block, file, is_elif, is_else, is_end, is_sign, item_by, items, one, or_more, or_nothing, otherwise, part, read_map, refusal, sees, sign, Parser, Read, ◌>>=◌}
 use Rattle.sieve_reader.specs.Refusal as cause
 use Rattle.sieve_reader.specs.Refusal.{head, nests}
-use Rattle.sieve_reader.specs.declared.tree.Cond.{Cond}
-use Rattle.sieve_reader.specs.declared.tree.SieveItem.{SieveItem}
-use Rattle.sieve_reader.specs.declared.tree.SieveItem.TheVariants as item
+use Rattle.sieve_tree.specs.declared.tree.Cond.{Cond}
+use Rattle.sieve_tree.specs.declared.tree.SieveItem.{SieveItem}
+use Rattle.sieve_tree.specs.declared.tree.SieveItem.TheVariants as item
 use Rattle.sieve_reader.proofs.Blocks.{block_too_deep, no_block, opened}
 use Rattle.sieve_reader.proofs.Files.{item_some, item_sound}
 use Rattle.sieve_reader.proofs.Going.{alike, always, bind_at, bind_runs, bound_completes, deep_here, front, lifted, long_any, map_runs, no_opens, pure_runs, pure_starts, tail_still, unexpected_here, Any, Calm, Completes, Like, Ran, Runs}

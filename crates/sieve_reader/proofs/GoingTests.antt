@@ -10,10 +10,10 @@ use Rattle.sieve_reader.specs.Lexeme.{amount_of, literal_of, Lexeme, Symbol}
 use Rattle.sieve_reader.specs.Parse.{amount, field, literal, named, network, operand, operator, pattern, read_map, refusal, row, span, test_at, tested, text, Parser, Read}
 use Rattle.sieve_reader.specs.Refusal as cause
 use Rattle.sieve_reader.specs.Refusal.{head, is_pattern_op, nests, takes_value}
-use Rattle.sieve_reader.specs.declared.tree.Cond.{Cond}
-use Rattle.sieve_reader.specs.declared.tree.Cond.TheVariants as cond
-use Rattle.sieve_reader.specs.declared.tree.Test.{Test}
-use Rattle.sieve_reader.specs.declared.tree.Test.TheVariants as test
+use Rattle.sieve_tree.specs.declared.tree.Cond.{Cond}
+use Rattle.sieve_tree.specs.declared.tree.Cond.TheVariants as cond
+use Rattle.sieve_tree.specs.declared.tree.Test.{Test}
+use Rattle.sieve_tree.specs.declared.tree.Test.TheVariants as test
 use Rattle.sieve_reader.proofs.Going.{alike, always, bind_runs, front, map_runs, unexpected_here, Any, Calm, Completes, Is, Ran, Runs}
 use Rattle.sieve_reader.proofs.GoingRows.{row_runs, shrinks_of, Expects, Shrinks}
 use Rattle.sieve_reader.proofs.GoingTokens.{amount_runs, every, field_runs, headed, lexeme, literal_ends, literal_runs, literal_starts, network_runs, no_head, pattern_runs, row_literal, span_runs, text_runs, Named, Same, Whatever}

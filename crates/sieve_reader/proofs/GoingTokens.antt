@@ -15,12 +15,12 @@ use Rattle.sieve_reader.specs.Leaf.{has_addresses, is_ordered, is_time, judged, 
 use Rattle.sieve_reader.specs.Lexeme as lex
 use Rattle.sieve_reader.specs.Lexeme.{amount_of, literal_of, Lexeme, Symbol}
 use Rattle.sieve_reader.specs.Parse.{a_literal, amount, closed, field, fitted, if_plain, is_sign, literal, name_of, network, network_in, path_name, pattern, picked, picked_at, quoted_of, refusal, seconds_in, sign, span, text, the_sign, value_in, Parser}
-use Rattle.sieve_reader.specs.Pattern.{pattern_of}
+use Rattle.sieve_tree.specs.Pattern.{pattern_of}
 use Rattle.sieve_reader.specs.Refusal as cause
 use Rattle.sieve_reader.specs.Refusal.{head, nests, Cause}
 use Rattle.sieve_reader.specs.Span.{span_in}
-use Rattle.sieve_reader.specs.declared.tree.Amount.{Amount}
-use Rattle.sieve_reader.specs.declared.tree.Amount.TheVariants as numbers
+use Rattle.sieve_tree.specs.declared.tree.Amount.{Amount}
+use Rattle.sieve_tree.specs.declared.tree.Amount.TheVariants as numbers
 use Rattle.sieve_reader.proofs.Going.{always, Is, lengthens, map_runs, no_opens, unexpected_here, Any, Completes, Ran, Runs, Stopped}
 use Rattle.sieve_reader.proofs.Picks.{closed_is, is_own_sign, literal_is, name_is, network_is, plain_is, quoted_is, seconds_is, sign_is, sign_picked, value_is}
 use Rattle.sieve_reader.proofs.Windows.{cause_of_leaf, leaf_at, order_told, paths_step, right_leaf, row_step, step, value_told, State, Told}

@@ -8,9 +8,9 @@ use Rattle.sieve_reader.specs.Leaf.{Leaf, Reading}
 use Rattle.sieve_reader.specs.Lexeme as lex
 use Rattle.sieve_reader.specs.Lexeme.{Lexeme, Symbol}
 use Rattle.sieve_reader.specs.Parse.{block, case, choice, is_elif, is_else, is_sign, items, or_more, or_nothing, otherwise, read_map, sees, separated, sign, Parser, Read, ◌>>=◌}
-use Rattle.sieve_reader.specs.declared.tree.Cond.{Cond}
-use Rattle.sieve_reader.specs.declared.tree.SieveItem.{SieveItem}
-use Rattle.sieve_reader.specs.declared.tree.SieveItem.TheVariants as item
+use Rattle.sieve_tree.specs.declared.tree.Cond.{Cond}
+use Rattle.sieve_tree.specs.declared.tree.SieveItem.{SieveItem}
+use Rattle.sieve_tree.specs.declared.tree.SieveItem.TheVariants as item
 use Rattle.sieve_reader.proofs.Conditions.{NeitherSign}
 use Rattle.sieve_reader.proofs.Picks.{bound, closed_is, closed_sound, held, mapped, sees_first, sign_is, sign_sound, Complete, Nonempty, Sound, Tells}
 use Rattle.sieve_reader.proofs.Rows.{enough, separated_complete, separated_sound, Anything}

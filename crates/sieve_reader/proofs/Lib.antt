@@ -7,7 +7,7 @@ mod Cursors
 mod Digits
 mod Files
 mod FirstWrong
-pub mod FixedValues
+mod FixedRead
 mod Going
 mod GoingActions
 mod GoingConds
@@ -19,7 +19,6 @@ mod Items
 mod NetworksOf
 mod OneRefusal
 mod OneSieve
-mod PatternTexts
 mod Picks
 mod RightTokens
 mod Rows
@@ -27,6 +26,5 @@ mod Tests
 mod TestsRead
 pub mod TextGives
 mod Turns
-pub mod Weights
 mod Wider
 mod Windows

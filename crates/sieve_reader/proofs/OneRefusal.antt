@@ -12,8 +12,8 @@ use Rattle.sieve_reader.specs.Parse.{file, refusal, Read}
 use Rattle.sieve_reader.specs.Reads.{paths_in, patterns_in, IsRefused, Reads}
 use Rattle.sieve_reader.specs.Refusal as cause
 use Rattle.sieve_reader.specs.Refusal.{head, place, rank, Begins, Cause, IsFirstWrong, IsRefusal, IsWrong}
-use Rattle.sieve_reader.specs.SieveView.{SieveView}
-use Rattle.sieve_reader.specs.declared.tree.SieveItem.{SieveItem}
+use Rattle.sieve_tree.specs.SieveView.{SieveView}
+use Rattle.sieve_tree.specs.declared.tree.SieveItem.{SieveItem}
 use Rattle.sieve_reader.proofs.Answering.{read_sound}
 use Rattle.sieve_reader.proofs.Files.{file_complete}
 use Rattle.sieve_reader.proofs.FirstWrong.{all_are, first_wrong}

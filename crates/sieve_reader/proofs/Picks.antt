@@ -178,7 +178,3 @@ seconds_is (Some (leaf.seconds w)) v e = ap (λ (x : ℕ). Some (leaf.seconds x)
 
 pub literal_is : (symbol written : Symbol) → a_literal symbol ≡ Some written → (is_some (literal_of symbol) ≡ true) × (symbol ≡ written)
 literal_is symbol written e = if_some (is_some (literal_of symbol)) symbol written e
-
-pub some_value : {A : Type 0} (o : Option A) → is_some o ≡ true → (x : A) × (o ≡ Some x)
-some_value None e = absurd (cc)
-some_value (Some x) e = (x, refl)

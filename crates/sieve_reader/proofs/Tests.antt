@@ -11,12 +11,13 @@ use Rattle.sieve_reader.specs.Lexeme as lex
 use Rattle.sieve_reader.specs.Lexeme.{amount_of, literal_of, symbols, Lexeme, Symbol}
 use Rattle.sieve_reader.specs.Parse.{a_literal, amount, field, if_plain, literal, name_of, network, network_in, operand, operator, pattern, quoted_of, read_map, row, seconds_in, span, test_at, tested, text, value_in, Parser, ◌>>=◌}
 use Rattle.sieve_reader.specs.Refusal as cause
-use Rattle.sieve_reader.specs.declared.tree.Amount.{Amount}
-use Rattle.sieve_reader.specs.declared.tree.Cond.{Cond}
-use Rattle.sieve_reader.specs.declared.tree.Cond.TheVariants as cond
-use Rattle.sieve_reader.specs.declared.tree.Test.{Test}
-use Rattle.sieve_reader.specs.declared.tree.Test.TheVariants as test
-use Rattle.sieve_reader.proofs.Picks.{bound, literal_is, mapped, name_is, network_is, picked_sound, plain_is, quoted_is, seconds_is, some_value, value_is, Sound}
+use Rattle.sieve_tree.specs.declared.tree.Amount.{Amount}
+use Rattle.sieve_tree.specs.declared.tree.Cond.{Cond}
+use Rattle.sieve_tree.specs.declared.tree.Cond.TheVariants as cond
+use Rattle.sieve_tree.specs.declared.tree.Test.{Test}
+use Rattle.sieve_tree.specs.declared.tree.Test.TheVariants as test
+use Rattle.sieve_reader.proofs.Picks.{bound, literal_is, mapped, name_is, network_is, picked_sound, plain_is, quoted_is, seconds_is, value_is, Sound}
+use Rattle.base_types.proofs.Options.{some_value}
 use Rattle.sieve_reader.proofs.Rows.{row_sound}
 
 module _ (fits : Leaf → Option Reading) where

@@ -11,11 +11,11 @@ use Rattle.sieve_reader.specs.Leaf.{Leaf, Reading}
 use Rattle.sieve_reader.specs.Lexeme as lex
 use Rattle.sieve_reader.specs.Lexeme.{amount_of, literal_of, symbols, Lexeme, Symbol}
 use Rattle.sieve_reader.specs.Parse.{amount, field, literal, network, operand, operator, pattern, read_map, row, span, test_at, tested, text, Parser, Read, ◌>>=◌}
-use Rattle.sieve_reader.specs.declared.tree.Amount.{Amount}
-use Rattle.sieve_reader.specs.declared.tree.Cond.{Cond}
-use Rattle.sieve_reader.specs.declared.tree.Cond.TheVariants as cond
-use Rattle.sieve_reader.specs.declared.tree.Test.{Test}
-use Rattle.sieve_reader.specs.declared.tree.Test.TheVariants as test
+use Rattle.sieve_tree.specs.declared.tree.Amount.{Amount}
+use Rattle.sieve_tree.specs.declared.tree.Cond.{Cond}
+use Rattle.sieve_tree.specs.declared.tree.Cond.TheVariants as cond
+use Rattle.sieve_tree.specs.declared.tree.Test.{Test}
+use Rattle.sieve_tree.specs.declared.tree.Test.TheVariants as test
 use Rattle.sieve_reader.proofs.Picks.{Complete, Nonempty}
 use Rattle.sieve_reader.proofs.Rows.{row_complete, Anything}
 use Rattle.sieve_reader.proofs.Tests.{Fits}

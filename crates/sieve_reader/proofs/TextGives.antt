@@ -10,7 +10,7 @@ use Rattle.sieve_tokens.proofs.Pieces.{found_stands, size_of, stands_found}
 use Rattle.sieve_reader.specs.Answer.{IsGivenBy, IsWrongWith}
 use Rattle.sieve_reader.specs.Reads.{IsRefused, Reads}
 use Rattle.sieve_reader.specs.Refusal as told
-use Rattle.sieve_reader.specs.SieveView.{SieveView}
+use Rattle.sieve_tree.specs.SieveView.{SieveView}
 use Rattle.sieve_reader.specs.declared.sieve.SieveFault.{SieveFault}
 use Rattle.sieve_reader.specs.declared.sieve.SieveFault.TheVariants as fault
 use Rattle.sieve_reader.proofs.Answering.{bad_writes_none}

@@ -9,14 +9,14 @@ use Rattle.sieve_reader.specs.Leaf as leaf
 use Rattle.sieve_reader.specs.Leaf.{Leaf, Reading}
 use Rattle.sieve_reader.specs.Lexeme as lex
 use Rattle.sieve_reader.specs.Lexeme.{Lexeme, Symbol}
-use Rattle.sieve_reader.specs.declared.tree.Cond.{Cond}
-use Rattle.sieve_reader.specs.declared.tree.Cond.TheVariants as cond
-use Rattle.sieve_reader.specs.declared.tree.PutSource.{PutSource}
-use Rattle.sieve_reader.specs.declared.tree.PutSource.TheVariants as source
-use Rattle.sieve_reader.specs.declared.tree.SieveItem.{SieveItem}
-use Rattle.sieve_reader.specs.declared.tree.SieveItem.TheVariants as item
-use Rattle.sieve_reader.specs.declared.tree.Test.{Test}
-use Rattle.sieve_reader.specs.declared.tree.Test.TheVariants as test
+use Rattle.sieve_tree.specs.declared.tree.Cond.{Cond}
+use Rattle.sieve_tree.specs.declared.tree.Cond.TheVariants as cond
+use Rattle.sieve_tree.specs.declared.tree.PutSource.{PutSource}
+use Rattle.sieve_tree.specs.declared.tree.PutSource.TheVariants as source
+use Rattle.sieve_tree.specs.declared.tree.SieveItem.{SieveItem}
+use Rattle.sieve_tree.specs.declared.tree.SieveItem.TheVariants as item
+use Rattle.sieve_tree.specs.declared.tree.Test.{Test}
+use Rattle.sieve_tree.specs.declared.tree.Test.TheVariants as test
 
 -- every word and literal fits, with some reading of its sort
 pub record TakesAll (G : Leaf → Reading → Type 0) : Type 0 where

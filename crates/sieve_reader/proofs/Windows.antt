@@ -13,7 +13,7 @@ use Rattle.sieve_reader.specs.Leaf as leaf
 use Rattle.sieve_reader.specs.Leaf.{judged, Leaf, Reading}
 use Rattle.sieve_reader.specs.Lexeme as lex
 use Rattle.sieve_reader.specs.Lexeme.{amount_of, literal_of, symbols, Lexeme, Symbol}
-use Rattle.sieve_reader.specs.Pattern.{pattern_of}
+use Rattle.sieve_tree.specs.Pattern.{pattern_of}
 use Rattle.sieve_reader.specs.Refusal as cause
 use Rattle.sieve_reader.specs.Refusal.{is_in_row, is_in_texts, is_moment, is_order, is_pattern_op, nests, takes_value, Cause, EndsIn, IsLeafAt, IsWrong}
 use Rattle.sieve_reader.proofs.Picks.{if_some}
@@ -245,28 +245,18 @@ op_state key op is = rw is refl
 
 -- behind the sign of a pattern
 pattern_op : (s : State) (op : Sign) (text : List ℕ) → is_pattern_op op ≡ true → literal_leaf (by_sign s op) (lex.quoted text) ≡ Some (leaf.pattern text)
-pattern_op s signs.Matches text is = by s
-  where
-    by : (s : State) → literal_leaf (by_sign s signs.Matches) (lex.quoted text) ≡ Some (leaf.pattern text)
-    by other = refl
-    by (named key) = refl
-    by (operated key signs.In) = refl
-    by (operated key op) = refl
-    by (in_row key) = refl
-    by pathed = refl
-    by in_paths = refl
-    by matched = refl
-pattern_op s signs.NotMatches text is = by s
-  where
-    by : (s : State) → literal_leaf (by_sign s signs.NotMatches) (lex.quoted text) ≡ Some (leaf.pattern text)
-    by other = refl
-    by (named key) = refl
-    by (operated key signs.In) = refl
-    by (operated key op) = refl
-    by (in_row key) = refl
-    by pathed = refl
-    by in_paths = refl
-    by matched = refl
+pattern_op other op text is = rw is refl
+pattern_op (named key) signs.Matches text is = refl
+pattern_op (named key) signs.NotMatches text is = refl
+pattern_op (operated key signs.In) signs.Matches text is = refl
+pattern_op (operated key signs.In) signs.NotMatches text is = refl
+pattern_op (operated key _) signs.Matches text is = refl
+pattern_op (operated key _) signs.NotMatches text is = refl
+pattern_op (in_row key) op text is = rw is refl
+pattern_op pathed signs.Matches text is = refl
+pattern_op pathed signs.NotMatches text is = refl
+pattern_op in_paths op text is = rw is refl
+pattern_op matched op text is = rw is refl
 pattern_op s op text is = absurd (cc)
 
 -- the literal of an operator or an action is told

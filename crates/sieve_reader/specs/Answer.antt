@@ -3,7 +3,7 @@ use Rattle.std.specs.Prelude.{◌≡◌, ℕ, List, Result, Ok, Err}
 use Rattle.sieve_tokens.specs.Token.{IsBadAt}
 use Rattle.sieve_reader.specs.Reads.{IsRefused, Reads}
 use Rattle.sieve_reader.specs.Refusal.{deep, expected, field, pattern, value}
-use Rattle.sieve_reader.specs.SieveView.{SieveView}
+use Rattle.sieve_tree.specs.SieveView.{SieveView}
 use Rattle.sieve_reader.specs.declared.sieve.SieveFault.{SieveFault}
 use Rattle.sieve_reader.specs.declared.sieve.SieveFault.TheVariants as fault
 

@@ -9,17 +9,17 @@ use Rattle.sieve_reader.specs.Leaf as leaf
 use Rattle.sieve_reader.specs.Leaf.{Leaf, Reading}
 use Rattle.sieve_reader.specs.Lexeme as lex
 use Rattle.sieve_reader.specs.Lexeme.{amount_of, literal_of, symbols, Lexeme, Symbol}
-use Rattle.sieve_reader.specs.declared.tree.Amount.{Amount}
-use Rattle.sieve_reader.specs.declared.tree.Cond.{Cond}
-use Rattle.sieve_reader.specs.declared.tree.Cond.TheVariants as cond
-use Rattle.sieve_reader.specs.declared.tree.How.{How}
-use Rattle.sieve_reader.specs.declared.tree.How.TheVariants as how
-use Rattle.sieve_reader.specs.declared.tree.PutSource.{PutSource}
-use Rattle.sieve_reader.specs.declared.tree.PutSource.TheVariants as source
-use Rattle.sieve_reader.specs.declared.tree.SieveItem.{SieveItem}
-use Rattle.sieve_reader.specs.declared.tree.SieveItem.TheVariants as item
-use Rattle.sieve_reader.specs.declared.tree.Test.{Test}
-use Rattle.sieve_reader.specs.declared.tree.Test.TheVariants as test
+use Rattle.sieve_tree.specs.declared.tree.Amount.{Amount}
+use Rattle.sieve_tree.specs.declared.tree.Cond.{Cond}
+use Rattle.sieve_tree.specs.declared.tree.Cond.TheVariants as cond
+use Rattle.sieve_tree.specs.declared.tree.How.{How}
+use Rattle.sieve_tree.specs.declared.tree.How.TheVariants as how
+use Rattle.sieve_tree.specs.declared.tree.PutSource.{PutSource}
+use Rattle.sieve_tree.specs.declared.tree.PutSource.TheVariants as source
+use Rattle.sieve_tree.specs.declared.tree.SieveItem.{SieveItem}
+use Rattle.sieve_tree.specs.declared.tree.SieveItem.TheVariants as item
+use Rattle.sieve_tree.specs.declared.tree.Test.{Test}
+use Rattle.sieve_tree.specs.declared.tree.Test.TheVariants as test
 
 -- a row of one thing or more, with a sign or a word between
 abbrev pub AreSeparated : {A : Type 0} → Symbol → (List Lexeme → A → Type 0) → List Lexeme → List A → Type 0

@@ -4,7 +4,7 @@ use Rattle.sieve_tokens.specs.Token.{AreTokens}
 use Rattle.sieve_tokens.specs.declared.token.Token.{Token}
 use Rattle.sieve_reader.specs.Reads.{IsRefused, Reads}
 use Rattle.sieve_reader.specs.Refusal.{Cause}
-use Rattle.sieve_reader.specs.SieveView.{SieveView}
+use Rattle.sieve_tree.specs.SieveView.{SieveView}
 
 -- a text writes one sieve at most
 abbrev pub OneSieve : Type 0

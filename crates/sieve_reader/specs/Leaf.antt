@@ -9,7 +9,7 @@ use Rattle.scalar_net.specs.Network.{network_in}
 use Rattle.scalar_net.specs.declared.network.Network.{Network}
 use Rattle.sieve_reader.specs.NetworkOf.{network_with}
 use Rattle.sieve_reader.specs.Lexeme.{literal_of, Symbol}
-use Rattle.sieve_reader.specs.Pattern.{pattern_of}
+use Rattle.sieve_tree.specs.Pattern.{pattern_of}
 use Rattle.sieve_reader.specs.Span.{span_in}
 
 -- a word where a field stands; a literal for a field; a number that a field is compared with by order; the text of a network,

@@ -14,8 +14,8 @@ use Rattle.sieve_tokens.specs.declared.token.TokenKind.{TokenKind}
 use Rattle.sieve_tokens.specs.declared.token.TokenKind.TheVariants as kinds
 use Rattle.sieve_tokens.specs.declared.word.Keyword.{Keyword}
 use Rattle.sieve_tokens.specs.declared.word.Keyword.TheVariants as words
-use Rattle.sieve_reader.specs.declared.tree.Amount.{Amount}
-use Rattle.sieve_reader.specs.declared.tree.Amount.TheVariants as amount
+use Rattle.sieve_tree.specs.declared.tree.Amount.{Amount}
+use Rattle.sieve_tree.specs.declared.tree.Amount.TheVariants as amount
 
 -- what a token stands for: a keyword, another word, the content of a quoted text, a number, or a sign
 pub data Symbol : Type 0 where

@@ -7,7 +7,7 @@ use Rattle.sieve_reader.specs.Parse.{file, refusal, Read}
 use Rattle.sieve_reader.specs.Reads.{paths_in, patterns_in, spot}
 use Rattle.sieve_reader.specs.Refusal as told
 use Rattle.sieve_reader.specs.Refusal.{place}
-use Rattle.sieve_reader.specs.SieveView.{SieveView}
+use Rattle.sieve_tree.specs.SieveView.{SieveView}
 use Rattle.sieve_reader.specs.declared.fault.Cause.{Cause}
 use Rattle.sieve_reader.specs.declared.fault.Cause.TheVariants as cause
 use Rattle.sieve_reader.specs.declared.fault.Fault.{Fault}

@@ -13,16 +13,16 @@ use Rattle.sieve_reader.specs.Lexeme as lex
 use Rattle.sieve_reader.specs.Lexeme.{amount_of, literal_of, Lexeme, Symbol}
 use Rattle.sieve_reader.specs.Refusal as cause
 use Rattle.sieve_reader.specs.Refusal.{Cause}
-use Rattle.sieve_reader.specs.declared.tree.Amount.{Amount}
-use Rattle.sieve_reader.specs.declared.tree.Cond.{Cond}
-use Rattle.sieve_reader.specs.declared.tree.Cond.TheVariants as cond
-use Rattle.sieve_reader.specs.declared.tree.How.{How}
-use Rattle.sieve_reader.specs.declared.tree.How.TheVariants as how
-use Rattle.sieve_reader.specs.declared.tree.PutSource.TheVariants as source
-use Rattle.sieve_reader.specs.declared.tree.SieveItem.{SieveItem}
-use Rattle.sieve_reader.specs.declared.tree.SieveItem.TheVariants as item
-use Rattle.sieve_reader.specs.declared.tree.Test.{Test}
-use Rattle.sieve_reader.specs.declared.tree.Test.TheVariants as test
+use Rattle.sieve_tree.specs.declared.tree.Amount.{Amount}
+use Rattle.sieve_tree.specs.declared.tree.Cond.{Cond}
+use Rattle.sieve_tree.specs.declared.tree.Cond.TheVariants as cond
+use Rattle.sieve_tree.specs.declared.tree.How.{How}
+use Rattle.sieve_tree.specs.declared.tree.How.TheVariants as how
+use Rattle.sieve_tree.specs.declared.tree.PutSource.TheVariants as source
+use Rattle.sieve_tree.specs.declared.tree.SieveItem.{SieveItem}
+use Rattle.sieve_tree.specs.declared.tree.SieveItem.TheVariants as item
+use Rattle.sieve_tree.specs.declared.tree.Test.{Test}
+use Rattle.sieve_tree.specs.declared.tree.Test.TheVariants as test
 
 -- the cause, and the tokens from the one on that is refused
 pub data Refusal : Type 0 where

@@ -9,7 +9,7 @@ use Rattle.sieve_reader.specs.Leaf.{IsRight}
 use Rattle.sieve_reader.specs.Lexeme as lex
 use Rattle.sieve_reader.specs.Lexeme.{is_pattern_sign, lexemes, Lexeme, Symbol}
 use Rattle.sieve_reader.specs.Refusal.{deep, expected, field, pattern, value, Cause, IsRefusal}
-use Rattle.sieve_reader.specs.SieveView.{SieveView}
+use Rattle.sieve_tree.specs.SieveView.{SieveView}
 use Rattle.sieve_reader.specs.declared.sieve.SieveFault.{SieveFault}
 use Rattle.sieve_reader.specs.declared.sieve.SieveFault.TheVariants as fault
 

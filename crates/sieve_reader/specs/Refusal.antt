@@ -10,8 +10,8 @@ use Rattle.sieve_reader.specs.Leaf as leaf
 use Rattle.sieve_reader.specs.Leaf.{judged, IsAny, Leaf}
 use Rattle.sieve_reader.specs.Lexeme as lex
 use Rattle.sieve_reader.specs.Lexeme.{amount_of, literal_of, symbols, Lexeme, Symbol}
-use Rattle.sieve_reader.specs.Pattern.{pattern_of}
-use Rattle.sieve_reader.specs.declared.tree.SieveItem.{SieveItem}
+use Rattle.sieve_tree.specs.Pattern.{pattern_of}
+use Rattle.sieve_tree.specs.declared.tree.SieveItem.{SieveItem}
 
 -- in the order in which they are told where two stand at one token
 pub data Cause : Type 0 where

@@ -7,10 +7,10 @@ use crate::cursor::Cursor;
 use crate::fault::{Cause, Fault};
 use crate::leaf::{field, literal, refused, sees, take};
 use crate::symbol::Symbol;
-use crate::tree::{How, PutSource, SieveItem};
 use base_types::{ListOf, Text, TextList};
 use field_types::FieldName;
 use sieve_tokens::{Sign, content};
+use sieve_tree::{How, PutSource, SieveItem};
 use std::alloc::Global;
 
 #[tactic(auto, unfolding(crate::specs::Parse::path_name))]

@@ -5,10 +5,10 @@ ghost use Rattle.sieve_reader.specs.Parse as spec;
 ghost use Rattle.sieve_reader.specs.Reads.{goes_on, is_path, opens_row, path_spots, paths_in, patterns_in, row_spots, text_at};
 
 use crate::cursor::Cursor;
-use crate::sieve::PathSpots;
 use crate::symbol::Symbol;
 use base_types::{ListOf, OutOfMemory, TextList};
 use sieve_tokens::{Keyword, Sign, content};
+use sieve_tree::PathSpots;
 use std::alloc::Global;
 
 fn sees_pattern_sign(tokens: &Cursor<'_>) -> bool

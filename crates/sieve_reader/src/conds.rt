@@ -3,15 +3,14 @@ ghost use Rattle.sieve_reader.specs.Leaf.{judged};
 ghost use Rattle.sieve_reader.specs.Outcome.{Gives};
 ghost use Rattle.sieve_reader.specs.Parse as spec;
 
-use crate::Boxed;
 use crate::cursor::Cursor;
 use crate::fault::{Cause, Fault};
 use crate::leaf::{refused, sees, take};
 use crate::symbol::Symbol;
 use crate::test::tested;
-use crate::tree::Cond;
 use base_types::{ListOf, OutOfMemory};
 use sieve_tokens::Sign;
+use sieve_tree::{Boxed, Cond};
 use std::alloc::Global;
 
 fn not(alloc: Global, inner: Cond) -> Result<Cond, OutOfMemory>

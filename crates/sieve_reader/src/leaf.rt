@@ -7,14 +7,13 @@ ghost use Rattle.sieve_reader.specs.Parse as spec;
 
 use crate::cursor::Cursor;
 use crate::fault::{Cause, Fault};
-use crate::pattern::is_pattern;
 use crate::span::span_in;
 use crate::symbol::Symbol;
-use crate::tree::Amount;
 use base_types::{OutOfMemory, Text, TextFault};
 use field_types::{FieldFault, FieldName, FieldType, Value, sanitise, type_of_bytes};
 use scalar_net::{Network, read_network};
 use sieve_tokens::{Keyword, Sign, content};
+use sieve_tree::{Amount, is_pattern};
 use std::alloc::Global;
 
 /// The next token is refused.

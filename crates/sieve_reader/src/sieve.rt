@@ -1,54 +1,23 @@
-ghost use Rattle.std.specs.Prelude.{◌≡◌, ◌<◌, ◌≤◌, ◌-◌, ◌^◌, [], drop, length, List, IfOk, IfErr};
+ghost use Rattle.std.specs.Prelude.{◌≡◌, ◌<◌, ◌≤◌, ◌-◌, ◌^◌, drop, length, List, IfOk, IfErr};
 ghost use Rattle.sieve_tokens.specs.Token.{AreTokens};
-ghost use Rattle.sieve_reader.specs.Fixed.{all_fixed, AreCanonical};
+ghost use Rattle.sieve_tree.specs.Fixed.{all_fixed, AreCanonical};
+ghost use Rattle.sieve_tree.specs.SieveView.{SieveView};
 ghost use Rattle.sieve_reader.specs.Leaf.{judged};
 ghost use Rattle.sieve_reader.specs.Lexeme.{lexemes, Lexeme};
 ghost use Rattle.sieve_reader.specs.Outcome.{fault_at, IsReadFault, IsReadFrom};
 ghost use Rattle.sieve_reader.specs.Parse as spec;
 ghost use Rattle.sieve_reader.specs.Reads.{Gives, IsFault, Reads};
 ghost use Rattle.sieve_reader.specs.Refusal.{place};
-ghost use Rattle.sieve_reader.specs.SieveView.{SieveView};
 ghost use Rattle.sieve_reader.specs.declared.sieve.SieveFault.TheVariants.{OutOfMemory as ran_out};
 
-use crate::SieveItemList;
 use crate::collect::{paths, patterns};
-use crate::copying::{copy_items, copy_spots, copy_texts};
 use crate::cursor::Cursor;
 use crate::fault::{Cause, Fault};
 use crate::statements::file;
-use base_types::{ListOf, OutOfMemory, Text, TextList};
+use base_types::OutOfMemory;
 use sieve_tokens::{Token, TokenFault, tokens};
+use sieve_tree::{Sieve, SieveItemList};
 use std::alloc::Global;
-use std::marker::Model;
-
-/// Path names with their offsets.
-pub type PathList<'s> = &'s [(Text, u32)];
-
-/// As `PathList`, in a list.
-pub type PathSpots = ListOf<(Text, u32)>;
-
-/// A sieve: its items, the texts of its patterns in the order in which they are written, and its paths.
-#[derive(Debug, Drop)]
-pub struct Sieve {
-    items: SieveItemList,
-    patterns: TextList,
-    paths: PathSpots,
-}
-
-impl Model for Sieve {
-    ghost use Rattle.std.specs.Coded.{codes};
-    ghost use Rattle.sieve_reader.specs.Fixed.{all_fixed, AreCanonical};
-    ghost use Rattle.sieve_reader.specs.SieveView.{SieveView};
-    ghost use Rattle.sieve_reader.specs.contracts.tree.SieveItem as items_code;
-
-    ghost Value = { SieveView };
-
-    ghost coded = { Prim.hlevel (codes, items_code.the_row.coded) };
-
-    ghost view = { λ s. record { items = s.items; patterns = s.patterns; paths = s.paths } };
-
-    ghost invariant = { λ s. AreCanonical (all_fixed s.items) };
-}
 
 /// Why a text is no sieve, with the offset in bytes.
 #[derive(Clone, Copy, Debug, PartialEq, Eq)]
@@ -73,51 +42,6 @@ impl From<OutOfMemory> for SieveFault {
 
     fn from(_: OutOfMemory) -> Self {
         SieveFault::OutOfMemory
-    }
-}
-
-impl Sieve {
-    /// The sieve of an empty text.
-    pub fn new(alloc: Global) -> Sieve
-        ensures { result ≡ record { items = []; patterns = []; paths = [] } }
-    {
-        Sieve {
-            items: SieveItemList::new(alloc),
-            patterns: TextList::new(alloc),
-            paths: PathSpots::new(alloc),
-        }
-    }
-
-    /// Its items, in the order in which they are written. Each value that they set as it stands is canonical for its field.
-    pub fn items(&self) -> &SieveItemList
-        ensures items { result.now ≡ self.now.items }
-        ensures fixed { AreCanonical (all_fixed result.now) }
-    {
-        &self.items
-    }
-
-    /// The texts behind `=~` and `!~`, one for each sign.
-    pub fn patterns(&self) -> &TextList
-        ensures { result.now ≡ self.now.patterns }
-    {
-        &self.patterns
-    }
-
-    /// The path names, with the offsets at which they stand.
-    pub fn paths(&self) -> PathList<'_>
-        ensures { result.now ≡ self.now.paths }
-    {
-        self.paths.as_slice()
-    }
-
-    pub fn copy(&self, alloc: Global) -> Result<Sieve, OutOfMemory>
-        ensures { IfOk result (λ sieve. sieve ≡ self.now) }
-    {
-        Ok(Sieve {
-            items: copy_items(alloc, self.items.as_slice())?,
-            patterns: copy_texts(alloc, self.patterns.as_slice())?,
-            paths: copy_spots(alloc, self.paths.as_slice())?,
-        })
     }
 }
 
@@ -169,11 +93,7 @@ fn read_tokens(alloc: Global, text: &[u8], tokens: &[Token]) -> Result<Sieve, Si
     let items = read_items(alloc, text, tokens)?;
     let patterns = patterns(alloc, &mut Cursor::new(text, tokens))?;
     let paths = paths(alloc, &mut Cursor::new(text, tokens))?;
-    Ok(Sieve {
-        items,
-        patterns,
-        paths,
-    })
+    Ok(Sieve::of(items, patterns, paths))
 }
 
 /// The sieve that a text of fewer than 2^32 bytes writes. A bad place among its tokens goes before all else; of the other

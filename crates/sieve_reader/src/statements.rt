@@ -9,9 +9,9 @@ use crate::cursor::Cursor;
 use crate::fault::{Cause, Fault};
 use crate::leaf::{refused, sees, take};
 use crate::symbol::Symbol;
-use crate::tree::{Case, CaseList, How, SieveItem, SieveItemList};
 use base_types::ListOf;
 use sieve_tokens::{Keyword, Sign};
+use sieve_tree::{Case, CaseList, How, SieveItem, SieveItemList};
 use std::alloc::Global;
 
 fn sees_elif(tokens: &Cursor<'_>) -> bool

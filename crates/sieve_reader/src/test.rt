@@ -8,10 +8,10 @@ use crate::cursor::Cursor;
 use crate::fault::{Cause, Fault};
 use crate::leaf::{amount, field, literal, network, pattern, refused, sees, span, take, text};
 use crate::symbol::Symbol;
-use crate::tree::{Cond, Test, ValueList};
 use base_types::ListOf;
 use field_types::FieldName;
 use sieve_tokens::Sign;
+use sieve_tree::{Cond, Test, ValueList};
 use std::alloc::Global;
 
 // Literals with commas between.

@@ -74,7 +74,3 @@ pub lines_added : (outs : List Output) (i n now new : ℕ) → now ≡ sum_by li
 lines_added outs i n now new was added found =
     let next : suc i ≡ i + 1 = omega arith in
     added ∙ ap (λ t. t + n) was ∙ sym (sum_from outs i n found) ∙ ap (λ k. sum_by lines_of (take k outs)) next
-
-pub some_and : {A : Type 0} (o : Option A) (P Q : A → Type 0) → ((x : A) → P x → Q x) → IsSomeAnd o P → IsSomeAnd o Q
-some_and None P Q wider found = found
-some_and (Some x) P Q wider found = wider x found

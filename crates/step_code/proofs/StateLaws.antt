@@ -16,7 +16,7 @@ use Rattle.step_code.specs.declared.cache.BotCache.{BotCache}
 use Rattle.step_code.specs.declared.feed.Feed.{Feed}
 use Rattle.step_code.specs.declared.output.Output.{Output}
 use Rattle.step_code.specs.Code.{cache, code_of_base, feed, first_format, output, IsCache, IsFeed, IsOutput, IsWritableBase}
-use Rattle.step_code.specs.Reading.{base_at, cache_at, feed_at, heads_at, output_at}
+use Rattle.step_code.specs.Reading.{base_at, base_of, BaseFields, cache_at, feed_at, heads_at, output_at}
 
 cache_law : Law cache_at cache IsCache
 unfolding cache_at
@@ -55,28 +55,6 @@ heads_law = made_law (λ (((((steps, next_message), next_dump), latest), bundle_
     (both_law (both_law (both_law (both_law (both_law u64_law u64_law) u64_law) moment_law) u64_law) blob_law) heads AreHeads (λ a. refl)
     (λ a (((((steps, next_message), next_dump), latest), bundle_no), bundle). record { steps = steps; next_message = next_message; next_dump = next_dump; latest = latest; bundle_no = bundle_no; bundle = bundle })
     (λ h fit. ((((((h.steps, h.next_message), h.next_dump), h.latest), h.bundle_no), h.bundle), refl, (((((fit.steps, fit.next_message), fit.next_dump), fit.latest), fit.bundle_no), fit.bundle)))
-
--- the heads and the lists of a state, as they are read
-abbrev BaseFields : Type 0
-BaseFields = ((((((Heads × List Queue) × List Hand) × List BotCache) × List Dump) × List Output) × List Feed) × List (List ℕ)
-
-abbrev base_of : BaseFields → Base
-base_of = λ (((((((head, queues), hands), caches), dumps), outs), feeds), halted). record {
-  steps = head.steps;
-  next_message = head.next_message;
-  next_dump = head.next_dump;
-  discarded = 0;
-  latest = head.latest;
-  bundle_no = head.bundle_no;
-  bundle = head.bundle;
-  queues = queues;
-  hands = hands;
-  caches = caches;
-  dumps = dumps;
-  outs = outs;
-  feeds = feeds;
-  halted = halted;
-}
 
 abbrev AreBase : BaseFields → Type 0
 AreBase = λ (((((((head, queues), hands), caches), dumps), outs), feeds), halted).

@@ -2,6 +2,9 @@
 use Rattle.std.specs.Prelude.{◌==◌, ℕ, List, Some, None, if◌then◌else◌}
 use Rattle.std.specs.Int.{w32, w64}
 use Rattle.base_types.specs.declared.message.FaultNote.{FaultNote}
+use Rattle.stored_types.specs.declared.hand.Hand.{Hand}
+use Rattle.stored_types.specs.declared.message.Dump.{Dump}
+use Rattle.stored_types.specs.declared.queue.Queue.{Queue}
 use Rattle.stored_types.specs.Code.{bot_at, byte_at, flag_at, framed_at, list_at, moment_at, number_at, optional_at, queue_at}
 use Rattle.stored_types.specs.Coded.{◌>>=◌, Reader, both, made}
 use Rattle.stored_types.specs.Hand.{hand_at}
@@ -96,23 +99,31 @@ heads_at bytes =
     record { steps = steps; next_message = next_message; next_dump = next_dump; latest = latest; bundle_no = bundle_no; bundle = bundle })
     (both (both (both (both (both (number_at w64) (number_at w64)) (number_at w64)) moment_at) (number_at w64)) (framed_at w32)) bytes
 
+-- the heads and the lists of a state, as they are read
+abbrev pub BaseFields : Type 0
+BaseFields = ((((((Heads × List Queue) × List Hand) × List BotCache) × List Dump) × List Output) × List Feed) × List (List ℕ)
+
+-- the state that they are
+abbrev pub base_of : BaseFields → Base
+base_of = λ (((((((head, queues), hands), caches), dumps), outs), feeds), halted). record {
+  steps = head.steps;
+  next_message = head.next_message;
+  next_dump = head.next_dump;
+  discarded = 0;
+  latest = head.latest;
+  bundle_no = head.bundle_no;
+  bundle = head.bundle;
+  queues = queues;
+  hands = hands;
+  caches = caches;
+  dumps = dumps;
+  outs = outs;
+  feeds = feeds;
+  halted = halted;
+}
+
 -- a state in the first format
 unfoldable pub base_at : Reader Base
 base_at bytes =
-    made (λ (((((((head, queues), hands), caches), dumps), outs), feeds), halted). record {
-      steps = head.steps;
-      next_message = head.next_message;
-      next_dump = head.next_dump;
-      discarded = 0;
-      latest = head.latest;
-      bundle_no = head.bundle_no;
-      bundle = head.bundle;
-      queues = queues;
-      hands = hands;
-      caches = caches;
-      dumps = dumps;
-      outs = outs;
-      feeds = feeds;
-      halted = halted;
-    })
+    made base_of
     (both (both (both (both (both (both (both heads_at (list_at waiting_at)) (list_at hand_at)) (list_at cache_at)) (list_at dump_at)) (list_at output_at)) (list_at feed_at)) (list_at bot_at)) bytes

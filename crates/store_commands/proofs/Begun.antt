@@ -5,22 +5,29 @@ use Rattle.edge_traits.specs.Sink.{SinkView}
 use Rattle.edge_traits.proofs.Outputs.{Took-nothing}
 use Rattle.step_code.specs.declared.base.Base.{Base}
 use Rattle.step_code.specs.declared.rules.Facts.{Facts}
+use Rattle.step_code.specs.declared.step.Step.{Step}
 use Rattle.step_code.specs.Code.{code_of_base, first_format}
 use Rattle.step_code.specs.History.{first, replay}
 use Rattle.step_code.specs.Rules.{Meaning}
 use Rattle.step_code.specs.Sound.{longest_base, IsSoundState}
 use Rattle.state_texts.specs.Texts.{summary}
 use Rattle.store_image.specs.Files.{root_file}
+use Rattle.store_image.specs.Stands.{StandsFor}
 use Rattle.journal_book.specs.Book.{created, BookView, IsKept}
 use Rattle.journal_book.specs.Faults.{IsCreateFault}
 use Rattle.journal_book.specs.Opening.{StandsNow}
 use Rattle.journal_book.specs.declared.book_fault.BookFault.{BookFault}
 use Rattle.journal_book.specs.declared.book_fault.BookFault.TheVariants as fault
+use Rattle.journal_book.proofs.Recovering.{some_root}
 use Rattle.store_calls.proofs.Called.{stands_read}
 use Rattle.store_commands.specs.Begun.{HasNoStore, IsBegun, IsFirstOf, IsMade, IsNewStore}
 use Rattle.store_commands.specs.Ends.{end_of, IsPrinted}
 use Rattle.store_commands.specs.declared.end.StoreEnd.{StoreEnd}
 use Rattle.store_commands.specs.declared.end.StoreEnd.TheVariants as end
+
+-- a disk that stands for a history has a root
+pub no_store : (m : Meaning) (begun : Base) (steps more : List Step) (image : Image) → StandsFor m begun steps more image → image root_file ≡ [] → ⊥
+no_store m begun steps more image stands empty = omega (arith, some_root m begun steps more image stands, ap length empty)
 
 pub made_whole : (m : Meaning) (files : Image) (bundle : List ℕ) (s : Base) (e : StoreEnd) (old new : SinkView) → IsFirstOf m bundle s → files root_file ≡ [] → IsPrinted (summary s) e old new → IsMade m files bundle e old new
 made_whole m files bundle s end.Done old new is empty printed = (s, is, empty, printed)

@@ -102,10 +102,6 @@ pub made_so : (outs : List Output) (told : Option Image) (step : Step) (made : L
 made_so outs told step made meant e ends is either =
     ⊎_elim (λ (same : e ≡ meant). subst (λ (d : StoreEnd). AreMadeAt d step made) (sym same) is) (λ late. subst (λ (d : StoreEnd). AreMadeAt d step made) (sym late.2) (late_made outs told step made late.0 late.1 either)) ends
 
-pub not_refused : (broken : Bool) (cause : Option StageRefusal) → broken ≡ false → cause_of broken cause ≡ None → cause ≡ None
-not_refused true cause whole is = absurd (cc)
-not_refused false cause whole is = is
-
 -- ---- what is told
 
 same_output : (a b : Output) → Some a ≡ Some b → a ≡ b

@@ -1,11 +1,11 @@
 use crate::fixtures::{NOW, break_book, fill, flush_two, latest_behind};
 use base_types::Blob;
-use book_fixtures::{GENERATION, ROOT, create_fault, fail_at, front, new_store};
 use edge_memory::MemDisk;
 use journal_book::BookFault;
 use std::alloc::Global;
 use std::process::Abort;
 use std::test::Fail;
+use tests_book_fixtures::{GENERATION, ROOT, create_fault, fail_at, front, new_store};
 use tests_rules::TinyRules;
 
 // Making a store takes seven calls of the disk, and a flush four.

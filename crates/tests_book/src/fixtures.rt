@@ -2,13 +2,13 @@
 //! book do something, and gives the disk back.
 
 use base_types::Blob;
-use book_fixtures::{Answer, created, flush, latest, start, waiting_codes};
 use edge_traits::Disk;
 use journal_book::Book;
 use std::alloc::Global;
 use std::process::Abort;
 use std::test::Fail;
 use step_code::Rules;
+use tests_book_fixtures::{Answer, created, flush, latest, start, waiting_codes};
 
 pub const NOW: u64 = 1_700_000_000;
 

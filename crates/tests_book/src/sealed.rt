@@ -1,7 +1,6 @@
 //! Stores whose first state has sealed lines, with an output's file of every length.
 
 use base_types::Blob;
-use book_fixtures::{Found, GENERATION, OUT, ROOT, complete, put_file, reopen};
 use disk_journal::Journal;
 use edge_memory::MemDisk;
 use edge_traits::Disk;
@@ -10,6 +9,7 @@ use std::alloc::Global;
 use std::process::Abort;
 use std::test::Fail;
 use step_code::encode_base;
+use tests_book_fixtures::{Found, GENERATION, OUT, ROOT, complete, put_file, reopen};
 use tests_rules::TinyRules;
 use tests_tables::read_state;
 

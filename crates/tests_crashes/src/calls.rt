@@ -1,12 +1,14 @@
 //! Calls on a store whose disk may stop on the way, with the steps that the store has then.
 
 use base_types::NumberList;
-use book_fixtures::{GENERATION, KEPT, LONGEST, LONGEST_CLOSED, Stored, front_codes, stored_in};
-use drain_fixtures::{Came, Ended, How, call_on, durable_on};
 use edge_memory::{Choice, MemDisk, MemSink};
 use edge_traits::Shelf;
 use std::alloc::Global;
 use std::test::Fail;
+use tests_book_fixtures::{
+    GENERATION, KEPT, LONGEST, LONGEST_CLOSED, Stored, front_codes, stored_in,
+};
+use tests_drain_fixtures::{Came, Ended, How, call_on, durable_on};
 
 /// The crashes that are tried: one that leaves what a read gave, and two that leave each file as long as may be, with closed and
 /// with open gates for pending bytes.

@@ -2,13 +2,13 @@
 //! outputs and the dumps of an undisturbed call.
 
 use crate::calls::{CRASHES, Run, call, look};
-use book_fixtures::{OUT, copy_of, crashed, fail_at, mend, row_text, stop_after};
-use drain_fixtures::{Ended, How};
 use edge_memory::{Choice, MemDisk, MemSink};
 use edge_traits::Shelf;
 use std::alloc::Global;
 use std::process::Abort;
 use std::test::Fail;
+use tests_book_fixtures::{OUT, copy_of, crashed, fail_at, mend, row_text, stop_after};
+use tests_drain_fixtures::{Ended, How};
 
 /// A store at rest, the call that is tried on it, and what an undisturbed one comes to.
 #[derive(Drop)]

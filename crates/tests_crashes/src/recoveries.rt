@@ -2,12 +2,12 @@
 use crate::calls::{CRASHES, call, look};
 use crate::checks::{Case, check_end, left_by};
 use crate::stores::{feed_shelf, new_store};
-use book_fixtures::{GENERATION, LONGEST, ROOT, copy_of, crashed, row_text, stop_after};
-use drain_fixtures::{How, durable_on};
 use edge_memory::{MemDisk, MemShelf};
 use std::alloc::Global;
 use std::process::Abort;
 use std::test::Fail;
+use tests_book_fixtures::{GENERATION, LONGEST, ROOT, copy_of, crashed, row_text, stop_after};
+use tests_drain_fixtures::{How, durable_on};
 
 // A drain of a new store of X ends with so many calls of the disk: the flush of its steps and the completion of its output's file,
 // four calls each. Before them nothing is written.

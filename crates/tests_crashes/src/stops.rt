@@ -3,13 +3,13 @@
 use crate::calls::call;
 use crate::checks::{Case, check_faults, check_stops};
 use crate::stores::{drained_store, drill_store, feed_shelf, new_store};
-use book_fixtures::{OUT, put_file};
-use drain_fixtures::{DUMP, Ended, How, OUTPUT};
 use drill_feed::DrillShelf;
 use edge_memory::MemDisk;
 use std::alloc::Global;
 use std::process::Abort;
 use std::test::Fail;
+use tests_book_fixtures::{OUT, put_file};
+use tests_drain_fixtures::{DUMP, Ended, How, OUTPUT};
 
 #[test]
 fn a_drain_completes_the_file_of_its_output(rt: HostRuntime) -> Result<(), Fail> {

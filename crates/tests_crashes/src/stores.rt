@@ -2,11 +2,11 @@
 
 use crate::calls::call;
 use config_bundle::bundle_code;
-use drain_fixtures::{Ended, FEED, How, X, bundle, made, shelf_of};
 use drill_feed::drill_bundle;
 use edge_memory::{MemDisk, MemShelf};
 use std::alloc::Global;
 use std::test::Fail;
+use tests_drain_fixtures::{Ended, FEED, How, X, bundle, made, shelf_of};
 
 /// A shelf with the feed of X.
 pub fn feed_shelf(alloc: Global) -> Result<MemShelf, Fail> {

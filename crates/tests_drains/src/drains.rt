@@ -1,12 +1,12 @@
 //! What drains make of feeds.
-use drain_fixtures::{
-    DUMP, Ended, FEED, OUTPUT, Seen, X, X_BY_64, bundle, drained, made, reopened, shelf_of, start,
-    start_again, start_with,
-};
 use edge_memory::{MemDisk, MemShelf};
 use std::alloc::Global;
 use std::process::Abort;
 use std::test::Fail;
+use tests_drain_fixtures::{
+    DUMP, Ended, FEED, OUTPUT, Seen, X, X_BY_64, bundle, drained, made, reopened, shelf_of, start,
+    start_again, start_with,
+};
 
 const SUMMARY: &[u8] =
     b"steps 13\nbundle 1\nmessages 6\nwaiting 0\nin hand 0\ndumped 1\nprocessed 5\nlines 4\n";

@@ -2,7 +2,6 @@
 use base_types::{NumberList, Text};
 use bot_rules::IntelRules;
 use config_bundle::{Bundle, bundle_code};
-use drain_fixtures::{Ended, Seen, drained, made, start, text};
 use drill_feed::{DrillShelf, drill_bundle};
 use edge_memory::MemSink;
 use edge_traits::{Shelf, ShelfFault, Source};
@@ -12,6 +11,7 @@ use std::alloc::Global;
 use std::process::Abort;
 use std::test::Fail;
 use step_code::Rules;
+use tests_drain_fixtures::{Ended, Seen, drained, made, start, text};
 
 // Of a plan of the bundle: how many bots it has.
 fn bots(alloc: Global, bundle: &Bundle) -> Result<usize, Fail> {

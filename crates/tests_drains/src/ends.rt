@@ -1,7 +1,7 @@
 //! Why drains end.
-use drain_fixtures::{Ended, FEED, X, bundle, drained, made, reopened, shelf_of, start};
 use std::process::Abort;
 use std::test::Fail;
+use tests_drain_fixtures::{Ended, FEED, X, bundle, drained, made, reopened, shelf_of, start};
 
 #[test]
 fn as_many_steps_are_made_as_may_be(rt: HostRuntime) -> Result<(), Fail> {

@@ -1,6 +1,7 @@
 use base_types::Text;
-use event_json::{Cleaner, clean_message, write_message};
+use event_json::{Cleaner, clean_message};
 use event_model::{EventFault, Fields, Kind, Message, ReadFault};
+use event_text::write_message;
 use field_types::Value;
 use std::alloc::{AllocError, Global};
 use std::process::Abort;

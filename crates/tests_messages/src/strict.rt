@@ -1,5 +1,6 @@
 use crate::lenient::{text_of, word_of};
-use event_json::{clean_message, read_message, write_message};
+use event_json::clean_message;
+use event_text::{read_message, write_message};
 use std::alloc::Global;
 use std::process::Abort;
 use std::test::Fail;

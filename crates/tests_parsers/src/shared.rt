@@ -1,7 +1,8 @@
 //! Reports, and what was made of them, as texts.
 use base_types::{FaultNote, Text};
-use event_json::{clean_message, write_message};
+use event_json::clean_message;
 use event_model::{Fields, Kind, Message};
+use event_text::write_message;
 use feed_rows::{ParseFault, Parsed, content, others, with_raw};
 use std::alloc::Global;
 use std::process::Abort;

@@ -269,9 +269,10 @@ fn bad_parts(alloc: Global, body: &Blob) -> Result<NoteList, OutOfMemory>
 fn behind(alloc: Global, byte: &[u8], body: &Blob) -> Result<Blob, OutOfMemory>
     ensures { IfOk result (λ blob. blob ≡ byte.now ++ body.now) }
 {
-    let mut blob = Blob::new(alloc, byte)?;
-    blob.append(body.bytes())?;
-    Ok(blob)
+    let mut bytes = Vec::with_capacity(alloc, byte.len() + body.bytes().len())?;
+    bytes.extend_from_slice(byte)?;
+    bytes.extend_from_slice(body.bytes())?;
+    Ok(Blob::from(bytes))
 }
 
 fn sends(alloc: Global, name: &[u8], body: Blob) -> Result<SendList, OutOfMemory>

@@ -2,11 +2,13 @@
 
 use crate::runs::{Ran, bounds, calls_of_making, forty_steps};
 use crate::stores::{check_store, files_of};
-use book_fixtures::{CHOICES, Found, KEPT, LONGEST, SHORTEST, copy_of, crashed, reopen, row_text};
 use edge_memory::{Choice, MemDisk};
 use std::alloc::Global;
 use std::process::Abort;
 use std::test::Fail;
+use tests_book_fixtures::{
+    CHOICES, Found, KEPT, LONGEST, SHORTEST, copy_of, crashed, reopen, row_text,
+};
 use tests_rules::TinyRules;
 
 // A crash after so many calls leaves the steps that were durable before the part under way, or also those that it makes durable.

@@ -2,10 +2,11 @@
 
 use crate::runs::{Ran, forty_steps, no_steps};
 use crate::stores::{Files, check_store, disk_with, files_of};
-use book_fixtures::{Found, GENERATION, ROOT, changed, first_bytes, frames, front, row_text};
+use edge_memory::MemDisk;
 use std::alloc::Global;
 use std::process::Abort;
 use std::test::Fail;
+use tests_book_fixtures::{Found, GENERATION, ROOT, changed, first_bytes, frames, front, row_text};
 
 // How often opening found damage, fewer steps, and all of them.
 #[derive(Clone, Copy)]
@@ -34,22 +35,53 @@ impl Tally {
 // What a byte is changed to.
 const BYTES: [(&str, u8); 5] = [("0", 0), ("1", 1), ("2", 2), ("30", 30), ("255", 255)];
 
-// Each of these bytes in this place of the generation's file.
-fn check_generation(
+// Which file of a store has another byte.
+#[derive(Clone, Copy)]
+enum Changed {
+    Root,
+    Generation,
+}
+
+// The store with this byte in this place of the file.
+fn changed_store(
+    alloc: Global,
+    files: &Files,
+    file: Changed,
+    place: usize,
+    byte: u8,
+) -> Result<MemDisk, Fail> {
+    match file {
+        Changed::Root => disk_with(
+            alloc,
+            &changed(alloc, &files.root, place, byte)?,
+            &files.generation,
+        ),
+        Changed::Generation => disk_with(
+            alloc,
+            &files.root,
+            &changed(alloc, &files.generation, place, byte)?,
+        ),
+    }
+}
+
+// Each of these bytes in these places of the file, which has so many steps where nothing is changed.
+fn check_places(
     rt: &(impl Abort + Alloc<A = Global>),
     ran: &Ran,
     files: &Files,
-    place: usize,
-    tally: &mut Tally,
-) -> Result<(), Fail> {
+    (file, all): (Changed, u64),
+    places: &[usize],
+) -> Result<Tally, Fail> {
     let alloc = rt.alloc();
-    'bytes: for (name, byte) in &BYTES {
-        let row = row_text(alloc, "the generation's byte", place as u64, *name)?;
-        let changed = changed(alloc, &files.generation, place, *byte)?;
-        let disk = disk_with(alloc, &files.root, &changed)?;
-        tally.count(check_store(rt, &row, ran, disk)?, 40);
+    let mut tally = NONE;
+    for place in places {
+        for (name, byte) in &BYTES {
+            let row = row_text(alloc, "the changed byte", *place as u64, *name)?;
+            let disk = changed_store(alloc, files, file, *place, *byte)?;
+            tally.count(check_store(rt, &row, ran, disk)?, all);
+        }
     }
-    Ok(())
+    Ok(tally)
 }
 
 #[test]
@@ -57,10 +89,8 @@ fn each_byte_of_a_frame_is_changed(rt: HostRuntime) -> Result<(), Fail> {
     let alloc = rt.alloc();
     let ran = forty_steps(alloc)?;
     let files = files_of(alloc, &ran.disk)?;
-    let mut tally = NONE;
-    'places: for place in &frames(alloc, &files.generation)? {
-        check_generation(&rt, &ran, &files, *place, &mut tally)?;
-    }
+    let places = frames(alloc, &files.generation)?;
+    let tally = check_places(&rt, &ran, &files, (Changed::Generation, 40), &places)?;
 
     // Each of ten gates is closed by four of the bytes.
     assert!(rt; tally.fewer >= 40);
@@ -69,33 +99,13 @@ fn each_byte_of_a_frame_is_changed(rt: HostRuntime) -> Result<(), Fail> {
     Ok(())
 }
 
-// Each of these bytes in this place of the root.
-fn check_root(
-    rt: &(impl Abort + Alloc<A = Global>),
-    ran: &Ran,
-    files: &Files,
-    place: usize,
-    tally: &mut Tally,
-) -> Result<(), Fail> {
-    let alloc = rt.alloc();
-    'bytes: for (name, byte) in &BYTES {
-        let row = row_text(alloc, "the root's byte", place as u64, *name)?;
-        let changed = changed(alloc, &files.root, place, *byte)?;
-        let disk = disk_with(alloc, &changed, &files.generation)?;
-        tally.count(check_store(rt, &row, ran, disk)?, 0);
-    }
-    Ok(())
-}
-
 #[test]
 fn each_byte_of_the_frames_of_the_root_is_changed(rt: HostRuntime) -> Result<(), Fail> {
     let alloc = rt.alloc();
     let ran = no_steps(alloc)?;
     let files = files_of(alloc, &ran.disk)?;
-    let mut tally = NONE;
-    'places: for place in &frames(alloc, &files.root)? {
-        check_root(&rt, &ran, &files, *place, &mut tally)?;
-    }
+    let places = frames(alloc, &files.root)?;
+    let tally = check_places(&rt, &ran, &files, (Changed::Root, 0), &places)?;
     assert!(rt; tally.damaged > 0);
     assert!(rt; tally.all > 0);
     Ok(())

@@ -3,11 +3,11 @@
 use crate::forty::Mark;
 use crate::runs::{Ran, calls_of_making, failed_run, forty_steps};
 use crate::stores::check_store;
-use book_fixtures::{CHOICES, Found, crashed, row_text};
 use edge_memory::MemDisk;
 use std::alloc::Global;
 use std::process::Abort;
 use std::test::Fail;
+use tests_book_fixtures::{CHOICES, Found, crashed, row_text};
 
 // What a crash has left of a disk that had failed: no durable step is lost, and none is there that wasn't committed.
 fn check_left(

@@ -4,7 +4,6 @@ ghost use Rattle.std.specs.Prelude.{◌≡◌, ℕ, true, false, IfOk};
 ghost use Rattle.journal_book.specs.Staged.{IsMove};
 
 use base_types::{Blob, BotName};
-use book_fixtures::{Answer, bring_up, created, stage, state_code};
 use drain_loop::drain_book;
 use drain_turns::TurnsEnd;
 use edge_memory::{MemClock, MemDisk};
@@ -13,6 +12,7 @@ use journal_book::{Book, Move};
 use std::alloc::Global;
 use std::test::Fail;
 use step_code::Rules;
+use tests_book_fixtures::{Answer, bring_up, created, stage, state_code};
 
 const NOW: u64 = 1_700_000_000;
 

@@ -2,11 +2,11 @@
 
 use crate::forty::{FEED, FORTY, Mark, Part, played};
 use base_types::{Blob, NumberList, Text};
-use book_fixtures::{GENERATION, Stored, fail_at, stored_in};
 use edge_memory::{MemDisk, MemShelf};
 use std::alloc::Global;
 use std::process::Abort;
 use std::test::Fail;
+use tests_book_fixtures::{GENERATION, Stored, fail_at, stored_in};
 use tests_rules::TinyRules;
 
 /// A run, the disk that it left, and what is stored there.

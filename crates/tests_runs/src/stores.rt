@@ -2,11 +2,11 @@
 
 use crate::forty::Mark;
 use crate::runs::{Ran, state_behind};
-use book_fixtures::{Found, GENERATION, ROOT, Seen, found_in, put_file, reopen};
 use edge_memory::MemDisk;
 use std::alloc::Global;
 use std::process::Abort;
 use std::test::Fail;
+use tests_book_fixtures::{Found, GENERATION, ROOT, Seen, found_in, put_file, reopen};
 use tests_rules::TinyRules;
 
 /// The two files of a store.

@@ -3,7 +3,7 @@ ghost use Rattle.std.specs.Prelude.{◌<◌, max};
 use base_types::{ListOf, Text, TextList};
 use field_types::{FieldName, Value};
 use scalar_net::{Network, read_network};
-use sieve_reader::{
+use sieve_tree::{
     Amount, Boxed, Case, CaseList, Cond, CondList, How, PutSource, SieveItem, SieveItemList, Test,
     ValueList,
 };

@@ -1,12 +1,10 @@
 use Rattle.std.proofs.Common.{◌≡◌, Err, refl, sym, ap, subst, arith}
 use Rattle.journal_book.specs.Book.{BookView}
-use Rattle.book_runs.proofs.Going.{changes, makes_none}
+use Rattle.book_runs.proofs.Going.{changes, makes_durable, makes_none}
 use Rattle.book_runs.proofs.committing.make_room.Goals as goal
 
 pub returns-in-Ok-clause-goes_on : goal.returns-in-Ok-clause-goes_on
-returns-in-Ok-clause-goes_on g c =
-    let done = c.in-Ok.ensures.ok in
-    makes_none c.args.book.now c.flush.new.self (changes c.args.book.now c.flush.new.self _ _ done) (λ first past was. omega (arith, was.within, ap (λ (b : BookView _ _). b.kept) done)) c.flush.ensures.kept c.flush.ensures.any_moment
+returns-in-Ok-clause-goes_on g c = makes_durable c.args.book.now c.flush.new.self c.in-Ok.ensures.ok c.flush.ensures.kept c.flush.ensures.any_moment
 
 pub returns-in-Err-Disk-clause-goes_on : goal.returns-in-Err-Disk-clause-goes_on
 returns-in-Err-Disk-clause-goes_on g c =

@@ -6,7 +6,8 @@ use Rattle.drain_turns.specs.Drained.{Ends}
 use Rattle.drain_turns.specs.declared.end.TurnsEnd.TheVariants as end
 use Rattle.drain_loop.specs.Calls.{outside, place_with}
 use Rattle.drain_loop.proofs.Begun.{ends_opening, never_none, opening_due, opens_one, plain_fits, plain_staged}
-use Rattle.drain_loop.proofs.Turning.{is_late, made_is, not_made, whole_cause, whole_none}
+use Rattle.drain_loop.proofs.Turning.{is_late, made_is, not_made, whole_cause}
+use Rattle.journal_book.proofs.Causes.{not_refused}
 use Rattle.drain_loop.proofs.begin.open_by.Goals as goal
 
 pub returns-then-is_none_left-clause-opened : goal.returns-then-is_none_left-clause-opened
@@ -31,7 +32,7 @@ returns-in-Ok-clause-opened g c = λ first later.
     let step = staged m book.state c.now.result c.args.what in
     let due = opening_due o p c.args.what later c.now.result refl (c.is_none_left.ensures.some c.if-is_none_left.false) c.state.ensures.latest c.requires.plain c.requires.fits c.now.ensures in
     opens_one o c.args.what later c.args.left c.one_less.result book c.commit.new.book step
-    (made_is o p step due (whole_none book.broken (step_cause m book.state book.steps book.limit step) c.requires.whole c.in-Ok.ensures.causes)) c.in-Ok.ensures.ok c.one_less.ensures
+    (made_is o p step due (not_refused book.broken (step_cause m book.state book.steps book.limit step) c.requires.whole c.in-Ok.ensures.causes)) c.in-Ok.ensures.ok c.one_less.ensures
 
 pub returns-in-Ok-clause-step : goal.returns-in-Ok-clause-step
 returns-in-Ok-clause-step g c =

@@ -32,8 +32,7 @@ returns-then-rounds-clause-opened g c = λ first.
     let rounds = rounds_of m (with_bundle m book.state bundle) asked in
     let later = reload_of bundle ++ rounds in
     let start = place_with (kind.Start ∷ later) book c.args.left in
-    let rest = subst (λ (n : ℕ). IsOpened g.D.Disk.disk g.D.Disk.may_leave g.D.Disk.left_since (outside m first (g.C.Clock.told c.args.clock.now) n) (place_with later mid c.in-Ok.left) rounds mid behind (Ok c.in-Ok-reload.left)) c.open_by.ensures.limit
-    (c.in-Ok-reload.ensures.opened first rounds) in
+    let rest = subst (λ (n : ℕ). IsOpened g.D.Disk.disk g.D.Disk.may_leave g.D.Disk.left_since (outside m first (g.C.Clock.told c.args.clock.now) n) (place_with later mid c.in-Ok.left) rounds mid behind (Ok c.in-Ok-reload.left)) c.open_by.ensures.limit (c.in-Ok-reload.ensures.opened first rounds) in
     let front = opens_more o start later rounds c.in-Ok.left book mid behind (Ok c.in-Ok-reload.left) (c.in-Ok.ensures.opened first later) rest in
     let step = c.in-Ok.ensures.step in
     let same = c.in-Ok-reload.ensures.rounds true ∙ rounds_started m book.state mid.state step.0 bundle true step.1 step.2 in
@@ -51,7 +50,6 @@ returns-else-rounds-clause-opened g c = λ first.
     let rounds = rounds_of m (with_bundle m book.state bundle) asked in
     let later = reload_of bundle ++ rounds in
     let start = place_with (kind.Start ∷ later) book c.args.left in
-    let rest = subst (λ (n : ℕ). IsOpened g.D.Disk.disk g.D.Disk.may_leave g.D.Disk.left_since (outside m first (g.C.Clock.told c.args.clock.now) n) (place_with later mid c.in-Ok.left) rounds mid behind (Ok c.in-Ok-reload.left)) c.open_by.ensures.limit
-    (c.in-Ok-reload.ensures.opened first rounds) in
+    let rest = subst (λ (n : ℕ). IsOpened g.D.Disk.disk g.D.Disk.may_leave g.D.Disk.left_since (outside m first (g.C.Clock.told c.args.clock.now) n) (place_with later mid c.in-Ok.left) rounds mid behind (Ok c.in-Ok-reload.left)) c.open_by.ensures.limit (c.in-Ok-reload.ensures.opened first rounds) in
     let front = opens_more o start later rounds c.in-Ok.left book mid behind (Ok c.in-Ok-reload.left) (c.in-Ok.ensures.opened first later) rest in
     subst (λ (a : Bool). IsOpened g.D.Disk.disk g.D.Disk.may_leave g.D.Disk.left_since o start (rounds_of m (with_bundle m book.state bundle) a) book behind (Ok c.in-Ok-reload.left)) c.if-rounds.false front

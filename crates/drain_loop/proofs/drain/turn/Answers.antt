@@ -12,7 +12,8 @@ use Rattle.drain_loop.specs.Calls.{outside, place_of}
 use Rattle.drain_loop.specs.Feeds.{IsFailedByOne}
 use Rattle.drain_loop.specs.Turning.{EndsTurn, IsNextMove}
 use Rattle.drain_loop.proofs.Moving.{never_disk}
-use Rattle.drain_loop.proofs.Turning.{IsGoingOn, broken_by, disk_by, due_is, ends_here, is_late, late_not_failed, made_is, made_keeps, never_broken, not_made, number_small, screened_act, screened_fits, whole_cause, whole_none}
+use Rattle.drain_loop.proofs.Turning.{IsGoingOn, broken_by, disk_by, due_is, ends_here, is_late, late_not_failed, made_is, made_keeps, never_broken, not_made, number_small, screened_act, screened_fits, whole_cause}
+use Rattle.journal_book.proofs.Causes.{not_refused}
 use Rattle.drain_loop.proofs.drain.turn.Goals as goal
 
 pub returns-then-is_idle-clause-still : goal.returns-then-is_idle-clause-still
@@ -74,16 +75,11 @@ returns-in-Ok-commit-clause-made g c = λ first told.
     let same = ap (λ (v : CoreView _). v.state) c.state-core.ensures.core in
     let next = subst (λ (b : Base). IsNextMove o b c.in-Ok.what) same (c.in-Ok.ensures.next first (g.C.Clock.told c.args.clock.now) book.limit told) in
     let step = staged m book.state c.now.result c.in-Ok.what in
-    let on : IsGoingOn o p = record {
-      opened = refl;
-      busy = λ opened. subst (λ (b : Base). is_idle m b ≡ false) same (sym c.is_idle.ensures ∙ c.if-is_idle.false);
-      left = c.is_none_left.ensures.some c.if-is_none_left.false;
-      latest = c.state-core.ensures.latest;
-    } in
+    let on : IsGoingOn o p = record { opened = refl; busy = λ opened. subst (λ (b : Base). is_idle m b ≡ false) same (sym c.is_idle.ensures ∙ c.if-is_idle.false); left = c.is_none_left.ensures.some c.if-is_none_left.false; latest = c.state-core.ensures.latest } in
     record {
       step = step;
       is_made = made_is o p step (due_is o p next.0 c.in-Ok.what c.now.result on next.1 next.2 c.now.ensures)
-          (whole_none book.broken (step_cause m book.state book.steps book.limit step) c.requires.whole c.in-Ok-commit.ensures.causes);
+          (not_refused book.broken (step_cause m book.state book.steps book.limit step) c.requires.whole c.in-Ok-commit.ensures.causes);
       goes_on = c.in-Ok-commit.ensures.ok;
     }
 
@@ -112,7 +108,7 @@ returns-in-Ok-commit-clause-fewer g c =
     let next = subst (λ (b : Base). IsNextMove (outside m shelf None 0) b c.in-Ok.what) same (c.in-Ok.ensures.next shelf None 0 refl) in
     let step = staged m s c.now.result c.in-Ok.what in
     let kept = made_keeps m s next.0 step (screened_act m s (stamp s c.now.result).0 next.0 c.in-Ok.what next.2.is) in
-    let none = whole_none book.broken (step_cause m s book.steps book.limit step) c.requires.whole c.in-Ok-commit.ensures.causes in
+    let none = not_refused book.broken (step_cause m s book.steps book.limit step) c.requires.whole c.in-Ok-commit.ensures.causes in
     let small = number_small m s step (nothing_refuses m s book.steps book.limit step none).1 in
     omega (arith, kept.steps, small, ap (λ (b : BookView _ _). b.state.steps) c.in-Ok-commit.ensures.ok.book)
 
@@ -124,12 +120,7 @@ returns-in-Err-commit-clause-ends g c = λ first told.
     let same = ap (λ (v : CoreView _). v.state) c.state-core.ensures.core in
     let next = subst (λ (b : Base). IsNextMove o b c.in-Ok.what) same (c.in-Ok.ensures.next first (g.C.Clock.told c.args.clock.now) book.limit told) in
     let step = staged m book.state c.now.result c.in-Ok.what in
-    let on : IsGoingOn o p = record {
-      opened = refl;
-      busy = λ opened. subst (λ (b : Base). is_idle m b ≡ false) same (sym c.is_idle.ensures ∙ c.if-is_idle.false);
-      left = c.is_none_left.ensures.some c.if-is_none_left.false;
-      latest = c.state-core.ensures.latest;
-    } in
+    let on : IsGoingOn o p = record { opened = refl; busy = λ opened. subst (λ (b : Base). is_idle m b ≡ false) same (sym c.is_idle.ensures ∙ c.if-is_idle.false); left = c.is_none_left.ensures.some c.if-is_none_left.false; latest = c.state-core.ensures.latest } in
     subst (Ends o p) (sym c.end_of.ensures)
     (not_made o p step c.in-Err-commit.fault (due_is o p next.0 c.in-Ok.what c.now.result on next.1 next.2 c.now.ensures)
     (whole_cause book.broken (step_cause m book.state book.steps book.limit step) c.in-Err-commit.fault c.requires.whole c.in-Err-commit.ensures.refused))

@@ -4,7 +4,7 @@ use Rattle.std.proofs.lemmas.List.{take_rest}
 use Rattle.std.proofs.lemmas.Result.{MatchResult-from_err}
 use Rattle.edge_traits.proofs.Outputs.{Moved-write, TookFront-rest}
 use Rattle.edge_traits.proofs.Writing.{Writes}
-use Rattle.field_types.specs.Writing.{escaped}
+use Rattle.base_types.specs.JsonText.{escaped}
 use Rattle.dump_store.proofs.Plain.{split}
 use Rattle.dump_store.proofs.escape.write_content.Goals as goal
 

@@ -1,7 +1,7 @@
 use Rattle.std.proofs.Common.{length}
 use Rattle.std.specs.List.{flat_map}
 use Rattle.edge_traits.proofs.Writing.{Writes}
-use Rattle.field_types.specs.Writing.{escaped}
+use Rattle.base_types.specs.JsonText.{escaped}
 use Rattle.dump_store.proofs.escape.write_content.Given as goal
 
 abbrev pub invariant-runs : goal.invariant-runs

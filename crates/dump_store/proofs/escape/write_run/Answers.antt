@@ -4,7 +4,7 @@ use Rattle.std.proofs.lemmas.Result.{MatchResult-from_err}
 use Rattle.edge_traits.specs.Output.{TookFront}
 use Rattle.edge_traits.specs.Sink.{Took}
 use Rattle.edge_traits.proofs.Outputs.{TookFront-longer}
-use Rattle.field_types.specs.Writing.{escaped}
+use Rattle.base_types.specs.JsonText.{escaped}
 use Rattle.dump_store.proofs.Plain.{plain_front, plain_then}
 use Rattle.dump_store.proofs.escape.write_run.Goals as goal
 

@@ -1,6 +1,6 @@
 use Rattle.std.proofs.Common.{◌∙◌, ◌++◌, ◌∷◌, ℕ, List, codes, decimal, sym, ap}
 use Rattle.std.specs.List.{flat_map}
-use Rattle.field_types.specs.Writing.{escaped, quoted}
+use Rattle.base_types.specs.JsonText.{escaped, quoted}
 use Rattle.dump_store.proofs.Plain.{quoted_then}
 use Rattle.dump_store.proofs.export.pieces.Goals as goal
 

@@ -1,5 +1,5 @@
 use Rattle.std.proofs.Common.{◌≡◌, length, arith, sym, ap, ◌∙◌}
-use Rattle.json.specs.Value.{value_view}
+use Rattle.event_json.specs.Quoted.{quoted_view}
 use Rattle.event_json.specs.Direct.{named_values}
 use Rattle.event_json.proofs.Placing.{named-length}
 use Rattle.event_json.proofs.Putting.{all_end, all_more}
@@ -10,7 +10,7 @@ pub members-preserved : goal.members-preserved
 members-preserved c =
     let rest = c.members.rest.now in
     let m = c.member-item.result in
-    all_more (named_values c.args.members.now) (named_values rest) _ (m.0, value_view m.1.now) _ _ _ (ap named_values (first_of rest m c.in-len1-up.len_at_least c.member-item.is))
+    all_more (named_values c.args.members.now) (named_values rest) _ (m.0, quoted_view m.1.now) _ _ _ (ap named_values (first_of rest m c.in-len1-up.len_at_least c.member-item.is))
     (c.in_ok-push_member.ensures c.if-not-branch.false) c.members.invariant
 
 pub returns : goal.returns

@@ -10,4 +10,4 @@ use Rattle.event_json.proofs.direct.write_text.Goals as goal
 pub returns : goal.returns
 returns c =
     all_read c.args.text.now (ended c.write_tree.new.line) (value_view c.in-Some.tree) c.write_tree.result
-    (of_some _ _ (λ tree. value 127 (tokens c.args.text.now) ≡ Some (value_view tree, [])) c.in-Some.is c.in_ok-tree.ensures) c.write_tree.ensures
+    (of_some _ _ (λ tree. value 126 (tokens c.args.text.now) ≡ Some (value_view tree, [])) c.in-Some.is c.in_ok-tree.ensures) c.write_tree.ensures

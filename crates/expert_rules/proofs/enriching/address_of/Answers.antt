@@ -1,6 +1,7 @@
 use Rattle.std.proofs.Common.{Some, None, sym, ◌∙◌, ap}
-use Rattle.expert_rules.specs.Enrich.{address_in, address_of}
-use Rattle.expert_rules.proofs.Sources.{read_address}
+use Rattle.expert_rules.specs.Enrich.{address_of}
+use Rattle.field_types.specs.Written.{address_in}
+use Rattle.field_types.proofs.Written.{read_address}
 use Rattle.expert_rules.proofs.enriching.address_of.Goals as goal
 
 pub returns-in-Ok : goal.returns-in-Ok

@@ -1,8 +1,8 @@
 use Rattle.std.proofs.Common.{◌≡◌, ℕ, List, Result, Ok, MatchResult, sym, ap, subst, ◌∙◌}
 use Rattle.std.proofs.lemmas.Str.{is_utf8-from_IsUtf8}
 use Rattle.base_types.specs.declared.message.FaultNote.{FaultNote}
-use Rattle.field_types.specs.Strip.{strip}
-use Rattle.field_types.proofs.Stripped.{strip-strip}
+use Rattle.scalar_text.specs.Strip.{strip}
+use Rattle.scalar_text.proofs.Stripped.{strip-strip}
 use Rattle.event_model.specs.Fields.{FieldMap}
 use Rattle.feed_rows.specs.Rows.{IsFaultOf}
 use Rattle.feed_csv.specs.Columns.{put_stripped}

@@ -7,7 +7,7 @@ use Rattle.field_types.proofs.cleaning.clean_flag.Goals as goal
 pub returns-then-takes_words : goal.returns-then-takes_words
 returns-then-takes_words c =
     subst (λ o. IsCleaned o c.sanitise_text.result)
-    (ap (λ text. clean c.args.kind (value.Text text)) c.word_of.ensures ∙ sym (words_flag c.args.kind c.args.flag (sym c.takes_words.ensures ∙ c.if-takes_words.true)))
+    (ap (λ text. clean c.args.kind (value.Text text)) c.flag_word.ensures ∙ sym (words_flag c.args.kind c.args.flag (sym c.takes_words.ensures ∙ c.if-takes_words.true)))
     c.sanitise_text.ensures
 
 pub returns-in_default : goal.returns-in_default

@@ -2,9 +2,9 @@ use Rattle.std.proofs.Common.{sym, ap, ◌∙◌, ◌≡◌, subst, Some, length
 use Rattle.field_types.specs.Cleaning.{of_text, IsCleaned}
 use Rattle.field_types.specs.declared.value.Value.TheVariants as value
 use Rattle.field_types.specs.Kept.{kept_value}
-use Rattle.field_types.specs.Strip.{strip}
+use Rattle.scalar_text.specs.Strip.{strip}
 use Rattle.field_types.proofs.KindByKind.{clean_text, kept_err}
-use Rattle.field_types.proofs.Stripped.{strip_whole}
+use Rattle.scalar_text.proofs.Stripped.{strip_whole}
 use Rattle.field_types.proofs.cleaning.clean_text.Goals as goal
 
 pub returns-in-Err : goal.returns-in-Err

@@ -1,7 +1,8 @@
 use Rattle.std.proofs.Common.{◌∙◌, arith}
 use Rattle.std.specs.List.{slice_get}
 use Rattle.disk_journal.proofs.Walking.{reads_on}
-use Rattle.journal_book.proofs.Lengths.{long_on, short_at, some_and}
+use Rattle.journal_book.proofs.Lengths.{long_on, short_at}
+use Rattle.base_types.proofs.Options.{some_and}
 use Rattle.journal_book.proofs.Recovering.{call_reads}
 use Rattle.journal_book.proofs.opening.check_outs.Goals as goal
 

@@ -1,6 +1,6 @@
 use Rattle.std.proofs.Common.{◌+◌, ◌==◌, refl, arith}
 use Rattle.std.proofs.lemmas.Option.{slice_get_within}
-use Rattle.out_files.proofs.Contents.{rose_later}
+use Rattle.edge_traits.proofs.Counts.{rose_later}
 use Rattle.store_image.specs.Files.{out_file}
 use Rattle.journal_book.proofs.Completing.{done_more, fault_of_all, one_output, output_at, over_all}
 use Rattle.journal_book.proofs.outputs.complete_all.Goals as goal

@@ -2,7 +2,8 @@ use Rattle.std.proofs.Common.{◌≡◌, ◌+◌, ℕ, List, length, take, true,
 use Rattle.std.proofs.lemmas.List.{take_all}
 use Rattle.edge_traits.specs.Disk.{Image}
 use Rattle.out_files.specs.Output.{lines_text, completed}
-use Rattle.out_files.proofs.Contents.{lines_no_longer, pushed_same, gathered_more, size_more, nothing_gathered, all_written, rose_later}
+use Rattle.out_files.proofs.Contents.{lines_no_longer, pushed_same, gathered_more, size_more, nothing_gathered, all_written}
+use Rattle.edge_traits.proofs.Counts.{rose_later}
 use Rattle.out_files.proofs.Runs.{no_call, then_run, told_before}
 use Rattle.out_files.proofs.out_files.write_lines.Goals as goal
 

@@ -1,5 +1,5 @@
 use Rattle.std.proofs.Common.{List, sym, subst, Some}
-use Rattle.event_json.specs.Lenient.{lenient}
+use Rattle.event_text.specs.Lenient.{lenient}
 use Rattle.pipeline_top.specs.Convert.{read_line}
 use Rattle.pipeline_top.specs.Line.{PutLine}
 use Rattle.status_texts.specs.declared.status.Status.TheVariants as status

@@ -6,7 +6,7 @@ use Rattle.runtime_config.specs.Faults.{fault_when, most_patterns, numbers_fault
 use Rattle.runtime_config.specs.Load.{planned}
 use Rattle.runtime_config.specs.Read.{entries_of, entry_of, members_of}
 use Rattle.runtime_config.specs.declared.fault.LoadFault.TheVariants as fault
-use Rattle.sieve_reader.specs.SieveView.{SieveView}
+use Rattle.sieve_tree.specs.SieveView.{SieveView}
 use Rattle.runtime_config.proofs.loading.limited.Goals as goal
 
 pub returns-then-has_many_patterns-clause-found : goal.returns-then-has_many_patterns-clause-found

@@ -1,6 +1,6 @@
 use Rattle.std.proofs.Common.{subst}
 use Rattle.std.specs.Prelude.{option_map}
-use Rattle.sieve_reader.specs.SieveView.{SieveView}
+use Rattle.sieve_tree.specs.SieveView.{SieveView}
 use Rattle.runtime_config.proofs.Faulty.{first_fault_is, later_sieve}
 use Rattle.runtime_config.specs.Faults.{unknown_spot}
 use Rattle.runtime_config.specs.Found.{IsSieveOf}

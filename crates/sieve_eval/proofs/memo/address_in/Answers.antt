@@ -1,5 +1,5 @@
 use Rattle.std.proofs.Common.{option_map, ◌∙◌, ap}
-use Rattle.sieve_eval.proofs.Addresses.{parts, read_address}
+use Rattle.field_types.proofs.Written.{parts, read_address}
 use Rattle.sieve_eval.proofs.memo.address_in.Goals as goal
 
 pub returns : goal.returns

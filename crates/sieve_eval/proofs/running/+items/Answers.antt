@@ -1,15 +1,15 @@
 use Rattle.std.proofs.Common.{◌≡◌, suc, ◌+◌, drop, Err, Ok, List, ap, sym, subst, ◌∙◌}
-use Rattle.sieve_reader.specs.declared.tree.Cond.{Cond}
-use Rattle.sieve_reader.specs.declared.tree.SieveItem.{SieveItem}
-use Rattle.sieve_reader.specs.Fixed.{all_fixed, fixed_in, AreCanonical}
+use Rattle.sieve_tree.specs.declared.tree.Cond.{Cond}
+use Rattle.sieve_tree.specs.declared.tree.SieveItem.{SieveItem}
+use Rattle.sieve_tree.specs.Fixed.{all_fixed, fixed_in, AreCanonical}
 use Rattle.sieve_eval.specs.Holds.{holds}
 use Rattle.sieve_eval.specs.Outcome.{IsOutcome}
 use Rattle.sieve_eval.specs.Runs.{chosen, run_all, runs}
-use Rattle.sieve_reader.proofs.FixedValues.{cases_fixed, choice_fixed}
+use Rattle.sieve_tree.proofs.FixedValues.{cases_fixed, choice_fixed}
 use Rattle.sieve_eval.proofs.Items.{ahead, at_item, behind, case_left, case_taken, choice_runs, ends_bad, goes_on, put_sound}
 use Rattle.sieve_eval.specs.declared.saying.Setting.{Setting}
 use Rattle.sieve_eval.specs.declared.state.State.{State}
-use Rattle.sieve_reader.proofs.Weights.{case_weight, cases_weight, choice_weight, one_of, total_weight, weight}
+use Rattle.sieve_tree.proofs.Weights.{case_weight, cases_weight, choice_weight, one_of, total_weight, weight}
 use Rattle.sieve_eval.proofs.Weights.{case_falls, chosen_falls, item_falls}
 use Rattle.sieve_eval.proofs.running.+items.Goals as goal
 

@@ -1,9 +1,9 @@
 use Rattle.std.proofs.Common.{◌≡◌, ◌+◌, ◌*◌, drop}
-use Rattle.sieve_reader.specs.Fixed.{all_fixed, AreCanonical}
+use Rattle.sieve_tree.specs.Fixed.{all_fixed, AreCanonical}
 use Rattle.sieve_eval.specs.Holds.{holds}
 use Rattle.sieve_eval.specs.Runs.{chosen, run_all}
-use Rattle.sieve_reader.proofs.FixedValues.{cases_fixed}
-use Rattle.sieve_reader.proofs.Weights.{cases_weight, total_weight, weight}
+use Rattle.sieve_tree.proofs.FixedValues.{cases_fixed}
+use Rattle.sieve_tree.proofs.Weights.{cases_weight, total_weight, weight}
 use Rattle.sieve_eval.proofs.running.+items.Given as goal
 
 abbrev pub invariant-run_all-items : goal.invariant-run_all-items

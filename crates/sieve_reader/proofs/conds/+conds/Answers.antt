@@ -5,8 +5,8 @@ use Rattle.sieve_reader.specs.Leaf.{judged}
 use Rattle.sieve_reader.specs.Outcome.{Refused}
 use Rattle.sieve_reader.specs.Parse.{both, cond_of, grouped, grouped_of, is_sign, negated, negated_of, one, read_map, separated}
 use Rattle.sieve_reader.specs.declared.fault.Fault.{Fault}
-use Rattle.sieve_reader.specs.declared.tree.Cond.{Cond}
-use Rattle.sieve_reader.specs.declared.tree.Cond.TheVariants as cond
+use Rattle.sieve_tree.specs.declared.tree.Cond.{Cond}
+use Rattle.sieve_tree.specs.declared.tree.Cond.TheVariants as cond
 use Rattle.sieve_reader.proofs.Turns.{deeper, fault_mapped, one_is, turn_ends, turn_faults, turn_goes_on, turns_over}
 use Rattle.sieve_reader.proofs.conds.+conds.Goals as goal
 

@@ -4,7 +4,7 @@ use Rattle.sieve_reader.specs.Outcome.{cause_of, IsReadFault}
 use Rattle.sieve_reader.specs.Parse.{file}
 use Rattle.sieve_reader.specs.Refusal.{place}
 use Rattle.sieve_reader.proofs.Answering.{left_fits, of_refused, rest_is, told_at}
-use Rattle.sieve_reader.proofs.FixedValues.{read_fixed}
+use Rattle.sieve_reader.proofs.FixedRead.{read_fixed}
 use Rattle.sieve_reader.proofs.sieve.read_items.Goals as goal
 
 pub place-requires-clause-left : goal.place-requires-clause-left

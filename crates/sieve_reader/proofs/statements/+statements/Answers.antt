@@ -5,9 +5,9 @@ use Rattle.sieve_reader.specs.Leaf.{judged}
 use Rattle.sieve_reader.specs.Outcome.{Refused}
 use Rattle.sieve_reader.specs.Parse.{an_item, case, choice, closed, condition, is_elif, is_sign, items, otherwise, part, sees, separated}
 use Rattle.sieve_reader.specs.declared.fault.Fault.{Fault}
-use Rattle.sieve_reader.specs.declared.tree.Cond.{Cond}
-use Rattle.sieve_reader.specs.declared.tree.SieveItem.{SieveItem}
-use Rattle.sieve_reader.specs.declared.tree.SieveItem.TheVariants as item
+use Rattle.sieve_tree.specs.declared.tree.Cond.{Cond}
+use Rattle.sieve_tree.specs.declared.tree.SieveItem.{SieveItem}
+use Rattle.sieve_tree.specs.declared.tree.SieveItem.TheVariants as item
 use Rattle.sieve_reader.proofs.Blocks.{block_opened, block_too_deep, fault_behind, fault_bound, no_block}
 use Rattle.sieve_reader.proofs.Turns.{fault_mapped, item_is, items_end, items_fault, items_go_on, items_over, turn_ends, turn_faults, turn_goes_on, turns_over}
 use Rattle.sieve_reader.proofs.statements.+statements.Goals as goal

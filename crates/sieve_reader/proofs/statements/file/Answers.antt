@@ -3,7 +3,7 @@ use Rattle.sieve_reader.specs.Leaf.{judged}
 use Rattle.sieve_reader.specs.Outcome.{Refused}
 use Rattle.sieve_reader.specs.Parse.{an_item, is_end, items}
 use Rattle.sieve_reader.specs.declared.fault.Fault.{Fault}
-use Rattle.sieve_reader.specs.declared.tree.SieveItem.{SieveItem}
+use Rattle.sieve_tree.specs.declared.tree.SieveItem.{SieveItem}
 use Rattle.sieve_reader.proofs.Turns.{items_end, items_fault, items_go_on, items_over}
 use Rattle.sieve_reader.proofs.statements.file.Goals as goal
 

@@ -1,7 +1,8 @@
 use Rattle.std.proofs.Common.{◌+◌, ℕ, List, [], ◌∷◌, ◌∙◌, length, ap₂, codes, decimal}
 use Rattle.state_texts.specs.Texts.{line}
 use Rattle.std.specs.List.{slice_get}
-use Rattle.state_texts.proofs.Lines.{out_put, some_and}
+use Rattle.state_texts.proofs.Lines.{out_put}
+use Rattle.base_types.proofs.Options.{some_and}
 use Rattle.state_texts.proofs.state.put_outs.Goals as goal
 
 pub outs-preserved : goal.outs-preserved

@@ -1,7 +1,8 @@
 use Rattle.std.proofs.Common.{[], ◌∷◌, ◌∙◌, ap₂, codes, decimal}
 use Rattle.std.specs.List.{slice_get}
 use Rattle.state_texts.specs.Texts.{line, queue_line}
-use Rattle.state_texts.proofs.Lines.{item_put, some_and}
+use Rattle.state_texts.proofs.Lines.{item_put}
+use Rattle.base_types.proofs.Options.{some_and}
 use Rattle.state_texts.proofs.state.put_queues.Goals as goal
 
 pub queues-preserved : goal.queues-preserved

@@ -1,6 +1,7 @@
 use Rattle.std.proofs.Common.{◌+◌, ◌∙◌, ℕ, List, length, ap₂}
 use Rattle.std.specs.List.{slice_get}
-use Rattle.state_texts.proofs.Lines.{lines_added, some_and}
+use Rattle.state_texts.proofs.Lines.{lines_added}
+use Rattle.base_types.proofs.Options.{some_and}
 use Rattle.state_texts.proofs.summary.lines_in.Goals as goal
 
 pub outs-preserved : goal.outs-preserved

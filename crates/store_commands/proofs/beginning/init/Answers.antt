@@ -1,13 +1,12 @@
-use Rattle.std.proofs.Common.{◌≡◌, [], List, ℕ, length, refl, sym, ap, subst, ◌∙◌, arith}
+use Rattle.std.proofs.Common.{◌≡◌, [], List, ℕ, refl, sym, ap, subst, ◌∙◌}
 use Rattle.step_code.specs.declared.base.Base.{Base}
 use Rattle.step_code.specs.History.{first}
 use Rattle.state_texts.specs.Texts.{summary}
 use Rattle.journal_book.specs.Book.{BookView}
-use Rattle.journal_book.proofs.Recovering.{some_root}
 use Rattle.store_commands.specs.Begun.{IsBegun, IsFirstOf, IsMade}
 use Rattle.store_commands.specs.Ends.{IsPrinted}
 use Rattle.store_commands.specs.declared.end.StoreEnd.{StoreEnd}
-use Rattle.store_commands.proofs.Begun.{begun_by, made_whole, not_made, not_new, FirstsAreSound}
+use Rattle.store_commands.proofs.Begun.{begun_by, made_whole, no_store, not_made, not_new, FirstsAreSound}
 use Rattle.store_commands.proofs.beginning.init.Goals as goal
 
 pub returns-in-Ok-clause-made : goal.returns-in-Ok-clause-made
@@ -26,9 +25,7 @@ returns-in-Ok-clause-stands g c = λ files told whole.
     subst (λ d. IsBegun g.D.Disk.disk g.D.Disk.may_leave g.R.Rules.meaning c.args.bundle.now d) (sym c.into_disk.ensures) (begun_by c.args.bundle.now made.0 c.args.rules 67_108_864 c.in-Ok.book made.1 made.2 (c.in-Ok.ensures.kept files told))
 
 pub returns-in-Ok-clause-left_alone : goal.returns-in-Ok-clause-left_alone
-returns-in-Ok-clause-left_alone g c = λ first steps more was.
-    let there = some_root g.R.Rules.meaning first steps more was.files (was.each was.files (g.met.D.Disk.honest c.args.disk was.files was.tells)) in
-    absurd (omega (arith, there, ap length (c.in-Ok.ensures.empty was.files was.tells)))
+returns-in-Ok-clause-left_alone g c = λ first steps more was. absurd (no_store g.R.Rules.meaning first steps more was.files (was.each was.files (g.met.D.Disk.honest c.args.disk was.files was.tells)) (c.in-Ok.ensures.empty was.files was.tells))
 
 pub returns-in-Err-clause-made : goal.returns-in-Err-clause-made
 returns-in-Err-clause-made g c = λ files told.

@@ -1,9 +1,8 @@
-use Rattle.std.proofs.Common.{[], length, refl, sym, ap, subst, arith}
+use Rattle.std.proofs.Common.{[], refl, sym, subst}
 use Rattle.step_code.specs.History.{first}
-use Rattle.journal_book.proofs.Recovering.{some_root}
 use Rattle.store_commands.specs.Begun.{IsBegun, IsNewStore}
 use Rattle.store_commands.specs.declared.end.StoreEnd.{StoreEnd}
-use Rattle.store_commands.proofs.Begun.{begun_by, never_sink, not_new, FirstsAreSound}
+use Rattle.store_commands.proofs.Begun.{begun_by, never_sink, no_store, not_new, FirstsAreSound}
 use Rattle.store_commands.proofs.beginning.make_store.Goals as goal
 
 pub returns-in-Ok-clause-made : goal.returns-in-Ok-clause-made
@@ -17,9 +16,7 @@ returns-in-Ok-clause-stands g c = λ files told done.
     subst (λ d. IsBegun g.D.Disk.disk g.D.Disk.may_leave g.R.Rules.meaning c.args.bundle.now d) (sym c.into_disk.ensures) (begun_by c.args.bundle.now made.0 c.args.rules 67_108_864 c.in-Ok.book made.1 made.2 (c.in-Ok.ensures.kept files told))
 
 pub returns-in-Ok-clause-left_alone : goal.returns-in-Ok-clause-left_alone
-returns-in-Ok-clause-left_alone g c = λ first steps more was.
-    let there = some_root g.R.Rules.meaning first steps more was.files (was.each was.files (g.met.D.Disk.honest c.args.disk was.files was.tells)) in
-    absurd (omega (arith, there, ap length (c.in-Ok.ensures.empty was.files was.tells)))
+returns-in-Ok-clause-left_alone g c = λ first steps more was. absurd (no_store g.R.Rules.meaning first steps more was.files (was.each was.files (g.met.D.Disk.honest c.args.disk was.files was.tells)) (c.in-Ok.ensures.empty was.files was.tells))
 
 pub returns-in-Err-clause-made : goal.returns-in-Err-clause-made
 returns-in-Err-clause-made g c = λ files told.

@@ -6,7 +6,8 @@ use Rattle.book_runs.proofs.Going.{goes_further, makes_one}
 use Rattle.store_commands.specs.Redone.{redo_step, AreMadeAt, IsRedoEnd}
 use Rattle.store_commands.specs.declared.end.StoreEnd.{StoreEnd}
 use Rattle.store_commands.specs.declared.end.StoreEnd.TheVariants as end
-use Rattle.store_commands.proofs.RedoEnds.{ends_so, made_so, none_made, not_refused, outs_stay, refused_end}
+use Rattle.store_commands.proofs.RedoEnds.{ends_so, made_so, none_made, outs_stay, refused_end}
+use Rattle.journal_book.proofs.Causes.{not_refused}
 use Rattle.store_commands.proofs.redoing.redo_dump.Goals as goal
 
 pub returns-in-Ok-clause-end : goal.returns-in-Ok-clause-end

@@ -1,14 +1,8 @@
-use Rattle.edge_memory.proofs.Steps.{elapses, keeps_past}
+use Rattle.edge_memory.proofs.Steps.{elapses}
 use Rattle.edge_memory.proofs.disk.MemDiskDisk.len.Goals as goal
 
 pub returns-in_err-look-clause-time : goal.returns-in_err-look-clause-time
 returns-in_err-look-clause-time c = elapses _ _ c.look.ensures.time
 
-pub returns-in_err-look-clause-past : goal.returns-in_err-look-clause-past
-returns-in_err-look-clause-past c = keeps_past _ _ c.look.ensures.time
-
 pub returns-clause-time : goal.returns-clause-time
 returns-clause-time c = elapses _ _ c.look.ensures.time
-
-pub returns-clause-past : goal.returns-clause-past
-returns-clause-past c = keeps_past _ _ c.look.ensures.time

@@ -1,8 +1,8 @@
 use Rattle.std.proofs.Common.{sym, subst}
 use Rattle.std.specs.FinMap.{entries}
 use Rattle.event_model.specs.Fields.{FieldMap}
-use Rattle.event_json.specs.Strict.{AreTyped}
-use Rattle.event_json.proofs.PairTexts.{nothing_yet}
+use Rattle.event_text.specs.Strict.{AreTyped}
+use Rattle.event_text.proofs.PairTexts.{nothing_yet}
 use Rattle.event_json.proofs.Pushed.{nothing_written}
 use Rattle.event_json.proofs.message_line.MessageLine.begin.Goals as goal
 

@@ -1,8 +1,8 @@
 use Rattle.std.proofs.Common.{[], ◌∷◌, sym, ap, ◌∙◌, append_assoc}
 use Rattle.std.specs.FinMap.{entries}
-use Rattle.event_json.specs.Decode.{opening, pairs_text}
+use Rattle.event_text.specs.Decode.{opening, pairs_text}
 use Rattle.event_json.specs.Direct.{ended}
-use Rattle.event_json.proofs.MessageText.{message_text-parts}
+use Rattle.event_text.proofs.MessageText.{message_text-parts}
 use Rattle.event_json.proofs.message_line.MessageLine.into_message.Goals as goal
 
 pub returns-clause-text : goal.returns-clause-text

@@ -1,6 +1,6 @@
 use Rattle.std.proofs.Common.{ap, sym, ◌∙◌, ◌++◌}
 use Rattle.std.proofs.lemmas.Str.{is_utf8-from_IsUtf8}
-use Rattle.field_types.specs.Writing.{quoted}
+use Rattle.base_types.specs.JsonText.{quoted}
 use Rattle.field_types.specs.declared.value.Value.TheVariants as as_value
 use Rattle.event_json.specs.Direct.{last_name}
 use Rattle.event_json.proofs.Lines.{pair_put, text_is_quoted}

@@ -1,5 +1,5 @@
 use Rattle.std.proofs.Common.{◌≡◌, ap, sym, subst, ◌∙◌}
-use Rattle.sieve_reader.specs.SieveView.{SieveView}
+use Rattle.sieve_tree.specs.SieveView.{SieveView}
 use Rattle.sieve_eval.specs.Outcome.{IsOutcome}
 use Rattle.sieve_eval.specs.Runs.{run_all}
 use Rattle.sieve_eval.specs.Verdicts.{verdict, IsVerdict}

@@ -1,5 +1,0 @@
-use Rattle.std.proofs.Common.{length}
-use Rattle.book_fixtures.proofs.recount.+behind.Given as goal
-
-abbrev pub decreases-behind : goal.decreases-behind
-decreases-behind l = length l.steps.now

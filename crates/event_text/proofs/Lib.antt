@@ -1,0 +1,10 @@
+pub mod Ends
+pub mod Exact
+pub mod MessageText
+pub mod Messages
+pub mod PairTexts
+pub mod Readable
+pub mod Runs
+pub mod Strings
+pub mod Unescaped
+pub mod Values

@@ -1,6 +1,0 @@
-use Rattle.std.proofs.Common.{◌≡◌, ◌++◌, take, flat_map}
-use Rattle.field_types.specs.Writing.{escaped}
-use Rattle.field_types.proofs.writing.push_content.Given as goal
-
-abbrev pub invariant-bytes : goal.invariant-bytes
-invariant-bytes l = l.out.items ≡ l.fn.out.items ++ flat_map escaped (take l.byte-index l.text)

@@ -1,0 +1,52 @@
+ghost use Rattle.std.specs.Prelude.{◌≡◌, ◌<◌, length, MatchOption};
+ghost use Rattle.scalar_text.specs.Strip.{strip, strip_front, strip_back};
+
+// What is behind a blank at the front.
+fn behind_blank(text: &str) -> Option<&str>
+    ensures { MatchOption result (strip_front text.now ≡ text.now)
+        (λ rest. (strip_front text.now ≡ strip_front rest.now) × (length rest.now < length text.now)) }
+{
+    match text.strip_prefix(' ') {
+        Some(rest) => Some(rest),
+        None => text.strip_prefix('\t'),
+    }
+}
+
+// What is before a blank at the end.
+fn before_blank(text: &str) -> Option<&str>
+    ensures { MatchOption result (strip_back text.now ≡ text.now)
+        (λ rest. (strip_back text.now ≡ strip_back rest.now) × (length rest.now < length text.now)) }
+{
+    match text.strip_suffix(' ') {
+        Some(rest) => Some(rest),
+        None => text.strip_suffix('\t'),
+    }
+}
+
+fn strip_front(text: &str) -> &str
+    ensures { result.now ≡ strip_front text.now }
+{
+    let mut rest = text;
+    'blanks: while let Some(next) = behind_blank(rest) {
+        rest = next;
+    }
+    rest
+}
+
+fn strip_back(text: &str) -> &str
+    ensures { result.now ≡ strip_back text.now }
+{
+    let mut rest = text;
+    'blanks: while let Some(next) = before_blank(rest) {
+        rest = next;
+    }
+    rest
+}
+
+/// The text without the spaces and tabs at both ends. It takes no memory.
+#[tactic(auto, unfolding(crate::specs::Strip::strip))]
+pub fn strip(text: &str) -> &str
+    ensures { result.now ≡ strip text.now }
+{
+    strip_back(strip_front(text))
+}

@@ -1,0 +1,3 @@
+pub mod FixedValues
+mod PatternTexts
+pub mod Weights

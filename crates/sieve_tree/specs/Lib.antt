@@ -1,0 +1,6 @@
+-- what public contracts cite
+pub mod Fixed
+pub mod Pattern
+pub mod SieveView
+-- what only proofs use
+pub mod formers
