@@ -1,5 +1,5 @@
 -- What is fetched has a code.
-use Rattle.std.proofs.Common.{◌≡◌, ◌≤◌, ◌<◌, ◌+◌, ◌&&◌, ◌^◌, ℕ, List, [], ◌∷◌, ◌++◌, map, take, length, true, nat_le, Less, refl, sym, ap, subst, ◌∙◌, arith}
+use Rattle.std.proofs.Common.{◌≡◌, ◌≤◌, ◌<◌, ◌+◌, ◌^◌, ℕ, List, [], ◌∷◌, ◌++◌, map, take, length, true, nat_le, Less, refl, sym, ap, subst, ◌∙◌, arith}
 use Rattle.std.proofs.lemmas.Bool.{and_from, and_parts, leb-true}
 use Rattle.std.proofs.lemmas.List.{length-map}
 use Rattle.std.specs.FinMap.{is_sorted}
@@ -11,7 +11,7 @@ use Rattle.base_types.proofs.Places.{lt_of, order}
 use Rattle.config_bundle.specs.Bundle.{names_rise, IsBundle, IsFile}
 use Rattle.config_bundle.specs.declared.bundle.Bundle.{Bundle}
 use Rattle.module_settings.specs.Parameters.{is_file_name}
-use Rattle.bundle_fetch.specs.Fetch.{kept_file, kept_runtime, Files}
+use Rattle.bundle_fetch.specs.Fetch.{kept_runtime, Files}
 use Rattle.bundle_fetch.specs.Front.{IsKeptFile}
 
 above : (key : List ℕ) (files : Files) → AllByRecursion (λ n. order key n ≡ Less) (map (λ f. f.0) files) → below_all order key files ≡ true

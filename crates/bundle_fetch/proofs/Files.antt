@@ -1,12 +1,10 @@
 -- Files that are fetched one after the other.
-use Rattle.std.proofs.Common.{◌≡◌, ◌⊎◌, inl, inr, ◌≤◌, ◌<◌, ◌+◌, ℕ, zero, suc, List, [], ◌∷◌, ◌++◌, length, take, drop, get_or, Option, Some, None, Result, Ok, Err, refl, sym, ap, subst, ◌∙◌, arith, append_assoc}
+use Rattle.std.proofs.Common.{◌≡◌, inl, inr, ◌<◌, ◌+◌, ℕ, zero, suc, List, [], ◌∷◌, ◌++◌, length, take, drop, get_or, Option, Some, None, Result, Ok, Err, refl, sym, ap, subst, ◌∙◌, arith, append_assoc}
 use Rattle.std.proofs.Math.Seq.{drop-cons}
-use Rattle.std.proofs.lemmas.List.{append-nil, drop_all}
 use Rattle.base_types.specs.Lists.{IsIn}
-use Rattle.edge_traits.specs.Count.{last_count, Rose}
 use Rattle.edge_traits.specs.Named.{find_named}
 use Rattle.config_bundle.specs.declared.bundle.Bundle.{Bundle}
-use Rattle.runtime_config.specs.Named.{named_files}
+use Rattle.runtime_text.specs.Named.{named_files}
 use Rattle.bundle_fetch.specs.Fetch.{bundle_at, bundle_from, files_from, kept_file, kept_runtime, with_files, with_kept, Files, IsFetched}
 use Rattle.bundle_fetch.specs.Front.{IsFrontOf}
 use Rattle.bundle_fetch.specs.declared.fault.BundleFault.{BundleFault}
@@ -34,11 +32,6 @@ one_more shelf names i name content all done new within at is pushed so_far =
     let left : drop i names ≡ name ∷ drop (suc i) names = drop-cons names i name within ∙ ap (λ (x : List ℕ). x ∷ drop (suc i) names) (sym at) in
     so_far ∙ ap (λ (ns : List (List ℕ)). behind done (files_from shelf ns)) left ∙ kept (find_named name shelf) name content done (files_from shelf (drop (suc i) names)) is
     ∙ ap (λ (fs : Files). behind fs (files_from shelf (drop (suc i) names))) (sym pushed) ∙ ap (λ (k : ℕ). behind new (files_from shelf (drop k names))) n
-
--- the end
-pub all_there : (shelf : Files) (names : List (List ℕ)) (i : ℕ) (all : Result Files (List ℕ)) (done : Files) → length names ≤ i → all ≡ behind done (files_from shelf (drop i names)) → IsFetched all (Ok done)
-all_there shelf names i all done past so_far =
-    so_far ∙ ap (λ (ns : List (List ℕ)). behind done (files_from shelf ns)) (drop_all i names past) ∙ ap (λ (fs : Files). Ok fs) (append-nil done)
 
 lacking : (o : Option (List ℕ)) (name : List ℕ) (done : Files) (later : Result Files (List ℕ)) (e : BundleFault) → IsFrontOf o kept_file name (Err e) → IsFetched {A = Files} (behind done (with_kept name o later)) (Err e)
 lacking None name done later (fault.Absent other) is = ap (λ (n : List ℕ). Err n) (sym is)

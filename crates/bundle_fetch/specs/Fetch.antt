@@ -2,7 +2,7 @@
 use Rattle.std.specs.Prelude.{◌≡◌, ℕ, List, [], ◌∷◌, take, Option, Some, None, Result, Ok, Err}
 use Rattle.config_bundle.specs.declared.bundle.Bundle.{Bundle}
 use Rattle.edge_traits.specs.Named.{find_named}
-use Rattle.runtime_config.specs.Named.{named_files}
+use Rattle.runtime_text.specs.Named.{named_files}
 use Rattle.bundle_fetch.specs.declared.fault.BundleFault.{BundleFault}
 use Rattle.bundle_fetch.specs.declared.fault.BundleFault.TheVariants as fault
 

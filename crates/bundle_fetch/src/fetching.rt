@@ -12,7 +12,7 @@ use crate::front::fetch_front;
 use base_types::{Blob, NamedList, OutOfMemory, Text, TextList};
 use config_bundle::Bundle;
 use edge_traits::Shelf;
-use runtime_config::named_files;
+use runtime_text::named_files;
 use std::alloc::Global;
 
 // A runtime text and a file count up to these lengths in bytes. One byte more is kept, so that it shows that they are longer.

@@ -1,3 +1,4 @@
+pub mod CompactTexts
 pub mod Items
 pub mod Lines
 pub mod Numerals
@@ -12,3 +13,4 @@ pub mod QuotedValues
 pub mod Reading
 pub mod Rising
 pub mod Slices
+pub mod TimesAsPrinted

@@ -17,9 +17,9 @@ use Rattle.event_model.specs.declared.message.Kind.{Kind}
 use Rattle.event_model.specs.declared.message.Message.{Message}
 use Rattle.event_model.proofs.Bytes.{json_of-read}
 use Rattle.event_text.specs.Decode.{opening, pairs_text}
-use Rattle.event_json.specs.Direct.{Named, data_members, AreData, HasText, IsMessageOf, IsMessageOfTree, PutsAll, ReadsAs, Rise, Written}
+use Rattle.event_json.specs.Direct.{Named, data_members, AreData, HasText, IsMessageOf, PutsAll, ReadsAs, Rise, Written}
 use Rattle.event_text.specs.Lenient.{lenient, of_tree, PutsText}
-use Rattle.event_json.specs.Quoted.{quoted_value}
+use Rattle.event_json.specs.Quoted.{quoted_members, quoted_value}
 use Rattle.event_json.proofs.Putting.{if_taken}
 use Rattle.event_json.proofs.QuotedUtf8.{quoted_utf8}
 use Rattle.event_json.proofs.QuotedValues.{value_of_quoted}
@@ -51,14 +51,9 @@ message_is js ordered kind opened put text reads none is begun puts ended =
 whole : (text : List ℕ) (j : json.Json) → value 126 (tokens text) ≡ Some (j, []) → read (quote text) ≡ of_json (quoted_value j)
 whole text j is = ap (λ o. option_and_then of_json (option_and_then (λ p. if_last p.0 p.1) o)) (value_of_quoted 126 text j is)
 
-reads_tree : (text : List ℕ) (j : json.Json) (message : Message) → read (quote text) ≡ of_json j → IsMessageOfTree j message → ReadsAs text message
+reads_object : (text : List ℕ) (ms : json.Members) (message : Message) → read (quote text) ≡ of_json (json.object ms) → IsMessageOf ms message → ReadsAs text message
 unfolding lenient_tree
-reads_tree text json.null message is of = absurd of
-reads_tree text (json.boolean b) message is of = absurd of
-reads_tree text (json.number s) message is of = absurd of
-reads_tree text (json.string s) message is of = absurd of
-reads_tree text (json.array js) message is of = absurd of
-reads_tree text (json.object ms) message is of = record {
+reads_object text ms message is of = record {
   tree = object of.members;
   read = is ∙ ap (option_map object) of.in_range;
   is = of.read;
@@ -77,13 +72,9 @@ pub all_lenient : (bytes text line : List ℕ) (r : Result Bool OutOfMemory) →
     → IfOk r (λ taken. taken ≡ true → HasText (λ m. lenient bytes ≡ Ok m) line)
 all_lenient bytes text line r same good = text_on r line _ _ (λ m. read_lenient bytes text m same good)
 
-pub all_read : (text line : List ℕ) (j : json.Json) (r : Result Bool OutOfMemory) → value 126 (tokens text) ≡ Some (j, []) → IfOk r (λ taken. taken ≡ true → HasText (IsMessageOfTree (quoted_value j)) line)
+pub all_read : (text line : List ℕ) (ms : json.Members) (r : Result Bool OutOfMemory) → value 126 (tokens text) ≡ Some (json.object ms, []) → IfOk r (λ taken. taken ≡ true → HasText (IsMessageOf (quoted_members ms)) line)
     → IfOk r (λ taken. taken ≡ true → HasText (ReadsAs text) line)
-all_read text line j r is = text_on r line _ _ (λ m. reads_tree text (quoted_value j) m (whole text j is))
-
-pub all_objects : (j : json.Json) (js : json.Members) (line : List ℕ) (r : Result Bool OutOfMemory) → j ≡ json.object js → IfOk r (λ taken. taken ≡ true → HasText (IsMessageOf js) line)
-    → IfOk r (λ taken. taken ≡ true → HasText (IsMessageOfTree j) line)
-all_objects j js line r is = text_on r line _ _ (λ m of. subst (λ k. IsMessageOfTree k m) (sym is) of)
+all_read text line ms r is = text_on r line _ _ (λ m. reads_object text (quoted_members ms) m (whole text (json.object ms) is))
 
 -- the message of a text is the one that was read
 pub the_read : (bytes text : List ℕ) (message : Message) → HasText (λ m. lenient bytes ≡ Ok m) text → message_text message ≡ text → IsTyped message → lenient bytes ≡ Ok message

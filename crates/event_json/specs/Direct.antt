@@ -213,15 +213,6 @@ pub record IsMessageOf (js : json.Members) (message : Message) : Type 0 where
   pub in_range : of_members js no_members ≡ Some members
   pub read : message_of members ≡ Ok message
 
--- a JSON value is the message
-abbrev pub IsMessageOfTree : json.Json → Message → Type 0
-IsMessageOfTree json.null message = ⊥
-IsMessageOfTree (json.boolean b) message = ⊥
-IsMessageOfTree (json.number s) message = ⊥
-IsMessageOfTree (json.string s) message = ⊥
-IsMessageOfTree (json.array js) message = ⊥
-IsMessageOfTree (json.object ms) message = IsMessageOf ms message
-
 -- the tree of the text, its decimals under quotes, is the message
 pub record ReadsAs (text : List ℕ) (message : Message) : Type 0 where
   pub tree : Data

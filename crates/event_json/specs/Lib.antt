@@ -1,4 +1,6 @@
 -- what only proofs and private contracts use
+pub mod CompactText
 pub mod Direct
+pub mod PrintedTime
 pub mod Put
 pub mod Quoted

@@ -1,26 +1,21 @@
 //! The message that a usual JSON text is, or its canonical text without the message.
-ghost use Rattle.std.specs.Prelude.{◌≡◌, [], true, Some, IfOk, IfSome};
-ghost use Rattle.json.specs.Json.{value};
-ghost use Rattle.json.specs.Lex.{tokens};
-ghost use Rattle.json.specs.Value.{value_view};
+ghost use Rattle.std.specs.Prelude.{◌≡◌, true, Some, IfOk, IfSome};
 ghost use Rattle.serde_json.specs.Find.{get_member};
 ghost use Rattle.event_model.specs.Lenient.{kind_of, type_key};
 ghost use Rattle.event_json.specs.Quoted.{quoted_view, quoted_members_view};
-ghost use Rattle.event_json.specs.Direct.{data_members, named_values, kind_in, ended, HasText, IsMessageOf, IsMessageOfTree, ReadsAs, PutsAt, PutsAll};
+ghost use Rattle.event_json.specs.Direct.{data_members, named_values, kind_in, ended, HasText, IsMessageOf, ReadsAs, PutsAt, PutsAll};
 
-use crate::leaf::{may_be_decimal, push_tree};
+use crate::leaf::push_tree;
 use crate::line::Line;
-use crate::ordered::{Member, in_order};
+use crate::members::object_in;
+use crate::ordered::{Member, in_order, may_be_decimal};
 use base_types::OutOfMemory;
 use event_model::{Kind, kind_of_word};
 use field_types::FieldKey;
-use json::{Error, Reader, Scratch, Value as Tree};
+use json::{Scratch, Value as Tree};
 use std::alloc::Global;
 
 const TYPE_KEY: &str = "__type";
-
-// Nearly as deep as `serde_json` reads: a decimal under quotes nests once more.
-const READ_DEPTH: usize = 126;
 
 // Objects of fields nest less.
 const FIELD_DEPTH: usize = 16;
@@ -106,42 +101,6 @@ fn write_members<'m, 't>(
     Ok(true)
 }
 
-// The JSON value of a text: nothing where it has none.
-fn tree_of<'t>(
-    alloc: Global,
-    text: &'t str,
-    scratch: &'t mut Scratch,
-) -> Result<Option<Tree<'t>>, OutOfMemory>
-    ensures { IfOk result (λ found. IfSome found (λ tree. value 126 (tokens text.now) ≡ Some (value_view tree, []))) }
-{
-    let Ok(mut reader) = Reader::new(text, scratch) else {
-        return Err(OutOfMemory);
-    };
-    let tree = match Tree::read(alloc, &mut reader, READ_DEPTH) {
-        Ok(tree) => tree,
-        Err(Error::OutOfMemory) => return Err(OutOfMemory),
-        Err(_) => return Ok(None),
-    };
-    if reader.next().is_some() {
-        return Ok(None);
-    }
-    Ok(Some(tree))
-}
-
-// Makes the line the message of a JSON value, or its text.
-fn write_tree<'m, 't>(
-    alloc: Global,
-    tree: &'m Tree<'t>,
-    line: &mut Line,
-) -> Result<bool, OutOfMemory>
-    ensures { IfOk result (λ taken. taken ≡ true → HasText (IsMessageOfTree (quoted_view tree.now)) (ended line.new)) }
-{
-    match tree {
-        Tree::Object(members) => write_members(alloc, members, line),
-        _ => Ok(false),
-    }
-}
-
 /// Makes the line the message that a JSON text is, or its canonical text, and answers whether the text is one of the
 /// usual forms: where it isn't, the line is of no use.
 pub fn write_text(
@@ -152,8 +111,8 @@ pub fn write_text(
 ) -> Result<bool, OutOfMemory>
     ensures { IfOk result (λ taken. taken ≡ true → HasText (ReadsAs text.now) (ended line.new)) }
 {
-    let Some(tree) = tree_of(alloc, text, scratch)? else {
+    let Some(members) = object_in(alloc, text, scratch)? else {
         return Ok(false);
     };
-    write_tree(alloc, &tree, line)
+    write_members(alloc, &members, line)
 }

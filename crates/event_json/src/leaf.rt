@@ -1,90 +1,30 @@
 //! What the values of JSON members put into a canonical text.
-ghost use Rattle.std.specs.Prelude.{◌≡◌, ◌==◌, ◌∷◌, [], true, false, flat_map, None, Some, IfOk, IfSome, slice_index, string_bytes};
+ghost use Rattle.std.specs.Prelude.{◌≡◌, ◌∷◌, [], true, flat_map, Some, IfOk, IfSome, slice_index, string_bytes};
 ghost use Rattle.json.specs.Json.{number, object};
-ghost use Rattle.event_json.specs.Quoted.{quoted_value, quoted_view, quoted_items_view, quoted_members_view};
+ghost use Rattle.event_json.specs.Quoted.{quoted_value, quoted_view, quoted_members_view};
 ghost use Rattle.serde_json.specs.Data.{string};
 ghost use Rattle.event_model.specs.Fields.{IsField};
 ghost use Rattle.event_model.specs.Lenient.{member_name};
-ghost use Rattle.event_model.specs.Trees.{lexeme_in};
+ghost use Rattle.field_types.specs.Cleaning.{of_text};
 ghost use Rattle.field_types.specs.Field.{type_of};
-ghost use Rattle.field_types.specs.Kept.{kept_value};
+ghost use Rattle.field_types.specs.Kept.{kept_value, IsKeptAs};
 ghost use Rattle.base_types.specs.JsonText.{escaped};
-ghost use Rattle.event_json.specs.Direct.{data_members, named_values, is_extra, IsItem, IsDecimal, AreItems, PutsCleaned, PutsKept, PutsLeaves, PutsValue, PutsTree, PutsMembers};
+ghost use Rattle.event_json.specs.Direct.{named_values, is_extra, PutsCleaned, PutsKept, PutsLeaves, PutsValue, PutsTree, PutsMembers};
 
 use crate::line::Line;
+use crate::list_items::{items_of, quoted_decimal};
 use crate::numbers::{decimal_in, whole_in};
-use crate::ordered::{Member, in_order};
-use base_types::{OutOfMemory, Text};
+use crate::ordered::{Member, in_order, may_be_decimal};
+use crate::printed_time::is_printed_time;
+use base_types::OutOfMemory;
 use event_model::{flattens, is_dropped_text};
-use field_types::{
-    FieldFault, FieldKey, FieldType, Item, ItemList, Kept, Value, keep, sanitise_own,
-};
+use field_types::{FieldFault, FieldKey, FieldType, Kept, Value, keep, sanitise_own};
 use json::Value as Tree;
-use scalar_text::{read_decimal, strip};
+use scalar_text::strip;
 use std::alloc::Global;
-
-const DEC_KEY: &str = "$dec";
 
 // No field has a longer name.
 const LONGEST_NAME: usize = 206;
-
-// The decimal that a member is, its text under quotes.
-fn quoted_decimal(name: &str, value: &Tree<'_>) -> Option<i64>
-    ensures { IfSome result (IsDecimal name.now (quoted_view value.now)) }
-{
-    if name != DEC_KEY {
-        return None;
-    }
-    match value {
-        Tree::String(lexeme) => read_decimal(lexeme.as_bytes()).ok(),
-        _ => None,
-    }
-}
-
-// What a number is as an item of a list.
-fn number_item(numeral: &str) -> Option<Item>
-    ensures { IfSome result (IsItem (quoted_value (number numeral.now))) }
-{
-    if let Some(n) = whole_in(numeral) {
-        return Some(Item::Whole(n));
-    }
-    match decimal_in(numeral) {
-        Some(n) => Some(Item::Decimal(n)),
-        None => None,
-    }
-}
-
-// What a value is as an item of a list, if it is a text, a number or a flag.
-fn item_of(alloc: Global, value: &Tree<'_>) -> Result<Option<Item>, OutOfMemory>
-    ensures { IfOk result (λ found. IfSome found (IsItem (quoted_view value.now))) }
-{
-    match value {
-        Tree::String(text) => Ok(Some(Item::Text(Text::from(String::from_str(alloc, text)?)))),
-        Tree::Bool(flag) => Ok(Some(Item::Flag(*flag))),
-        Tree::Number(numeral) => Ok(number_item(numeral)),
-        Tree::Object(members) => match members.as_slice() {
-            [(name, inner)] => Ok(quoted_decimal(name, inner).map(Item::Decimal)),
-            _ => Ok(None),
-        },
-        Tree::Null | Tree::Array(_) => Ok(None),
-    }
-}
-
-// The values as items of a list.
-fn items_of(alloc: Global, values: &[Tree<'_>]) -> Result<Option<ItemList>, OutOfMemory>
-    ensures { IfOk result (λ found. IfSome found (AreItems (quoted_items_view values.now))) }
-{
-    let mut items = Vec::with_capacity(alloc, values.len())?;
-    let mut rest = values;
-    'values: while let [value, more @ ..] = rest {
-        let Some(item) = item_of(alloc, value)? else {
-            return Ok(None);
-        };
-        items.push(item)?;
-        rest = more;
-    }
-    Ok(Some(ItemList::from(items)))
-}
 
 fn is_extra(kind: FieldType) -> bool
     ensures { result ≡ is_extra kind }
@@ -182,6 +122,16 @@ fn push_kept(
     }
 }
 
+// What a kind makes of a stripped text. A time that stands there as it is printed isn't printed anew.
+fn keep_text(alloc: Global, kind: FieldType, text: &str) -> Result<Kept, FieldFault>
+    ensures { IsKeptAs (of_text kind text.now) text.now result }
+{
+    match kind {
+        FieldType::DateTime if is_printed_time(text) => Ok(Kept::Same),
+        _ => keep(alloc, kind, text),
+    }
+}
+
 // Puts a field with its canonical value for a text.
 fn push_text(
     alloc: Global,
@@ -203,7 +153,7 @@ fn push_text(
         key,
         is_of_table(key, kind),
         stripped,
-        keep(alloc, kind, stripped),
+        keep_text(alloc, kind, stripped),
         line,
     )
 }
@@ -220,16 +170,6 @@ fn member_name(alloc: Global, key: &str, inner: &str) -> Result<Option<String>, 
     name.push('.')?;
     name.push_str(inner)?;
     Ok(Some(name))
-}
-
-/// Whether the members may be those of a decimal under quotes.
-pub fn may_be_decimal(members: &[Member<'_, '_>]) -> bool
-    ensures { result ≡ false → lexeme_in (data_members (named_values members.now)) ≡ None }
-{
-    match members {
-        [member] => member.0.as_str() == DEC_KEY,
-        _ => false,
-    }
 }
 
 /// Puts the fields that a value under this name sets, and answers whether all of it is of the usual forms and names rise:

@@ -5,7 +5,7 @@ use Rattle.std.proofs.lemmas.Bool.{and_parts, ltb-true}
 use Rattle.serde_json.specs.Data.{Data, Members}
 use Rattle.serde_json.specs.Find.{as_str}
 use Rattle.module_settings.specs.Parameters.{byte_of, is_delimiter, parameters_of, row, setting_of, taken_as, Parameter}
-use Rattle.runtime_config.specs.Runtime.{given, module_of, parameter_named, set_as, whole_in, Entry}
+use Rattle.runtime_text.specs.Runtime.{given, module_of, parameter_named, set_as, whole_in, Entry}
 use Rattle.module_settings.specs.declared.form.Form.TheVariants as form
 use Rattle.module_settings.specs.declared.module.ModuleWord.{ModuleWord}
 use Rattle.module_settings.specs.declared.module.ModuleWord.TheVariants as modules

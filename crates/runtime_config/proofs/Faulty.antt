@@ -1,5 +1,5 @@
 -- The first fault of several.
-use Rattle.std.proofs.Common.{◌≡◌, ℕ, List, Bool, true, false, not, OnOk, if◌then◌else◌, Option, Some, None, Result, Ok, Err, option_map, refl, sym, ap, subst, ◌∙◌}
+use Rattle.std.proofs.Common.{◌≡◌, ℕ, List, Bool, true, false, not, ◌||◌, OnOk, if◌then◌else◌, Option, Some, None, Result, Ok, Err, option_map, refl, sym, ap, subst, ◌∙◌}
 use Rattle.std.specs.Option.{option_or}
 use Rattle.serde_json.specs.Data.{Members}
 use Rattle.config_bundle.specs.declared.bundle.Bundle.{Bundle}
@@ -7,7 +7,8 @@ use Rattle.runtime_config.specs.Faults.{bad_names, cycle_fault, fault_of, file_f
 use Rattle.event_model.specs.Lenient.{least}
 use Rattle.runtime_config.specs.Found.{IsFault, IsFound, IsPlannedAs, IsSieveOf}
 use Rattle.runtime_config.specs.Load.{planned}
-use Rattle.runtime_config.specs.Runtime.{is_prefix, module_of, Entry}
+use Rattle.runtime_text.specs.Runtime.{module_of, Entry}
+use Rattle.runtime_config.specs.Modules.{is_prefix}
 use Rattle.runtime_config.specs.declared.fault.LoadFault.{LoadFault}
 use Rattle.runtime_config.specs.declared.fault.LoadFault.TheVariants as fault
 use Rattle.event_model.specs.Fields.{FieldMap}
@@ -85,6 +86,11 @@ there false e f rest is same = absurd (cc)
 pub absent : (b : Bool) (e : LoadFault) → b ≡ false → when b e ≡ None
 absent true e is = absurd (cc)
 absent false e is = refl
+
+-- one of two tests, with the same fault
+pub either : (a b : Bool) (e : LoadFault) → option_or (when a e) (when b e) ≡ when (a || b) e
+either true b e = refl
+either false b e = refl
 
 pub paths_known : (b : Bool) (ps qs : List Route) → Some ps ≡ (if b then Some qs else None) → (not b ≡ false) × (ps ≡ qs)
 paths_known true ps qs is = (refl, cc)

@@ -11,8 +11,8 @@ use Rattle.event_model.specs.Trees.{tree_in}
 use Rattle.config_bundle.specs.declared.bundle.Bundle.{Bundle}
 use Rattle.runtime_config.specs.Faults.{fault_of, first_fault, first_some, places_from, Place}
 use Rattle.runtime_config.specs.Found.{IsFault}
-use Rattle.runtime_config.specs.Load.{load, of_runtime, planned, unless, IsLoaded}
-use Rattle.runtime_config.specs.Runtime.{longest_runtime, runtime_of, Entry, Runtime}
+use Rattle.runtime_config.specs.Load.{load, longest_runtime, of_runtime, planned, runtime_of, unless, IsLoaded}
+use Rattle.runtime_text.specs.Runtime.{Entry, Runtime}
 use Rattle.runtime_config.specs.declared.fault.LoadFault.{LoadFault}
 use Rattle.runtime_config.specs.declared.fault.LoadFault.TheVariants as fault
 use Rattle.runtime_config.specs.declared.plan.Plan.{Plan}

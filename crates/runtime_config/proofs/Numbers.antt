@@ -6,7 +6,7 @@ use Rattle.std.proofs.lemmas.Option.{cond_some}
 use Rattle.serde_json.specs.Data.{Data}
 use Rattle.serde_json.specs.Find.{as_number, as_u64}
 use Rattle.module_settings.specs.Parameters.{taken_as, whole_within}
-use Rattle.runtime_config.specs.Runtime.{whole_in}
+use Rattle.runtime_text.specs.Runtime.{whole_in}
 use Rattle.module_settings.specs.declared.form.Form.TheVariants as form
 use Rattle.module_settings.specs.declared.setting.Setting.TheVariants as setting
 

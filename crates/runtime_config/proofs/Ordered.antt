@@ -1,14 +1,13 @@
 -- The names of a plan's bots are in byte order.
-use Rattle.std.proofs.Common.{◌≡◌, ℕ, List, [], ◌∷◌, Bool, true, false, cond, map, Option, Some, None, Result, Ok, Err, Ordering, Less, Equal, Greater, nat_cmp, refl, sym, ap, subst, ◌∙◌}
+use Rattle.std.proofs.Common.{◌≡◌, ℕ, List, [], ◌∷◌, Bool, true, false, map, Option, Some, None, Ok, Ordering, Less, Equal, Greater, nat_cmp, refl, sym, ap, subst, ◌∙◌}
 use Rattle.std.specs.Prelude.{is_some, nat_lt, length, option_and_then, option_map, if◌then◌else◌}
 use Rattle.std.specs.List.{AllByRecursion}
 use Rattle.std.specs.List.Sorted.{IsStrictlySortedBy}
 use Rattle.std.specs.Ordering.{match_ordering, ordering_reverse}
 use Rattle.std.specs.Cmp.Lexicographic.{slice_cmp}
-use Rattle.std.specs.FinMap.{slice_cmp-IsAntisymmetric, nat_cmp-IsAntisymmetric}
 use Rattle.std.specs.Str.{bytes_eq, is_utf8}
 use Rattle.std.proofs.lemmas.Cmp.{nat_list_cmp_total}
-use Rattle.std.proofs.lemmas.Option.{cond_some, none-some, option_and_then_some, same_Some}
+use Rattle.std.proofs.lemmas.Option.{none-some, option_and_then_some, same_Some}
 use Rattle.json.specs.Json as json
 use Rattle.json.specs.Lex.{tokens}
 use Rattle.serde_json.specs.Data.{Data, null, boolean, number, string, array, object, Members, no_members, member, put}
@@ -20,8 +19,8 @@ use Rattle.event_model.specs.Trees.{both, json_of, lexeme_in, tree_in}
 use Rattle.field_types.proofs.Twice.{mapped}
 use Rattle.config_bundle.specs.declared.bundle.Bundle.{Bundle}
 use Rattle.runtime_config.specs.Faults.{first_fault}
-use Rattle.runtime_config.specs.Load.{load, of_runtime, planned, unless}
-use Rattle.runtime_config.specs.Runtime.{bot_of, bots_in, global_key, longest_runtime, object_of, runtime_in, runtime_of, Entry, Runtime}
+use Rattle.runtime_config.specs.Load.{load, longest_runtime, of_runtime, planned, runtime_of, unless}
+use Rattle.runtime_text.specs.Runtime.{bot_of, bots_in, global_key, object_of, runtime_in, Entry, Runtime}
 use Rattle.runtime_config.specs.Within.{AreWithin}
 use Rattle.runtime_config.specs.declared.fault.LoadFault.{LoadFault}
 use Rattle.runtime_config.specs.declared.plan.Plan.{Plan}

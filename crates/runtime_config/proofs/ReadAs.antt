@@ -1,5 +1,5 @@
 -- What is read of a text is what it gives.
-use Rattle.std.proofs.Common.{◌≡◌, ℕ, List, Result, Ok, Err, IfOk, IfErr, sym, subst}
+use Rattle.std.proofs.Common.{◌≡◌, ℕ, List, Result, Ok, Err, IfOk, IfErr, subst}
 use Rattle.sieve_reader.specs.Answer.{IsGivenBy}
 use Rattle.sieve_reader.specs.Reads.{IsFault, Reads}
 use Rattle.runtime_config.specs.SieveIn.{sieve_in, IsReadAs}

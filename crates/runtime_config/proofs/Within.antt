@@ -1,25 +1,23 @@
 -- The numbers of a plan's bots are within their limits.
-use Rattle.std.proofs.Common.{◌≡◌, ◌≤◌, ℕ, List, [], ◌∷◌, ◌++◌, Bool, true, false, cond, map, Option, Some, None, Result, Ok, Err, refl, sym, ap, subst, ◌∙◌, arith}
+use Rattle.std.proofs.Common.{◌≡◌, ◌≤◌, ℕ, List, [], ◌∷◌, ◌++◌, Bool, true, false, cond, map, Option, Some, None, refl, sym, ap, subst, ◌∙◌, arith}
 use Rattle.std.specs.Prelude.{◌&&◌, codes, filter, is_none, is_some, option_and_then, option_map, if◌then◌else◌}
 use Rattle.std.specs.List.{AllByRecursion}
 use Rattle.std.specs.Option.{option_or}
 use Rattle.std.specs.Str.{bytes_eq}
-use Rattle.std.proofs.lemmas.Bool.{false≢true}
 use Rattle.std.proofs.lemmas.Option.{none-some, same_Some}
 use Rattle.serde_json.specs.Data.{Data, Members}
 use Rattle.config_bundle.specs.declared.bundle.Bundle.{Bundle}
 use Rattle.event_model.specs.Lenient.{least}
-use Rattle.runtime_config.specs.Faults.{bad_members, bad_names, fault_of, first_fault, first_some, is_bad, places_from, Place}
+use Rattle.runtime_config.specs.Faults.{bad_members, bad_names, fault_of, first_some, is_bad, places_from, Place}
 use Rattle.runtime_config.specs.Load.{module_as, planned}
-use Rattle.module_settings.specs.Parameters.{own, parameters_of, row, setting_of, taken_as, Parameter}
-use Rattle.runtime_config.specs.Runtime.{given, is_collector, module_of, parameter_named, parameters, set_as, whole_in, Entry, Runtime}
+use Rattle.module_settings.specs.Parameters.{parameters_of, row, setting_of, Parameter}
+use Rattle.runtime_text.specs.Runtime.{given, module_of, parameter_named, parameters, set_as, whole_in, Entry, Runtime}
 use Rattle.runtime_config.specs.Within.{IsBotWithin, IsModuleWithin}
 use Rattle.runtime_config.specs.declared.fault.LoadFault.{LoadFault}
 use Rattle.runtime_config.specs.declared.fault.LoadFault.TheVariants as fault
 use Rattle.module_settings.specs.declared.form.Form.TheVariants as form
 use Rattle.module_settings.specs.declared.module.ModuleWord.{ModuleWord}
 use Rattle.module_settings.specs.declared.module.ModuleWord.TheVariants as modules
-use Rattle.module_settings.specs.declared.setting.Setting.{Setting}
 use Rattle.module_settings.specs.declared.setting.Setting.TheVariants as as_setting
 use Rattle.runtime_config.proofs.Bounds.{few_instances, few_retries, short_delay, small_chunk}
 use Rattle.runtime_config.proofs.Numbers.{least_within}

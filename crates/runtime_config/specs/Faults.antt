@@ -8,8 +8,9 @@ use Rattle.serde_json.specs.Find.{as_bool, get_member}
 use Rattle.event_model.specs.Lenient.{least}
 use Rattle.config_bundle.specs.declared.bundle.Bundle.{Bundle}
 use Rattle.module_settings.specs.Parameters.{Parameter}
-use Rattle.runtime_config.specs.Reaches.{is_queue_of, reaches, targets}
-use Rattle.runtime_config.specs.Runtime.{given, is_output, is_prefix, is_sieve, line_in, lines_in, module_key, module_of, object_of, parameters, reads_file, routes, routes_key, routes_of_value, set_as, setting, whole_in, Entry, Route, Runtime}
+use Rattle.runtime_text.specs.Reaches.{is_queue_of, reaches, targets}
+use Rattle.runtime_text.specs.Runtime.{given, is_given_badly, line_in, lines_in, module_key, module_of, object_of, parameters, routes, routes_key, routes_of_value, set_as, setting, whole_in, Entry, Route, Runtime}
+use Rattle.runtime_config.specs.Modules.{is_output, is_prefix, is_sieve, reads_file}
 use Rattle.runtime_config.specs.Sieves.{refusal_of, sieve_of}
 use Rattle.module_settings.specs.Table.{row_count, table_in}
 use Rattle.runtime_config.specs.declared.fault.LoadFault.{LoadFault}
@@ -42,11 +43,6 @@ unknown_module p = module_fault p.bot
 -- a parameter that is given a value of another form
 abbrev pub is_bad : Members → Entry → Parameter → Bool
 is_bad global bot q = is_some (given global bot q.name) && is_none (setting global bot q)
-
--- the value under a name is there and doesn't pass
-abbrev pub is_given_badly : (Data → Bool) → Option Data → Bool
-is_given_badly passes None = false
-is_given_badly passes (Some d) = not (passes d)
 
 abbrev pub parameters_key : List ℕ
 parameters_key = codes "parameters"

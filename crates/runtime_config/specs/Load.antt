@@ -1,11 +1,12 @@
 -- What a bundle means.
-use Rattle.std.specs.Prelude.{◌≡◌, ℕ, List, [], ◌==◌, ◌||◌, Bool, map, codes, is_some, Option, Some, None, Result, Ok, Err}
+use Rattle.std.specs.Prelude.{◌≡◌, ℕ, List, [], ◌==◌, ◌||◌, Bool, nat_lt, length, map, codes, is_some, Option, Some, None, option_and_then, Result, Ok, Err, if◌then◌else◌}
 use Rattle.std.specs.List.{slice_split}
 use Rattle.std.specs.Str.{bytes_eq}
 use Rattle.serde_json.specs.Data.{Members}
+use Rattle.event_model.specs.Trees.{tree_in}
 use Rattle.config_bundle.specs.declared.bundle.Bundle.{Bundle}
 use Rattle.runtime_config.specs.Faults.{bot_sieve, first_fault, instances, table_text}
-use Rattle.runtime_config.specs.Runtime.{defaults_in, line, line_in, lines_in, module_of, routes, runtime_of, set_as, switch_in, whole_in, Entry, Route as Path, Runtime}
+use Rattle.runtime_text.specs.Runtime.{defaults_in, line, line_in, lines_in, module_of, object_of, routes, runtime_in, set_as, switch_in, whole_in, Entry, Route as Path, Runtime}
 use Rattle.module_settings.specs.Table.{table_in}
 use Rattle.runtime_config.specs.declared.fault.LoadFault.{LoadFault}
 use Rattle.runtime_config.specs.declared.fault.LoadFault.TheVariants as fault
@@ -83,6 +84,16 @@ planned bundle global bot = record {
 }
 
 -- ---- the whole
+
+-- the greatest length of a runtime text
+abbrev pub longest_runtime : ℕ
+longest_runtime = 1048576
+
+-- the runtime of a bundle, unless its text is too long or isn't such an object
+unfoldable pub runtime_of : Bundle → Option Runtime
+runtime_of bundle =
+    if nat_lt longest_runtime (length bundle.runtime) then None
+    else option_and_then runtime_in (option_and_then object_of (tree_in bundle.runtime))
 
 abbrev pub unless : Option LoadFault → Plan → Result Plan LoadFault
 unless None plan = Ok plan

@@ -2,7 +2,7 @@
 use Rattle.std.specs.Prelude.{ℕ, List, [], ◌∷◌, Option, Some, None, option_map, if◌then◌else◌}
 use Rattle.event_model.specs.Trees.{both}
 use Rattle.runtime_config.specs.Faults.{is_known}
-use Rattle.runtime_config.specs.Runtime.{Entry, Route as Path}
+use Rattle.runtime_text.specs.Runtime.{Entry, Route as Path}
 use Rattle.runtime_config.specs.declared.plan.Route.{Route}
 
 -- the queue, where it is that of one of the bots

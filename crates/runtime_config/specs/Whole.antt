@@ -4,9 +4,9 @@ use Rattle.std.specs.FinMap.{is_sorted}
 use Rattle.std.specs.Ordering.{nat_cmp}
 use Rattle.std.specs.Cmp.Lexicographic.{slice_cmp}
 use Rattle.runtime_config.specs.Faults.{Place}
-use Rattle.runtime_config.specs.Read.{entries_of, members_of}
-use Rattle.runtime_config.specs.Runtime.{Entry, Runtime}
-use Rattle.runtime_config.specs.Wires.{graph_of}
+use Rattle.runtime_text.specs.Read.{entries_of, members_of}
+use Rattle.runtime_text.specs.Runtime.{Entry, Runtime}
+use Rattle.runtime_text.specs.Wires.{graph_of}
 use Rattle.runtime_config.specs.declared.whole.Whole.{Whole}
 
 -- the names of the bots rise, and the graph is theirs

@@ -1,5 +1,5 @@
-//! Laws of parameters, of sieves, of paths and of plans. Each is a clause of a function that does nothing.
-ghost use Rattle.std.specs.Prelude.{◌≡◌, ◌≤◌, ◌↔◌, ℕ, List, Ok, Some, true, Result as AnyResult};
+//! Laws of parameters, of sieves and of plans. Each is a clause of a function that does nothing.
+ghost use Rattle.std.specs.Prelude.{◌≡◌, ◌≤◌, ◌↔◌, ℕ, List, Ok, Some, Result as AnyResult};
 ghost use Rattle.serde_json.specs.Data.{Data};
 ghost use Rattle.config_bundle.specs.declared.bundle.Bundle.{Bundle as AnyBundle};
 ghost use Rattle.sieve_reader.specs.Answer.{IsGivenBy};
@@ -7,8 +7,6 @@ ghost use Rattle.sieve_tree.specs.SieveView.{SieveView};
 ghost use Rattle.sieve_reader.specs.declared.sieve.SieveFault.{SieveFault as AnyFault};
 ghost use Rattle.runtime_config.specs.Load.{load};
 ghost use Rattle.module_settings.specs.Parameters.{taken_as};
-ghost use Rattle.runtime_config.specs.Reaches.{reaches, Reaches};
-ghost use Rattle.runtime_config.specs.Runtime.{Entry};
 ghost use Rattle.runtime_config.specs.SieveIn.{sieve_in};
 ghost use Rattle.runtime_config.specs.Within.{AreWithin};
 ghost use Rattle.module_settings.specs.declared.form.Form.TheVariants as form;
@@ -23,11 +21,6 @@ pub fn numbers_are_within()
 /// What a text gives as a sieve is the sieve that it writes, or the first thing that is wrong with it.
 pub fn sieves_are_given()
     ensures { (text : List ℕ) (given : AnyResult SieveView AnyFault) → (sieve_in text ≡ given) ↔ IsGivenBy text given }
-{}
-
-/// A bot is reached exactly where the test says so.
-pub fn reaching_is_tested()
-    ensures { (bots : List Entry) (from to : Entry) → (reaches bots from to ≡ true) ↔ Reaches bots to from }
 {}
 
 /// The bots of a plan are in byte order of their names, and their numbers are within their limits.

@@ -3,17 +3,16 @@ ghost use Rattle.std.specs.Prelude.{◌≡◌, ◌≤◌, ◌++◌, [], ◌∷�
 ghost use Rattle.std.specs.List.{list_all, list_any};
 ghost use Rattle.std.specs.Str.{bytes_eq};
 ghost use Rattle.runtime_config.specs.Faults.{is_route, pass_together, passes_own};
-ghost use Rattle.runtime_config.specs.Read.{entries_of, entry_of, members_of};
+ghost use Rattle.runtime_text.specs.Read.{entries_of, entry_of, members_of};
 ghost use Rattle.runtime_config.specs.Sums.{new_bytes, passes_by, with_file, AreNumbers, AreSmall, AreSums};
 ghost use Rattle.module_settings.specs.Table.{row_count};
 
-use crate::bot::Bot;
-use crate::given::{lines, whole};
-use crate::object::Object;
 use crate::rules::{content, file_of, table_text};
 use base_types::{OutOfMemory, Text, TextList};
 use config_bundle::Bundle;
 use module_settings::row_count;
+use runtime_text::given::{lines, whole};
+use runtime_text::{Bot, Object};
 use std::alloc::Global;
 
 const MOST_BOTS: usize = 64;

@@ -1,5 +1,5 @@
 //! What a bundle means: the plan of its bots, or the first fault.
-ghost use Rattle.std.specs.Prelude.{◌≡◌, ◌<◌, ◌≤◌, ◌+◌, ◌++◌, ◌∷◌, [], true, length, take, map, nat_lt, option_map, slice_get, None, Some, IfOk, MatchResult, OnOk, if◌then◌else◌};
+ghost use Rattle.std.specs.Prelude.{◌≡◌, ◌<◌, ◌≤◌, ◌+◌, ◌++◌, ◌∷◌, ◌||◌, [], true, false, length, take, map, nat_lt, option_map, slice_get, None, Some, IfOk, MatchResult, OnOk, if◌then◌else◌};
 ghost use Rattle.std.specs.Option.{option_or};
 ghost use Rattle.std.specs.FinMap.{is_sorted};
 ghost use Rattle.std.specs.Ordering.{nat_cmp};
@@ -7,31 +7,27 @@ ghost use Rattle.std.specs.Cmp.Lexicographic.{slice_cmp};
 ghost use Rattle.serde_json.specs.View.{view};
 ghost use Rattle.event_model.specs.Lenient.{least};
 ghost use Rattle.event_model.specs.Trees.{tree_in};
-ghost use Rattle.runtime_config.specs.Faults.{bad_names, bot_sieve, cycle_fault, fault_of, file_fault, first_fault, limit_fault, missing_names, module_fault, numbers_fault, path_fault, queue_fault, sieve_fault, table_fault};
+ghost use Rattle.runtime_config.specs.Faults.{bad_names, bot_sieve, cycle_fault, fault_of, file_fault, first_fault, limit_fault, missing_names, module_fault, pass_together, passes_own, passes_patterns, path_fault, queue_fault, sieve_fault, table_fault};
 ghost use Rattle.runtime_config.specs.Found.{IsFault, IsFound, IsPlannedAs, IsSieveOf};
-ghost use Rattle.runtime_config.specs.Load.{load, planned, IsLoaded};
-ghost use Rattle.runtime_config.specs.Read.{entries_of, entry_of, members_of};
-ghost use Rattle.runtime_config.specs.Reaches.{reaches};
-ghost use Rattle.runtime_config.specs.Runtime.{longest_runtime, Entry};
+ghost use Rattle.runtime_config.specs.Load.{load, longest_runtime, planned, IsLoaded};
+ghost use Rattle.runtime_text.specs.Read.{entries_of, entry_of, members_of};
+ghost use Rattle.runtime_text.specs.Reaches.{reaches};
+ghost use Rattle.runtime_text.specs.Runtime.{Entry};
 ghost use Rattle.runtime_config.specs.Sums.{AreSmall, AreSums};
 ghost use Rattle.runtime_config.specs.Whole.{place_at, runtime_as, IsWhole};
-ghost use Rattle.runtime_config.specs.Wires.{graph_of};
+ghost use Rattle.runtime_text.specs.Wires.{graph_of};
 ghost use Rattle.runtime_config.specs.declared.fault.LoadFault.TheVariants as fault;
 
-use crate::bot::Bot;
-use crate::cycle::comes_back;
 use crate::limits::{Sums, is_past_limit};
-use crate::object::{Object, object_of};
 use crate::paths::known_paths;
 use crate::planning::planned;
 use crate::rules::{absent_file, bad_parameter, missing_member, unknown_module};
-use crate::runtime::{bots_in, tree_in};
 use crate::sieve::{bot_sieve, has_many_patterns, with_known_paths};
 use crate::whole::Whole;
-use crate::wires::graph_of;
 use crate::{LoadFault, Plan, Planned, PlannedList};
 use base_types::OutOfMemory;
 use config_bundle::Bundle;
+use runtime_text::{Bot, Object, bots_in, comes_back, graph_of, object_of, tree_in};
 use serde_json::Value as Tree;
 use sieve_tree::Sieve;
 use std::alloc::Global;
@@ -110,32 +106,32 @@ fn routed(alloc: Global, whole: &Whole, bot: &Bot, sieve: Sieve) -> Result<Plann
     }
 }
 
-// The same, or that one of its numbers, or of those together, is above its limit before.
-fn counted(
+// Whether one of the bot's numbers is above its limit, or one of those together. The sums become those with this bot,
+// unless it is.
+fn passes_limit(
     alloc: Global,
     whole: &Whole,
     before: &[Bot],
     bot: &Bot,
-    sieve: Sieve,
+    sieve: &Sieve,
     sums: &mut Sums,
-) -> Result<Planned, LoadFault>
-    requires whole { IsWhole whole.now }
-    requires sieve { sieve ≡ bot_sieve whole.now.bundle.now (members_of whole.now.global.now) (entry_of bot.now) }
+) -> Result<bool, OutOfMemory>
+    requires sieve { sieve.now ≡ bot_sieve whole.now.bundle.now (members_of whole.now.global.now) (entry_of bot.now) }
     requires sums { AreSums whole.now.bundle.now (members_of whole.now.global.now) (entries_of before.now) sums.old }
     requires small { AreSmall sums.old }
-    ensures found { IsPlannedAs (option_or (numbers_fault whole.now.bundle.now (members_of whole.now.global.now) (entries_of before.now) (entry_of bot.now))
-        (option_or (queue_fault (entries_of whole.now.bots.now) (entry_of bot.now)) (table_fault whole.now.bundle.now (members_of whole.now.global.now) (entry_of bot.now))))
-        (planned whole.now.bundle.now (members_of whole.now.global.now) (entry_of bot.now)) result }
-    ensures sums { OnOk result (AreSums whole.now.bundle.now (members_of whole.now.global.now) (entries_of before.now ++ entry_of bot.now ∷ []) sums.new) }
-    ensures small { OnOk result (AreSmall sums.new) }
+    ensures past { IfOk result (λ past. past ≡ (passes_patterns whole.now.bundle.now (members_of whole.now.global.now) (entry_of bot.now)
+        || (passes_own whole.now.bundle.now (members_of whole.now.global.now) (entry_of bot.now)
+        || pass_together whole.now.bundle.now (members_of whole.now.global.now) (entries_of before.now ++ entry_of bot.now ∷ [])))) }
+    ensures sums { IfOk result (λ past. past ≡ false → AreSums whole.now.bundle.now (members_of whole.now.global.now) (entries_of before.now ++ entry_of bot.now ∷ []) sums.new) }
+    ensures small { IfOk result (λ past. past ≡ false → AreSmall sums.new) }
 {
-    if is_past_limit(alloc, whole.bundle, whole.global, before, bot, sums)? {
-        return Err(LoadFault::Limit { bot: bot.name() });
+    if has_many_patterns(sieve) {
+        return Ok(true);
     }
-    routed(alloc, whole, bot, sieve)
+    is_past_limit(alloc, whole.bundle, whole.global, before, bot, sums)
 }
 
-// The same, or that a limit is passed before.
+// The bot's plan, or a fault of its limits, its queues or its table.
 fn limited(
     alloc: Global,
     whole: &Whole,
@@ -154,10 +150,10 @@ fn limited(
     ensures sums { OnOk result (AreSums whole.now.bundle.now (members_of whole.now.global.now) (entries_of before.now ++ entry_of bot.now ∷ []) sums.new) }
     ensures small { OnOk result (AreSmall sums.new) }
 {
-    if has_many_patterns(&sieve) {
+    if passes_limit(alloc, whole, before, bot, &sieve, sums)? {
         return Err(LoadFault::Limit { bot: bot.name() });
     }
-    counted(alloc, whole, before, bot, sieve, sums)
+    routed(alloc, whole, bot, sieve)
 }
 
 // The same, or that the bot is on a cycle before.
@@ -302,7 +298,7 @@ fn tree_of(alloc: Global, runtime: &[u8]) -> Result<Option<Tree>, OutOfMemory>
 
 /// The bots of a bundle with their checked parameters, in byte order of their names; or its first fault: `Json`, or of the
 /// first bot that has one the first in the order of `LoadFault`.
-#[tactic(auto, unfolding(crate::specs::Load::load, crate::specs::Runtime::runtime_of))]
+#[tactic(auto, unfolding(crate::specs::Load::load, crate::specs::Load::runtime_of))]
 pub fn load(alloc: Global, bundle: &Bundle) -> Result<Plan, LoadFault>
     ensures { IsLoaded (load bundle.now) result }
 {

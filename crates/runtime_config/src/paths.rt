@@ -5,14 +5,13 @@ ghost use Rattle.std.specs.Ordering.{nat_cmp};
 ghost use Rattle.std.specs.Cmp.Lexicographic.{slice_cmp};
 ghost use Rattle.base_types.specs.Name.{queue_name};
 ghost use Rattle.runtime_config.specs.Paths.{known_path, known_paths, known_queue, known_queues};
-ghost use Rattle.runtime_config.specs.Read.{entries_of, entry_of};
-ghost use Rattle.runtime_config.specs.Runtime.{routes, Entry};
+ghost use Rattle.runtime_text.specs.Read.{entries_of, entry_of};
+ghost use Rattle.runtime_text.specs.Runtime.{routes, Entry};
 
-use crate::bot::Bot;
-use crate::wires::owner;
 use crate::{Route, RouteList};
 use base_types::{OutOfMemory, QueueList, QueueName, Text, TextList, queue_of};
 use module_settings::text_of;
+use runtime_text::{Bot, owner};
 use std::alloc::Global;
 
 fn queue_at(bots: &[Bot], i: usize) -> QueueName

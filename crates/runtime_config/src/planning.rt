@@ -6,18 +6,17 @@ ghost use Rattle.config_bundle.specs.declared.bundle.Bundle.{Bundle as AnyBundle
 ghost use Rattle.runtime_config.specs.Faults.{bot_sieve, instances, table_fault, table_text};
 ghost use Rattle.runtime_config.specs.Found.{IsFault, IsPlannedAs};
 ghost use Rattle.runtime_config.specs.Load.{is_allowing, module_as, names_of, planned, route_of, table_of};
-ghost use Rattle.runtime_config.specs.Read.{entry_of, members_of};
-ghost use Rattle.runtime_config.specs.Runtime.{line, module_of, routes, set_as, whole_in};
+ghost use Rattle.runtime_text.specs.Read.{entry_of, members_of};
+ghost use Rattle.runtime_text.specs.Runtime.{line, module_of, routes, set_as, whole_in};
 ghost use Rattle.module_settings.specs.declared.module.ModuleWord.TheVariants as modules;
 
-use crate::bot::Bot;
-use crate::given::{defaults, line, line_given, lines, switch, whole};
-use crate::object::Object;
 use crate::rules::table_text;
 use crate::{LoadFault, Module, NamesList, Planned, RouteList};
 use base_types::{OutOfMemory, Text, TextList};
 use config_bundle::Bundle;
 use module_settings::{ModuleWord, Table, TableFault, copies_of, table_in};
+use runtime_text::given::{defaults, line, line_given, lines, switch, whole};
+use runtime_text::{Bot, Object};
 use sieve_tree::Sieve;
 use std::alloc::{AllocError, Global};
 

@@ -3,20 +3,20 @@ ghost use Rattle.std.specs.Prelude.{◌≡◌, ◌++◌, map, filter, option_map
 ghost use Rattle.serde_json.specs.Find.{get_member};
 ghost use Rattle.serde_json.specs.View.{view};
 ghost use Rattle.event_model.specs.Lenient.{least, lesser};
-ghost use Rattle.runtime_config.specs.Faults.{bad_members, bad_names, content, content_of, default_path, enabled_key, file_fault, file_of, has_path, is_bad, is_given_badly, is_missing, is_true, missing_members, missing_names, module_fault, name_when, parameters_key, sieve_text, table_text};
+ghost use Rattle.runtime_config.specs.Faults.{bad_members, bad_names, content, content_of, default_path, enabled_key, file_fault, file_of, has_path, is_bad, is_missing, is_true, missing_members, missing_names, module_fault, name_when, parameters_key, sieve_text, table_text};
 ghost use Rattle.runtime_config.specs.Found.{IsFound};
-ghost use Rattle.runtime_config.specs.Read.{entry_of, members_of};
+ghost use Rattle.runtime_text.specs.Read.{entry_of, members_of};
 ghost use Rattle.module_settings.specs.Rows.{parameter_of};
-ghost use Rattle.runtime_config.specs.Runtime.{is_output, is_prefix, is_sieve, object_of, reads_file};
+ghost use Rattle.runtime_text.specs.Runtime.{is_given_badly, object_of};
+ghost use Rattle.runtime_config.specs.Modules.{is_output, is_prefix, is_sieve, reads_file};
 ghost use Rattle.runtime_config.specs.declared.fault.LoadFault.TheVariants as fault;
 
 use crate::LoadFault;
-use crate::bot::Bot;
-use crate::given::{given, line_given, parameters_of, setting};
-use crate::object::{Object, object_of};
 use base_types::{Blob, OutOfMemory, Text, TextList};
 use config_bundle::Bundle;
 use module_settings::{ModuleWord, Otherwise, Parameter, text_of};
+use runtime_text::given::{given, line_given, parameters_of, setting};
+use runtime_text::{Bot, Object, object_of};
 use serde_json::Value as Tree;
 use std::alloc::Global;
 use std::cmp::Ordering;

@@ -3,17 +3,16 @@ ghost use Rattle.std.specs.Prelude.{◌≡◌, length, nat_lt, option_map, Some}
 ghost use Rattle.runtime_config.specs.SieveIn.{sieve_in, IsReadAs};
 ghost use Rattle.runtime_config.specs.Faults.{bot_sieve, has_path, most_patterns, sieve_fault, unknown_spot};
 ghost use Rattle.runtime_config.specs.Found.{IsSieveOf};
-ghost use Rattle.runtime_config.specs.Read.{entry_of, members_of};
-ghost use Rattle.runtime_config.specs.Runtime.{routes};
+ghost use Rattle.runtime_text.specs.Read.{entry_of, members_of};
+ghost use Rattle.runtime_text.specs.Runtime.{routes};
 ghost use Rattle.runtime_config.specs.Sieves.{fault_with, refusal_of, sieve_of};
 ghost use Rattle.runtime_config.specs.declared.fault.LoadFault.TheVariants as fault;
 
 use crate::LoadFault;
-use crate::bot::Bot;
-use crate::object::Object;
 use crate::rules::sieve_text;
 use base_types::{Text, TextList};
 use config_bundle::Bundle;
+use runtime_text::{Bot, Object};
 use sieve_reader::{SieveFault, read_sieve};
 use sieve_tree::Sieve;
 use std::alloc::Global;

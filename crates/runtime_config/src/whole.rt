@@ -1,6 +1,5 @@
-use crate::bot::Bot;
-use crate::object::Object;
 use config_bundle::Bundle;
+use runtime_text::{Bot, Object};
 
 /// What loading looks at: a bundle, the parameters of all bots, the bots, and what each of them sends to.
 #[derive(Drop)]

@@ -3,7 +3,7 @@ use base_types::{Blob, NumberList, Text};
 use bundle_fetch::{BundleFault, bundle_of};
 use edge_memory::MemShelf;
 use edge_traits::Shelf;
-use runtime_config::named_files;
+use runtime_text::named_files;
 use std::alloc::Global;
 use std::process::Abort;
 use std::test::Fail;

@@ -1,6 +1,6 @@
-use Rattle.std.proofs.Common.{◌≡◌, ◌<◌, ◌^◌, List, ℕ, length, ap, ◌∙◌, arith}
-use Rattle.runtime_config.specs.Named.{named_files}
-use Rattle.runtime_config.proofs.Naming.{named_rise, named_short}
+use Rattle.std.proofs.Common.{◌≡◌, ◌<◌, ◌^◌, length, ap, ◌∙◌, arith}
+use Rattle.runtime_text.specs.Named.{named_files}
+use Rattle.runtime_text.proofs.Naming.{named_rise, named_short}
 use Rattle.bundle_fetch.proofs.Coded.{is_bundle}
 use Rattle.bundle_fetch.proofs.Files.{bundle_there, file_lacks, runtime_lacks}
 use Rattle.bundle_fetch.proofs.fetching.bundle_of.Goals as goal

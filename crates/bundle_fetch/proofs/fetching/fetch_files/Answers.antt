@@ -1,9 +1,8 @@
-use Rattle.std.proofs.Common.{◌≡◌, ◌<◌, ◌+◌, ◌++◌, ◌∷◌, [], List, ℕ, length, take, get_or, sym, ap, subst, ◌∙◌, arith}
+use Rattle.std.proofs.Common.{◌≡◌, ◌<◌, ◌++◌, ◌∷◌, [], List, ℕ, length, take, get_or, sym, ap, subst, ◌∙◌, arith}
 use Rattle.std.proofs.lemmas.List.{take_more}
 use Rattle.base_types.specs.Lists.{IsIn}
 use Rattle.bundle_fetch.proofs.Coded.{each_more, names_more}
-use Rattle.bundle_fetch.proofs.Files.{all_there, in_list, one_more, stopped}
-use Rattle.edge_traits.proofs.Counts.{rose_later}
+use Rattle.bundle_fetch.proofs.Files.{in_list, one_more, stopped}
 use Rattle.bundle_fetch.proofs.fetching.fetch_files.Goals as goal
 
 pub names-preserved : goal.names-preserved

@@ -2,7 +2,7 @@ use Rattle.std.proofs.Common.{◌≡◌, ◌+◌, [], ◌∷◌, ◌++◌, false
 use Rattle.std.proofs.lemmas.List.{length-map}
 use Rattle.runtime_config.proofs.Adding.{own_passes, sums_added, together}
 use Rattle.runtime_config.specs.Faults.{pass_together, passes_own}
-use Rattle.runtime_config.specs.Read.{entries_of, entry_of, members_of}
+use Rattle.runtime_text.specs.Read.{entries_of, entry_of, members_of}
 use Rattle.runtime_config.specs.Sums.{AreSums}
 use Rattle.runtime_config.specs.declared.limits.Sums.{Sums}
 use Rattle.runtime_config.proofs.limits.is_past_limit.Goals as goal

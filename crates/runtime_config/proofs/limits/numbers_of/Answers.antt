@@ -1,7 +1,7 @@
 use Rattle.std.proofs.Common.{◌≡◌, ◌≤◌, ℕ, List, [], Bor, Option, Some, None, length, option_map, refl, ap, sym, subst, ◌∙◌}
 use Rattle.std.specs.Prelude.{unwrap_or}
 use Rattle.runtime_config.proofs.Bounds.{few_instances}
-use Rattle.runtime_config.specs.Read.{entry_of, members_of}
+use Rattle.runtime_text.specs.Read.{entry_of, members_of}
 use Rattle.module_settings.specs.Table.{row_count}
 use Rattle.runtime_config.proofs.limits.numbers_of.Goals as goal
 

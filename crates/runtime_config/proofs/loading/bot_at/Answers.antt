@@ -6,8 +6,8 @@ use Rattle.runtime_config.proofs.Loads.{one_more_taken}
 use Rattle.runtime_config.specs.Faults.{fault_of}
 use Rattle.runtime_config.specs.Found.{IsPlannedAs}
 use Rattle.runtime_config.specs.Load.{planned}
-use Rattle.runtime_config.specs.Read.{entries_of, entry_of, members_of}
-use Rattle.runtime_config.specs.Runtime.{Entry}
+use Rattle.runtime_text.specs.Read.{entries_of, entry_of, members_of}
+use Rattle.runtime_text.specs.Runtime.{Entry}
 use Rattle.runtime_config.specs.Sums.{AreSums}
 use Rattle.runtime_config.specs.Whole.{place_at}
 use Rattle.runtime_config.proofs.loading.bot_at.Goals as goal

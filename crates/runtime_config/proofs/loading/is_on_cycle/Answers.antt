@@ -1,8 +1,8 @@
 use Rattle.std.proofs.Common.{◌≡◌, ◌<◌, ℕ, List, Vec, Global, length, true, sym, ap, subst, ◌∙◌}
 use Rattle.std.proofs.lemmas.List.{length-map}
-use Rattle.runtime_config.proofs.Ways.{back_is, graph_inside}
-use Rattle.runtime_config.specs.Read.{entries_of, entry_of}
-use Rattle.runtime_config.specs.Wires.{wires_of, AreInside, Leads}
+use Rattle.runtime_text.proofs.Ways.{back_is, graph_inside}
+use Rattle.runtime_text.specs.Read.{entries_of, entry_of}
+use Rattle.runtime_text.specs.Wires.{wires_of, AreInside, Leads}
 use Rattle.runtime_config.proofs.loading.is_on_cycle.Goals as goal
 
 pub comes_back-requires : goal.comes_back-requires

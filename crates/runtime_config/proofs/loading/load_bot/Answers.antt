@@ -1,5 +1,5 @@
 use Rattle.runtime_config.proofs.Faulty.{fault_split, first_fault_is, later_planned, same_fault, same_planned}
-use Rattle.runtime_config.specs.Read.{entries_of, entry_of}
+use Rattle.runtime_text.specs.Read.{entries_of, entry_of}
 use Rattle.runtime_config.specs.Whole.{place_at}
 use Rattle.runtime_config.proofs.loading.load_bot.Goals as goal
 

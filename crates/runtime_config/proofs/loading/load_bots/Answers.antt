@@ -3,10 +3,10 @@ use Rattle.std.proofs.lemmas.List.{length-map}
 use Rattle.std.proofs.lemmas.Option.{slice_get-get_or}
 use Rattle.runtime_config.proofs.Faulty.{first_fault_is, same_fault}
 use Rattle.runtime_config.proofs.Loads.{next_fault, next_planned, none_first}
-use Rattle.runtime_config.proofs.Owners.{no_entry}
+use Rattle.runtime_config.proofs.KnownPaths.{no_entry}
 use Rattle.runtime_config.specs.Faults.{first_fault}
 use Rattle.runtime_config.specs.Load.{planned}
-use Rattle.runtime_config.specs.Read.{entries_of, entry_of, members_of}
+use Rattle.runtime_text.specs.Read.{entries_of, entry_of, members_of}
 use Rattle.runtime_config.specs.Whole.{runtime_as}
 use Rattle.runtime_config.proofs.loading.load_bots.Goals as goal
 

@@ -1,7 +1,7 @@
 use Rattle.std.proofs.Common.{◌≡◌, map, take, drop}
 use Rattle.runtime_config.specs.Faults.{fault_of, first_fault, first_some, places_from}
 use Rattle.runtime_config.specs.Load.{planned}
-use Rattle.runtime_config.specs.Read.{entries_of, members_of}
+use Rattle.runtime_text.specs.Read.{entries_of, members_of}
 use Rattle.runtime_config.specs.Sums.{AreSmall, AreSums}
 use Rattle.runtime_config.specs.Whole.{runtime_as}
 use Rattle.runtime_config.proofs.loading.load_bots.Given as goal

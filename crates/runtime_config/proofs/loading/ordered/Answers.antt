@@ -1,8 +1,8 @@
 use Rattle.std.proofs.Common.{◌<◌, length, subst, sym, ap, ◌∙◌}
 use Rattle.std.proofs.lemmas.List.{length-map}
 use Rattle.runtime_config.proofs.Faulty.{absent, later_planned, there}
-use Rattle.runtime_config.proofs.Ways.{get_inside}
-use Rattle.runtime_config.specs.Read.{entries_of, entry_of}
+use Rattle.runtime_text.proofs.Ways.{get_inside}
+use Rattle.runtime_text.specs.Read.{entries_of, entry_of}
 use Rattle.runtime_config.specs.declared.fault.LoadFault.TheVariants as fault
 use Rattle.runtime_config.proofs.loading.ordered.Goals as goal
 

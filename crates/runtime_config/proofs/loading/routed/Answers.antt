@@ -1,11 +1,11 @@
 use Rattle.std.proofs.Common.{map, sym, ap, ◌∙◌}
 use Rattle.runtime_config.proofs.Faulty.{absent, later_planned, paths_known, paths_unknown, there}
-use Rattle.runtime_config.proofs.Owners.{paths_are}
+use Rattle.runtime_config.proofs.KnownPaths.{paths_are}
 use Rattle.runtime_config.specs.Faults.{is_known}
 use Rattle.runtime_config.specs.Load.{route_of}
-use Rattle.runtime_config.specs.Read.{entries_of, entry_of}
-use Rattle.runtime_config.specs.Reaches.{targets}
-use Rattle.runtime_config.specs.Runtime.{routes}
+use Rattle.runtime_text.specs.Read.{entries_of, entry_of}
+use Rattle.runtime_text.specs.Reaches.{targets}
+use Rattle.runtime_text.specs.Runtime.{routes}
 use Rattle.std.specs.List.{list_all}
 use Rattle.runtime_config.specs.declared.fault.LoadFault.TheVariants as fault
 use Rattle.runtime_config.proofs.loading.routed.Goals as goal

@@ -4,8 +4,8 @@ use Rattle.sieve_tree.specs.SieveView.{SieveView}
 use Rattle.runtime_config.proofs.Faulty.{first_fault_is, later_sieve}
 use Rattle.runtime_config.specs.Faults.{unknown_spot}
 use Rattle.runtime_config.specs.Found.{IsSieveOf}
-use Rattle.runtime_config.specs.Read.{entry_of}
-use Rattle.runtime_config.specs.Runtime.{routes}
+use Rattle.runtime_text.specs.Read.{entry_of}
+use Rattle.runtime_text.specs.Runtime.{routes}
 use Rattle.runtime_config.specs.declared.fault.LoadFault.TheVariants as fault
 use Rattle.runtime_config.proofs.loading.sieve_for.Goals as goal
 

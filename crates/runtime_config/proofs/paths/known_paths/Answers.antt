@@ -1,8 +1,8 @@
 use Rattle.std.proofs.Common.{◌<◌, List, Some, length, get_or, ap, sym, subst, ◌∙◌}
-use Rattle.runtime_config.proofs.Lists.{read_more}
-use Rattle.runtime_config.proofs.Owners.{path_first}
-use Rattle.runtime_config.specs.Read.{entries_of, entry_of}
-use Rattle.runtime_config.specs.Runtime.{routes, Route}
+use Rattle.runtime_text.proofs.Lists.{read_more}
+use Rattle.runtime_config.proofs.KnownPaths.{path_first}
+use Rattle.runtime_text.specs.Read.{entries_of, entry_of}
+use Rattle.runtime_text.specs.Runtime.{routes, Route}
 use Rattle.runtime_config.proofs.paths.known_paths.Goals as goal
 
 pub routes-preserved : goal.routes-preserved

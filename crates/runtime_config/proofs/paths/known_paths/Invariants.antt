@@ -1,8 +1,8 @@
 use Rattle.std.proofs.Common.{◌≡◌, drop}
 use Rattle.event_model.proofs.Written.{in_front}
 use Rattle.runtime_config.specs.Paths.{known_paths}
-use Rattle.runtime_config.specs.Read.{entries_of, entry_of}
-use Rattle.runtime_config.specs.Runtime.{routes}
+use Rattle.runtime_text.specs.Read.{entries_of, entry_of}
+use Rattle.runtime_text.specs.Runtime.{routes}
 use Rattle.runtime_config.proofs.paths.known_paths.Given as goal
 
 abbrev pub invariant-routes : goal.invariant-routes

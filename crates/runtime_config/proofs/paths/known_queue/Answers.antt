@@ -1,7 +1,8 @@
 use Rattle.std.proofs.Common.{◌<◌, subst}
 use Rattle.std.proofs.lemmas.List.{length-map}
-use Rattle.runtime_config.proofs.Owners.{owner_inside, queue_known, queue_unknown}
-use Rattle.runtime_config.specs.Read.{entries_of, entry_of}
+use Rattle.runtime_text.proofs.Owners.{owner_inside}
+use Rattle.runtime_config.proofs.KnownPaths.{queue_known, queue_unknown}
+use Rattle.runtime_text.specs.Read.{entries_of, entry_of}
 use Rattle.runtime_config.proofs.paths.known_queue.Goals as goal
 
 pub queue_at-requires : goal.queue_at-requires

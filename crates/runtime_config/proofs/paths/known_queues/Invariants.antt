@@ -1,7 +1,7 @@
 use Rattle.std.proofs.Common.{◌≡◌, drop}
 use Rattle.event_model.proofs.Written.{in_front}
 use Rattle.runtime_config.specs.Paths.{known_queues}
-use Rattle.runtime_config.specs.Read.{entries_of}
+use Rattle.runtime_text.specs.Read.{entries_of}
 use Rattle.runtime_config.proofs.paths.known_queues.Given as goal
 
 abbrev pub invariant-names : goal.invariant-names

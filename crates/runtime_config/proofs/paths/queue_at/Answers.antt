@@ -2,8 +2,8 @@ use Rattle.std.proofs.Common.{◌≡◌, ◌<◌, length, get_or, ap, sym, ◌�
 use Rattle.std.proofs.Math.ListN.{get_or-map}
 use Rattle.std.proofs.lemmas.List.{get_or_default, length-map}
 use Rattle.base_types.specs.Name.{queue_name}
-use Rattle.runtime_config.specs.Read.{entries_of, entry_of}
-use Rattle.runtime_config.specs.Runtime.{Entry}
+use Rattle.runtime_text.specs.Read.{entries_of, entry_of}
+use Rattle.runtime_text.specs.Runtime.{Entry}
 use Rattle.runtime_config.proofs.paths.queue_at.Goals as goal
 
 pub returns : goal.returns

@@ -1,6 +1,6 @@
 use Rattle.std.proofs.Common.{arith}
 use Rattle.runtime_config.proofs.Bounds.{small_chunk}
-use Rattle.runtime_config.specs.Read.{entry_of, members_of}
+use Rattle.runtime_text.specs.Read.{entry_of, members_of}
 use Rattle.runtime_config.proofs.planning.chunk_size.Goals as goal
 
 pub small-requires : goal.small-requires

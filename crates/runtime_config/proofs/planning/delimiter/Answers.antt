@@ -1,6 +1,6 @@
 use Rattle.std.proofs.Common.{arith}
 use Rattle.runtime_config.proofs.Bounds.{one_byte}
-use Rattle.runtime_config.specs.Read.{entry_of, members_of}
+use Rattle.runtime_text.specs.Read.{entry_of, members_of}
 use Rattle.runtime_config.proofs.planning.delimiter.Goals as goal
 
 pub byte-requires : goal.byte-requires

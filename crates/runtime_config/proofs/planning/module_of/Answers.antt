@@ -1,8 +1,8 @@
 use Rattle.std.proofs.Common.{Some, ap, sym, ◌∙◌}
 use Rattle.runtime_config.proofs.Faulty.{no_table}
 use Rattle.runtime_config.specs.Load.{module_as}
-use Rattle.runtime_config.specs.Read.{entry_of, members_of}
-use Rattle.runtime_config.specs.Runtime.{is_prefix}
+use Rattle.runtime_text.specs.Read.{entry_of, members_of}
+use Rattle.runtime_config.specs.Modules.{is_prefix}
 use Rattle.runtime_config.specs.declared.plan.Module.TheVariants as as_module
 use Rattle.runtime_config.proofs.planning.module_of.Goals as goal
 

@@ -1,6 +1,6 @@
 use Rattle.runtime_config.proofs.Faulty.{planned_is}
 use Rattle.runtime_config.specs.Load.{planned}
-use Rattle.runtime_config.specs.Read.{entry_of, members_of}
+use Rattle.runtime_text.specs.Read.{entry_of, members_of}
 use Rattle.runtime_config.proofs.planning.planned.Goals as goal
 
 pub returns : goal.returns

@@ -1,6 +1,6 @@
 use Rattle.std.proofs.Common.{◌≡◌, ◌++◌, map, filter, drop}
 use Rattle.runtime_config.specs.Faults.{is_missing}
-use Rattle.runtime_config.specs.Read.{entry_of, members_of}
+use Rattle.runtime_text.specs.Read.{entry_of, members_of}
 use Rattle.module_settings.specs.Rows.{parameter_of}
 use Rattle.runtime_config.proofs.rules.push_missing.Given as goal
 

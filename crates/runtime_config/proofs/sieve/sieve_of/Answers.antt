@@ -1,4 +1,4 @@
-use Rattle.runtime_config.specs.Read.{entry_of}
+use Rattle.runtime_text.specs.Read.{entry_of}
 use Rattle.runtime_config.proofs.Sieved.{of_read, of_refused}
 use Rattle.runtime_config.proofs.sieve.sieve_of.Goals as goal
 

@@ -1,7 +1,0 @@
-use Rattle.std.proofs.Common.{◌≡◌}
-use Rattle.serde_json.specs.View.{members_view}
-use Rattle.runtime_config.specs.Named.{are_objects}
-use Rattle.runtime_config.proofs.named.are_objects.Given as goal
-
-abbrev pub invariant-members : goal.invariant-members
-invariant-members l = are_objects (members_view l.members.entries) ≡ are_objects (members_view l.tree-iterator)

@@ -1,7 +1,0 @@
-use Rattle.std.proofs.Common.{◌≡◌, map, take}
-use Rattle.runtime_config.specs.Read.{entries_of}
-use Rattle.runtime_config.specs.Wires.{wires_of}
-use Rattle.runtime_config.proofs.wires.graph_of.Given as goal
-
-abbrev pub invariant-bots : goal.invariant-bots
-invariant-bots l = map (λ wires. wires.items) l.graph.items ≡ map (wires_of (entries_of l.bots)) (entries_of (take l.bot-index l.bots))

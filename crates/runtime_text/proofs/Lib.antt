@@ -1,0 +1,9 @@
+pub mod Bots
+pub mod Lists
+pub mod Marks
+pub mod Naming
+pub mod Owners
+pub mod Parameters
+pub mod Reached
+pub mod Searches
+pub mod Ways
