@@ -1,3 +1,4 @@
+pub mod AtOnce
 pub mod CompactTexts
 pub mod Items
 pub mod Lines
@@ -13,4 +14,3 @@ pub mod QuotedValues
 pub mod Reading
 pub mod Rising
 pub mod Slices
-pub mod TimesAsPrinted

@@ -1,5 +1,5 @@
 -- Members that are put in order of their names, one by one.
-use Rattle.std.proofs.Common.{◌≡◌, ℕ, suc, ◌+◌, ◌-◌, ◌≤◌, List, [], ◌∷◌, ◌++◌, length, length-append, take, get_or, true, Option, Some, None, IfSome, option_and_then, Less, Greater, refl, sym, ap, subst, ◌∙◌, append_assoc, arith, Bor}
+use Rattle.std.proofs.Common.{◌≡◌, ℕ, suc, ◌-◌, ◌≤◌, List, [], ◌∷◌, ◌++◌, length, take, get_or, true, option_and_then, Less, Greater, refl, sym, ap, subst, ◌∙◌, append_assoc, Bor}
 use Rattle.std.specs.declared.alloc.Global.{Global}
 use Rattle.std.specs.List.{insert as place_in}
 use Rattle.std.specs.Ordering.{is_lt, ordering_reverse}
@@ -37,13 +37,13 @@ put_between k j (e ∷ front) back above below =
     let greater : order k e.0 ≡ Greater = nat_list_cmp_total.antisymm k e.0 ∙ ap ordering_reverse (less_of _ parts.0) in
     rw greater (ap (member e.0 (data_of e.1)) (put_between k j front back parts.1 below))
 
-below_between : (x k : Key) (j : json.Json) (front back : List Named) → below_all order x (front ++ back) ≡ true → is_lt (order x k) ≡ true → below_all order x (front ++ (k, j) ∷ back) ≡ true
+pub below_between : (x k : Key) (j : json.Json) (front back : List Named) → below_all order x (front ++ back) ≡ true → is_lt (order x k) ≡ true → below_all order x (front ++ (k, j) ∷ back) ≡ true
 below_between x k j [] back below less = and_from _ _ less below
 below_between x k j (e ∷ front) back below less =
     let parts = and_parts (is_lt (order x e.0)) (below_all order x (front ++ back)) below in
     and_from _ _ parts.0 (below_between x k j front back parts.1 less)
 
-sorted_between : (k : Key) (j : json.Json) (front back : List Named) → is_sorted order (front ++ back) ≡ true → is_above_all k front ≡ true → below_all order k back ≡ true
+pub sorted_between : (k : Key) (j : json.Json) (front back : List Named) → is_sorted order (front ++ back) ≡ true → is_above_all k front ≡ true → below_all order k back ≡ true
     → is_sorted order (front ++ (k, j) ∷ back) ≡ true
 sorted_between k j [] back sorted above below = and_from _ _ below sorted
 sorted_between k j (e ∷ front) back sorted above below =
@@ -58,7 +58,7 @@ below_last x [] last below = (and_parts (is_lt (order x last.0)) true below).0
 below_last x (e ∷ front) last below = below_last x front last (and_parts (is_lt (order x e.0)) (below_all order x (front ++ last ∷ [])) below).1
 
 -- a name that is above the last is above all
-above_last : (name : Key) (front : List Named) (last : Named) → is_sorted order (front ++ last ∷ []) ≡ true → order last.0 name ≡ Less → is_above_all name (front ++ last ∷ []) ≡ true
+pub above_last : (name : Key) (front : List Named) (last : Named) → is_sorted order (front ++ last ∷ []) ≡ true → order last.0 name ≡ Less → is_above_all name (front ++ last ∷ []) ≡ true
 above_last name [] last sorted less = and_from _ _ (lt_of _ less) refl
 above_last name (e ∷ front) last sorted less =
     let parts = and_parts (below_all order e.0 (front ++ last ∷ [])) (is_sorted order (front ++ last ∷ [])) sorted in
@@ -72,7 +72,7 @@ pub record Passed (name : Key) (all rest : List Named) : Type 0 where
   pub sorted : is_sorted order rest ≡ true
   pub below : below_all order name back ≡ true
 
-pub front_sorted : (front back : List Named) → is_sorted order (front ++ back) ≡ true → is_sorted order front ≡ true
+front_sorted : (front back : List Named) → is_sorted order (front ++ back) ≡ true → is_sorted order front ≡ true
 front_sorted [] back sorted = refl
 front_sorted (e ∷ front) back sorted =
     let parts = and_parts (below_all order e.0 (front ++ back)) (is_sorted order (front ++ back)) sorted in
@@ -116,125 +116,6 @@ belongs_behind name all rest front last n is less so_far size = record {
   above = ap (is_above_all name) is ∙ above_last name front last (ap (is_sorted order) (sym is) ∙ so_far.sorted) less;
   below = so_far.below;
 }
-
--- ---- a place that is looked for from the front
-
--- the name stands behind what isn't looked at any more
-pub record Climbed (name : Key) (all rest : List Named) : Type 0 where
-  pub front : List Named
-  pub splits : all ≡ front ++ rest
-  pub above : is_above_all name front ≡ true
-  pub sorted : is_sorted order rest ≡ true
-
-above_both : (name : Key) (front back : List Named) → is_above_all name front ≡ true → is_above_all name back ≡ true → is_above_all name (front ++ back) ≡ true
-above_both name [] back above over = over
-above_both name (e ∷ front) back above over =
-    let parts = and_parts (is_lt (order e.0 name)) (is_above_all name front) above in
-    and_from _ _ parts.0 (above_both name front back parts.1 over)
-
-below_both : (name : Key) (front back : List Named) → below_all order name front ≡ true → below_all order name back ≡ true → below_all order name (front ++ back) ≡ true
-below_both name [] back below under = under
-below_both name (e ∷ front) back below under =
-    let parts = and_parts (is_lt (order name e.0)) (below_all order name front) below in
-    and_from _ _ parts.0 (below_both name front back parts.1 under)
-
-below_more : (name x : Key) (more : List Named) → below_all order x more ≡ true → order name x ≡ Less → below_all order name more ≡ true
-below_more name x [] below under = refl
-below_more name x (e ∷ more) below under =
-    let parts = and_parts (is_lt (order x e.0)) (below_all order x more) below in
-    and_from _ _ (lt_of _ (nat_list_cmp_total.trans name x e.0 under (less_of _ parts.0))) (below_more name x more parts.1 under)
-
--- a name that is below the first is below all
-below_first : (name : Key) (first : Named) (more : List Named) → is_sorted order (first ∷ more) ≡ true → order first.0 name ≡ Greater → below_all order name (first ∷ more) ≡ true
-below_first name first more sorted greater =
-    let under : order name first.0 ≡ Less = nat_list_cmp_total.antisymm name first.0 ∙ ap ordering_reverse greater in
-    and_from _ _ (lt_of _ under) (below_more name first.0 more (and_parts (below_all order first.0 more) (is_sorted order more) sorted).0 under)
-
-pub climb_starts : (name : Key) (all : List Named) → is_sorted order all ≡ true → Climbed name all all
-climb_starts name all sorted = record { front = []; splits = refl; above = refl; sorted = sorted }
-
-pub passes_first : (name : Key) (all rest more : List Named) (first : Named) → rest ≡ first ∷ more → order first.0 name ≡ Less → Climbed name all rest → Climbed name all more
-passes_first name all rest more first is less so_far = record {
-  front = so_far.front ++ first ∷ [];
-  splits = so_far.splits ∙ ap (λ (t : List Named). so_far.front ++ t) is ∙ sym (append_assoc so_far.front (first ∷ []) more);
-  above = above_both name so_far.front (first ∷ []) so_far.above (and_from _ _ (lt_of _ less) refl);
-  sorted = (and_parts (below_all order first.0 more) (is_sorted order more) (ap (is_sorted order) (sym is) ∙ so_far.sorted)).1;
-}
-
-passed_length : (front rest all : List Named) → all ≡ front ++ rest → length front ≡ length all - length rest
-passed_length front rest all is = let sum : length all ≡ length front + length rest = ap length is ∙ length-append front rest in omega (arith, sum)
-
-pub belongs_before : (name : Key) (all rest more : List Named) (first : Named) (n : ℕ) → rest ≡ first ∷ more → order first.0 name ≡ Greater → Climbed name all rest → n ≡ length all - length rest → BelongsAt name all n
-belongs_before name all rest more first n is greater so_far size = record {
-  front = so_far.front;
-  back = rest;
-  splits = so_far.splits;
-  place = passed_length so_far.front rest all so_far.splits ∙ sym size;
-  above = so_far.above;
-  below = ap (below_all order name) is ∙ below_first name first more (ap (is_sorted order) (sym is) ∙ so_far.sorted) greater;
-}
-
-pub belongs_last : (name : Key) (all rest : List Named) (n : ℕ) → length rest ≡ 0 → Climbed name all rest → n ≡ length all → BelongsAt name all n
-belongs_last name all [] n none so_far size = record {
-  front = so_far.front;
-  back = [];
-  splits = so_far.splits;
-  place = let passed = passed_length so_far.front [] all so_far.splits in omega (arith, passed, size);
-  above = so_far.above;
-  below = refl;
-}
-belongs_last name all (e ∷ rest) n none so_far size = absurd (omega (arith, none))
-
--- ---- a place in two parts
-
-pub back_sorted : (front back : List Named) → is_sorted order (front ++ back) ≡ true → is_sorted order back ≡ true
-back_sorted [] back sorted = sorted
-back_sorted (e ∷ front) back sorted = back_sorted front back (and_parts (below_all order e.0 (front ++ back)) (is_sorted order (front ++ back)) sorted).1
-
-below_at : (x : Key) (front : List Named) (e : Named) (back : List Named) → below_all order x (front ++ e ∷ back) ≡ true → order x e.0 ≡ Less
-below_at x [] e back below = less_of _ (and_parts (is_lt (order x e.0)) (below_all order x back) below).0
-below_at x (f ∷ front) e back below = below_at x front e back (and_parts (is_lt (order x f.0)) (below_all order x (front ++ e ∷ back)) below).1
-
-above_front : (name : Key) (front : List Named) (e : Named) (back : List Named) → is_sorted order (front ++ e ∷ back) ≡ true → order e.0 name ≡ Less → is_above_all name front ≡ true
-above_front name [] e back sorted less = refl
-above_front name (f ∷ front) e back sorted less =
-    let parts = and_parts (below_all order f.0 (front ++ e ∷ back)) (is_sorted order (front ++ e ∷ back)) sorted in
-    and_from _ _ (lt_of _ (nat_list_cmp_total.trans f.0 e.0 name (below_at f.0 front e back parts.0) less)) (above_front name front e back parts.1 less)
-
-above_split : (name : Key) (front passed back : List Named) → 1 ≤ length passed → is_sorted order (front ++ (passed ++ back)) ≡ true → is_above_all name passed ≡ true → is_above_all name (front ++ passed) ≡ true
-above_split name front [] back some sorted above = absurd (omega (arith, some))
-above_split name front (e ∷ passed) back some sorted above =
-    let parts = and_parts (is_lt (order e.0 name)) (is_above_all name passed) above in
-    above_both name front (e ∷ passed) (above_front name front e (passed ++ back) sorted (less_of _ parts.0)) above
-
-pub belongs_in_back : (name : Key) (all front back : List Named) (n : ℕ) → all ≡ front ++ back → is_sorted order all ≡ true → 1 ≤ n → BelongsAt name back n → BelongsAt name all (length front + n)
-belongs_in_back name all front back n is sorted some at = record {
-  front = front ++ at.front;
-  back = at.back;
-  splits = is ∙ ap (λ (t : List Named). front ++ t) at.splits ∙ sym (append_assoc front at.front at.back);
-  place = length-append front at.front ∙ ap (λ k. length front + k) at.place;
-  above = above_split name front at.front at.back (omega (arith, some, at.place)) (ap (λ (t : List Named). is_sorted order (front ++ t)) (sym at.splits) ∙ ap (is_sorted order) (sym is) ∙ sorted) at.above;
-  below = at.below;
-}
-
-below_none : (name : Key) (back front later : List Named) → back ≡ front ++ later → length front ≡ 0 → below_all order name later ≡ true → below_all order name back ≡ true
-below_none name back [] later is none below = ap (below_all order name) is ∙ below
-below_none name back (e ∷ front) later is none below = absurd (omega (arith, none))
-
-pub belongs_in_front : (name : Key) (all front back : List Named) (n : ℕ) → all ≡ front ++ back → BelongsAt name back 0 → BelongsAt name front n → BelongsAt name all n
-belongs_in_front name all front back n is none at = record {
-  front = at.front;
-  back = at.back ++ back;
-  splits = is ∙ ap (λ (t : List Named). t ++ back) at.splits ∙ append_assoc at.front at.back back;
-  place = at.place;
-  above = at.above;
-  below = below_both name at.back back at.below (below_none name back none.front none.back none.splits none.place none.below);
-}
-
--- what is there is so as well
-pub if_some : (o : Option ℕ) (P Q : ℕ → Type 0) → ((n : ℕ) → P n → Q n) → IfSome o P → IfSome o Q
-if_some None P Q f p = p
-if_some (Some n) P Q f p = f n p
 
 -- ---- the place in the vector
 

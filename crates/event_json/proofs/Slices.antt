@@ -20,6 +20,13 @@ only_of [] x some few is = absurd (omega arith)
 only_of (y ∷ []) x some few is = ap (λ a. a ∷ []) (sym is)
 only_of (y ∷ z ∷ ys) x some few is = absurd (omega arith)
 
+pub parted : {X : Type 0} (xs : List X) (i : ℕ) (x : X) → i < length xs → x ≡ get_or xs i x → (front back : List X) × (xs ≡ front ++ x ∷ back)
+parted [] i x within is = absurd (omega (arith, within))
+parted (y ∷ ys) zero x within is = ([], ys, ap (λ a. a ∷ ys) (sym is))
+parted (y ∷ ys) (suc i) x within is =
+    let (front, back, split) = parted ys i x (omega (arith, within)) is in
+    (y ∷ front, back, ap (λ (t : List _). y ∷ t) split)
+
 -- what is known of what is there
 pub of_some : {X : Type 0} (o : Option X) (x : X) (P : X → Type 0) → o ≡ Some x → IfSome o P → P x
 of_some o x P is p = subst (λ q. IfSome q P) is p

@@ -87,6 +87,18 @@ Named = List ℕ × json.Json
 abbrev pub named_values : List (List ℕ × Bor (Tree Global)) → List Named
 named_values ms = map (λ m. (m.0, quoted_view m.1.now)) ms
 
+-- the same of members as a text gives them
+abbrev pub given_values : List (Bor (List ℕ) × Tree Global) → List Named
+given_values ms = map (λ m. (m.0.now, quoted_view m.1)) ms
+
+-- it is one of them
+abbrev pub IsAmong : List Named → Named → Type 0
+IsAmong all m = (front back : List Named) × (all ≡ front ++ m ∷ back)
+
+-- each of these is one of them
+abbrev pub AreAmong : List Named → List Named → Type 0
+AreAmong all ms = AllByRecursion (λ m. IsAmong all m) ms
+
 -- the members of their data
 abbrev pub data_members : List Named → Members
 data_members [] = no_members

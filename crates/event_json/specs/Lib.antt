@@ -1,6 +1,5 @@
 -- what only proofs and private contracts use
 pub mod CompactText
 pub mod Direct
-pub mod PrintedTime
 pub mod Put
 pub mod Quoted

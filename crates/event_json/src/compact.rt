@@ -7,7 +7,7 @@ ghost use Rattle.event_json.specs.Direct.{named_values};
 ghost use Rattle.event_json.specs.Quoted.{quoted_value, quoted_view, quoted_items_view, quoted_members_view};
 
 use crate::numbers::{decimal_in, whole_in};
-use crate::ordered::{Member, in_order, may_be_decimal};
+use crate::ordered::{Member, may_be_decimal, one_by_one};
 use base_types::{OutOfMemory, push_flag, push_quoted};
 use json::Value as Tree;
 use std::alloc::Global;
@@ -111,7 +111,7 @@ pub fn push_object<'m, 't>(
     if depth == 0 {
         return Ok(false);
     }
-    let Some(ordered) = in_order(alloc, members)? else {
+    let Some(ordered) = one_by_one(alloc, members)? else {
         return Ok(false);
     };
     if may_be_decimal(&ordered) {

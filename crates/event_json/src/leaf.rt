@@ -14,8 +14,7 @@ ghost use Rattle.event_json.specs.Direct.{named_values, is_extra, PutsCleaned, P
 use crate::line::Line;
 use crate::list_items::{items_of, quoted_decimal};
 use crate::numbers::{decimal_in, whole_in};
-use crate::ordered::{Member, in_order, may_be_decimal};
-use crate::printed_time::is_printed_time;
+use crate::ordered::{Member, may_be_decimal, one_by_one};
 use base_types::OutOfMemory;
 use event_model::{flattens, is_dropped_text};
 use field_types::{FieldFault, FieldKey, FieldType, Kept, Value, keep, sanitise_own};
@@ -122,16 +121,6 @@ fn push_kept(
     }
 }
 
-// What a kind makes of a stripped text. A time that stands there as it is printed isn't printed anew.
-fn keep_text(alloc: Global, kind: FieldType, text: &str) -> Result<Kept, FieldFault>
-    ensures { IsKeptAs (of_text kind text.now) text.now result }
-{
-    match kind {
-        FieldType::DateTime if is_printed_time(text) => Ok(Kept::Same),
-        _ => keep(alloc, kind, text),
-    }
-}
-
 // Puts a field with its canonical value for a text.
 fn push_text(
     alloc: Global,
@@ -153,7 +142,7 @@ fn push_text(
         key,
         is_of_table(key, kind),
         stripped,
-        keep_text(alloc, kind, stripped),
+        keep(alloc, kind, stripped),
         line,
     )
 }
@@ -215,7 +204,7 @@ fn push_object<'m, 't>(
     if depth == 0 || !flattens(key.as_str().as_bytes()) {
         return Ok(false);
     }
-    let Some(ordered) = in_order(alloc, members)? else {
+    let Some(ordered) = one_by_one(alloc, members)? else {
         return Ok(false);
     };
     if may_be_decimal(&ordered) {

@@ -1,6 +1,7 @@
 //! The lenient reading of messages, as JSON comes in feeds: to canonical texts, or to messages.
 #![tactic(auto)]
 
+mod at_once;
 mod clean;
 mod compact;
 mod direct;
@@ -11,7 +12,6 @@ mod members;
 mod message_line;
 mod numbers;
 mod ordered;
-mod printed_time;
 mod text_line;
 
 pub use clean::{Cleaner, clean_message};

@@ -8,6 +8,7 @@ ghost use Rattle.event_model.specs.Trees.{lexeme_in};
 ghost use Rattle.event_json.specs.Quoted.{quoted_view};
 ghost use Rattle.event_json.specs.Direct.{data_members, named_values, PutsMember, ReadsInOrder};
 
+use crate::at_once::at_once;
 use base_types::OutOfMemory;
 use field_types::FieldKey;
 use json::Value;
@@ -28,7 +29,8 @@ fn compare(member: &Member<'_, '_>, name: &FieldKey<'_>) -> Ordering
     member.0.compare(name)
 }
 
-// How many of members in byte order of their names stand before a name, if none has it. It looks from the end.
+// How many of members in byte order of their names stand before a name, if none has it. It looks from the end, since
+// most names rise.
 fn place_of(members: &[Member<'_, '_>], name: &FieldKey<'_>) -> Option<usize>
     requires { is_sorted (slice_cmp nat_cmp) (named_values members.now) ≡ true }
     ensures { IfSome result (BelongsAt name.now (named_values members.now)) }
@@ -44,56 +46,27 @@ fn place_of(members: &[Member<'_, '_>], name: &FieldKey<'_>) -> Option<usize>
     Some(0)
 }
 
-// The same. It looks from the front.
-fn place_from(members: &[Member<'_, '_>], name: &FieldKey<'_>) -> Option<usize>
-    requires { is_sorted (slice_cmp nat_cmp) (named_values members.now) ≡ true }
-    ensures { IfSome result (BelongsAt name.now (named_values members.now)) }
-{
-    let mut rest = members;
-    'members: while let [first, more @ ..] = rest {
-        match compare(first, name) {
-            Ordering::Less => rest = more,
-            Ordering::Equal => return None,
-            Ordering::Greater => return Some(members.len() - rest.len()),
-        }
-    }
-    Some(members.len())
-}
-
-// The same. It looks from the place of the last name on: most names are near.
-fn place_near(members: &[Member<'_, '_>], name: &FieldKey<'_>, near: usize) -> Option<usize>
-    requires sorted { is_sorted (slice_cmp nat_cmp) (named_values members.now) ≡ true }
-    requires within { near ≤ length members.now }
-    ensures { IfSome result (BelongsAt name.now (named_values members.now)) }
-{
-    let (front, back) = members.split_at(near);
-    match place_from(back, name)? {
-        0 => place_of(front, name),
-        passed => Some(near + passed),
-    }
-}
-
-// Puts a member to its place, near the last one's, which it gives, unless its name is there already.
+// Puts a member to its place, unless its name is there already.
 fn put<'m, 't>(
     found: &mut Vec<Member<'m, 't>>,
-    near: usize,
     name: FieldKey<'t>,
     value: &'m Value<'t>,
-) -> Result<Option<usize>, OutOfMemory>
-    requires sorted { is_sorted (slice_cmp nat_cmp) (named_values found.old.items) ≡ true }
-    requires within { near ≤ length found.old.items }
-    ensures within { IfOk result (λ at. IfSome at (λ i. i ≤ length found.new.items)) }
-    ensures puts { IfOk result (λ at. IfSome at (λ _. PutsMember name.entry (quoted_view value.now) (named_values found.old.items) (named_values found.new.items))) }
+) -> Result<bool, OutOfMemory>
+    requires { is_sorted (slice_cmp nat_cmp) (named_values found.old.items) ≡ true }
+    ensures { IfOk result (λ is_new. is_new ≡ true → PutsMember name.entry (quoted_view value.now) (named_values found.old.items) (named_values found.new.items)) }
 {
-    let Some(at) = place_near(found, &name, near) else {
-        return Ok(None);
-    };
-    found.insert(at, (name, value))?;
-    Ok(Some(at))
+    match place_of(found, &name) {
+        Some(at) => {
+            found.insert(at, (name, value))?;
+            Ok(true)
+        }
+        None => Ok(false),
+    }
 }
 
-/// The members in byte order of their names: nothing where a name stands twice, or where there are too many.
-pub fn in_order<'m, 't>(
+/// The members in byte order of their names, put in order one by one: nothing where a name stands twice, or where there
+/// are too many.
+pub fn one_by_one<'m, 't>(
     alloc: Global,
     members: &'m [(&'t str, Value<'t>)],
 ) -> Result<Option<Vec<Member<'m, 't>>>, OutOfMemory>
@@ -103,16 +76,27 @@ pub fn in_order<'m, 't>(
         return Ok(None);
     }
     let mut found = Vec::with_capacity(alloc, members.len())?;
-    let mut near = 0;
     let mut rest = members;
     'members: while let [member, more @ ..] = rest {
-        let Some(at) = put(&mut found, near, FieldKey::new(member.0), &member.1)? else {
+        if !put(&mut found, FieldKey::new(member.0), &member.1)? {
             return Ok(None);
-        };
-        near = at;
+        }
         rest = more;
     }
     Ok(Some(found))
+}
+
+/// The same. It is quicker where most names are of the table of fields.
+pub fn in_order<'m, 't>(
+    alloc: Global,
+    members: &'m [(&'t str, Value<'t>)],
+) -> Result<Option<Vec<Member<'m, 't>>>, OutOfMemory>
+    ensures { IfOk result (λ found. IfSome found (λ ordered. ReadsInOrder members.now (named_values ordered.items))) }
+{
+    match at_once(alloc, members)? {
+        Some(found) => Ok(Some(found)),
+        None => one_by_one(alloc, members),
+    }
 }
 
 /// Whether the members may be those of a decimal under quotes.

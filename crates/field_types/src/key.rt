@@ -1,8 +1,8 @@
-ghost use Rattle.std.specs.Prelude.{◌≡◌, IfSome};
+ghost use Rattle.std.specs.Prelude.{◌≡◌, Some, IfSome, option_map, slice_get};
 ghost use Rattle.std.specs.Ordering.{nat_cmp};
 ghost use Rattle.std.specs.Cmp.Lexicographic.{slice_cmp};
 ghost use Rattle.field_types.specs.Field.{type_of};
-ghost use Rattle.field_types.specs.Names.{IsRowOf};
+ghost use Rattle.field_types.specs.Names.{IsRowOf, row_name, rows};
 
 use crate::FieldType;
 use crate::field::{Row, name_of, row_of, type_of_bytes};
@@ -11,7 +11,7 @@ use std::marker::Model;
 
 /// A name to look for, which may be that of a field. Contracts see its bytes. Two names of the table of fields are compared
 /// by the numbers of their rows, which is as by their bytes.
-#[derive(Drop)]
+#[derive(Clone, Drop)]
 pub struct FieldKey<'t> {
     text: &'t str,
     row: Option<Row>,
@@ -54,6 +54,16 @@ impl<'t> FieldKey<'t> {
         match self.row {
             Some(row) => Some(row.kind),
             None => type_of_bytes(self.text.as_bytes()),
+        }
+    }
+
+    /// The number of its row of the table of fields, if it is known as a name of the table.
+    pub fn number(&self) -> Option<u8>
+        ensures { IfSome result (λ n. option_map row_name (slice_get rows n) ≡ Some self.now) }
+    {
+        match self.row {
+            Some(row) => Some(row.number),
+            None => None,
         }
     }
 

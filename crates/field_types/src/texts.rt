@@ -13,8 +13,8 @@ use crate::{FieldFault, FieldType, Value};
 use base_types::Text;
 use scalar_net::{print_ip, print_network, read_asn, read_fqdn, read_ip, read_network, read_url};
 use scalar_text::{
-    class_word, print_time, read_decimal, read_flag, read_port, read_raw, read_time, read_whole,
-    registry_word, taxonomy_word, tlp_word,
+    class_word, is_printed_time, print_time, read_decimal, read_flag, read_port, read_raw,
+    read_time, read_whole, registry_word, taxonomy_word, tlp_word,
 };
 use std::alloc::Global;
 
@@ -190,10 +190,13 @@ fn url(alloc: Global, text: &str) -> Result<Kept, FieldFault>
 fn time(alloc: Global, text: &str) -> Result<Kept, FieldFault>
     ensures { IsKeptAs (of_text kind.DateTime text.now) text.now result }
 {
-    match read_time(text.as_bytes()) {
-        Ok(seconds) => Ok(text_of(print_time(alloc, seconds)?)),
-        Err(_) => Err(FieldFault::BadValue),
+    let Ok(seconds) = read_time(text.as_bytes()) else {
+        return Err(FieldFault::BadValue);
+    };
+    if is_printed_time(text.as_bytes()) {
+        return Ok(Kept::Same);
     }
+    Ok(text_of(print_time(alloc, seconds)?))
 }
 
 fn raw(alloc: Global, text: &str) -> Result<Kept, FieldFault>

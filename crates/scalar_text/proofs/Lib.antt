@@ -15,3 +15,4 @@ pub mod Spellings
 pub mod Stripped
 pub mod TimeForms
 pub mod Times
+pub mod TimesAsPrinted

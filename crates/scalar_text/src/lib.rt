@@ -20,8 +20,8 @@ pub use printing::{
 pub use quote::{has_decimals, quote_decimals, quoting_again_changes_nothing};
 pub use raw::{read_raw, write_raw};
 pub use time::{
-    TimeFault, print_time, printed_time_reads_back, read_time, time_forms_are_exact,
-    time_of_a_text_is_one,
+    TimeFault, is_printed_time, print_time, printed_time_reads_back, read_time,
+    time_forms_are_exact, time_of_a_text_is_one,
 };
 pub use words::{
     CLASSES, FLAG_WORDS, REGISTRY_WORDS, TLP_WORDS, class_word, clean_words_stay, read_class,

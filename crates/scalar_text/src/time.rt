@@ -308,6 +308,19 @@ pub fn print_time(alloc: Global, seconds: u64) -> Result<Text, OutOfMemory>
     utc_text(alloc, DateTime { date, time })
 }
 
+fn is_utc(offset: &[u8]) -> bool
+    ensures { IsTrue result ↔ offset.now ≡ codes "+00:00" }
+{
+    offset == b"+00:00".as_slice()
+}
+
+/// Whether a text that writes a time is as `print_time` writes that. It takes no memory.
+pub fn is_printed_time(text: &[u8]) -> bool
+    ensures { (seconds : ℕ) → time_in text.now ≡ Some seconds → (IsTrue result ↔ text.now ≡ time_text seconds) }
+{
+    is_byte(part(text, 10, 1), b'T') && is_utc(behind(text, 19))
+}
+
 /// What `print_time` writes is read as the same time.
 pub fn printed_time_reads_back(seconds: u64, text: &[u8])
     requires last { seconds ≤ 315_537_897_599 }

@@ -1,4 +1,5 @@
 use crate::fixtures::{NOW, break_book, fill, flush_two, latest_behind};
+use crate::same::same;
 use base_types::Blob;
 use edge_memory::MemDisk;
 use journal_book::BookFault;
@@ -26,17 +27,18 @@ const NEW_ROOT: &[u8] = b"IMQJ\0\0\0\x01\0\0\0\0\0\0\0\0\x01\0\0\0\0\0\0\0\x08\0
 fn a_new_store_has_its_generation_and_then_its_root(rt: HostRuntime) -> Result<(), Fail> {
     let alloc = rt.alloc();
     let (code, disk) = made(alloc)?;
-    assert_eq!(rt; NEW_ROOT.len(), 34);
-    assert_eq!(rt; disk.file(alloc, ROOT)?.as_slice(), NEW_ROOT);
+    same(&rt, NEW_ROOT.len(), 34);
+    same(&rt, disk.file(alloc, ROOT)?.as_slice(), NEW_ROOT);
     let generation = disk.file(alloc, GENERATION)?;
 
     // Behind a header, a gate and a length stands the state, and a closed gate behind that.
     let body = generation.get(25..).unwrap_or(&[]);
-    assert_eq!(rt;
+    same(
+        &rt,
         body.strip_prefix(code.bytes()).unwrap_or(&[]),
-        [0].as_slice()
+        [0].as_slice(),
     );
-    assert_eq!(rt; disk.calls(), MADE);
+    same(&rt, disk.calls(), MADE);
     assert!(rt; !disk.starved());
     Ok(())
 }
@@ -46,7 +48,7 @@ fn a_store_is_not_made_over_another(rt: HostRuntime) -> Result<(), Fail> {
     let alloc = rt.alloc();
     let (_, disk) = made(alloc)?;
     let fault = create_fault(alloc, disk, TinyRules, &tiny(alloc)?);
-    assert_eq!(rt; fault, Some(BookFault::Store { have: 34 }));
+    same(&rt, fault, Some(BookFault::Store { have: 34 }));
     Ok(())
 }
 
@@ -55,7 +57,7 @@ fn a_bundle_without_a_plan_makes_no_store(rt: HostRuntime) -> Result<(), Fail> {
     let alloc = rt.alloc();
     let bundle = Blob::new(alloc, b"none")?;
     let fault = create_fault(alloc, MemDisk::new(alloc), TinyRules, &bundle);
-    assert_eq!(rt; fault, Some(BookFault::Refused));
+    same(&rt, fault, Some(BookFault::Refused));
     Ok(())
 }
 
@@ -88,15 +90,15 @@ fn a_flush_is_one_record_of_all_that_waits(rt: HostRuntime) -> Result<(), Fail> 
     let (_, new) = made(alloc)?;
     let new = new.file(alloc, GENERATION)?;
     let (codes, disk) = flush_two(&rt, alloc, MemDisk::new(alloc), TinyRules, &tiny(alloc)?)?;
-    assert_eq!(rt; codes.as_slice(), STARTS);
+    same(&rt, codes.as_slice(), STARTS);
 
     // Before the gate of the record the file is as it was.
     let past = front(&new, new.len().saturating_sub(1));
     let file = disk.file(alloc, GENERATION)?;
-    assert_eq!(rt; file.strip_prefix(past).unwrap_or(&[]), RECORD);
+    same(&rt, file.strip_prefix(past).unwrap_or(&[]), RECORD);
 
     // A flush of nothing makes no call.
-    assert_eq!(rt; disk.calls(), MADE + 4);
+    same(&rt, disk.calls(), MADE + 4);
     Ok(())
 }
 

@@ -1,6 +1,7 @@
 //! What books do, over any disk and any rules, so that no proof looks into those of the tests: each of these makes a store, lets a
 //! book do something, and gives the disk back.
 
+use crate::same::same;
 use base_types::Blob;
 use edge_traits::Disk;
 use journal_book::Book;
@@ -15,19 +16,19 @@ pub const NOW: u64 = 1_700_000_000;
 // Stages so many steps, which get the next numbers.
 fn start_all<D: Disk, R: Rules>(rt: &impl Abort, book: &mut Book<D, R>, steps: u8) {
     'steps: for number in 1..=steps {
-        assert_eq!(rt; start(book, NOW), Answer::Number(u64::from(number)));
+        same(rt, start(book, NOW), Answer::Number(u64::from(number)));
     }
 }
 
 fn check_waiting<D: Disk, R: Rules>(rt: &impl Abort, book: &Book<D, R>, want: (u64, u64)) {
     let (steps, bytes) = book.unflushed();
-    assert_eq!(rt; steps, want.0);
-    assert_eq!(rt; bytes, want.1);
+    same(rt, steps, want.0);
+    same(rt, bytes, want.1);
 }
 
 fn check_flush<D: Disk, R: Rules>(rt: &impl Abort, book: &mut Book<D, R>, number: u64) {
-    assert_eq!(rt; flush(book), Answer::Number(number));
-    assert_eq!(rt; book.durable(), number);
+    same(rt, flush(book), Answer::Number(number));
+    same(rt, book.durable(), number);
 }
 
 /// A limit of 50 bytes takes five steps of nine, and no sixth.
@@ -40,7 +41,7 @@ pub fn fill<D: Disk + Drop, R: Rules>(
 ) -> Result<(), Fail> {
     let mut book = created(alloc, disk, rules, bundle, 50)?;
     start_all(rt, &mut book, 5);
-    assert_eq!(rt; start(&mut book, NOW), Answer::Full(54));
+    same(rt, start(&mut book, NOW), Answer::Full(54));
     check_waiting(rt, &book, (5, 45));
     check_flush(rt, &mut book, 5);
     check_waiting(rt, &book, (0, 0));

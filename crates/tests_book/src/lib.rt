@@ -6,4 +6,6 @@ mod books;
 #[cfg(test)]
 mod fixtures;
 #[cfg(test)]
+mod same;
+#[cfg(test)]
 mod sealed;

@@ -8,4 +8,6 @@ mod fixtures;
 #[cfg(test)]
 mod redone;
 #[cfg(test)]
+mod same;
+#[cfg(test)]
 mod shown;

@@ -1,4 +1,5 @@
 use crate::fixtures::{numbers, sink, store_of};
+use crate::same::same;
 use base_types::NumberList;
 use edge_memory::MemDisk;
 use std::alloc::Global;
@@ -16,21 +17,22 @@ fn a_dump_is_redone_once(rt: HostRuntime) -> Result<(), Fail> {
     let alloc = rt.alloc();
     let mut out = sink(alloc);
     let (end, disk) = redo(alloc, store_of(alloc, DUMPED)?, TinyRules, 1, 200, &mut out);
-    assert_eq!(rt; end, StoreEnd::Done);
-    assert_eq!(rt;
+    same(&rt, end, StoreEnd::Done);
+    same(
+        &rt,
         out.bytes(),
-        b"steps 10\nbundle 1\nmessages 2\nwaiting 2\nin hand 0\ndumped 0\nprocessed 0\nlines 0\n".as_slice()
+        b"steps 10\nbundle 1\nmessages 2\nwaiting 2\nin hand 0\ndumped 0\nprocessed 0\nlines 0\n".as_slice(),
     );
 
     let mut out = sink(alloc);
     let (end, disk) = redo(alloc, disk, TinyRules, 1, 200, &mut out);
-    assert_eq!(rt; end, StoreEnd::NoDump { no: 1 });
+    same(&rt, end, StoreEnd::NoDump { no: 1 });
     assert!(rt; out.bytes().is_empty());
 
     // The step is kept.
     let mut out = sink(alloc);
     let (end, _disk) = show(alloc, disk, TinyRules, Shown::State, &mut out);
-    assert_eq!(rt; end, StoreEnd::Done);
+    same(&rt, end, StoreEnd::Done);
     assert!(rt;
         out.bytes().ends_with(b"queue parse-queue 2\nfeed collect 1 3 finished\nout write 0 0\n")
     );
@@ -48,7 +50,7 @@ fn another_dump_is_not_there(rt: HostRuntime) -> Result<(), Fail> {
         200,
         &mut sink(alloc),
     );
-    assert_eq!(rt; end, StoreEnd::NoDump { no: 2 });
+    same(&rt, end, StoreEnd::NoDump { no: 2 });
     Ok(())
 }
 
@@ -63,7 +65,7 @@ fn a_disk_without_a_store_has_no_dump(rt: HostRuntime) -> Result<(), Fail> {
         200,
         &mut sink(alloc),
     );
-    assert_eq!(rt; end, StoreEnd::Store { have: 0 });
+    same(&rt, end, StoreEnd::Store { have: 0 });
     Ok(())
 }
 

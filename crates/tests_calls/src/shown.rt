@@ -1,4 +1,5 @@
 use crate::fixtures::{numbers, sink};
+use crate::same::same;
 use base_types::Blob;
 use edge_memory::{MemDisk, MemSink};
 use edge_traits::{Disk, Sink};
@@ -41,10 +42,11 @@ fn the_state_of_a_new_store(rt: HostRuntime) -> Result<(), Fail> {
     let alloc = rt.alloc();
     let mut out = sink(alloc);
     let end = shown(alloc, store(alloc)?, TinyRules, Shown::State, &mut out);
-    assert_eq!(rt; end, StoreEnd::Done);
-    assert_eq!(rt;
+    same(&rt, end, StoreEnd::Done);
+    same(
+        &rt,
         out.bytes(),
-        b"steps 0\nbundle 1\nmessages 0\nwaiting 0\nin hand 0\ndumped 0\nprocessed 0\nlines 0\nfeed collect 1 0 going\nout write 0 0\n".as_slice()
+        b"steps 0\nbundle 1\nmessages 0\nwaiting 0\nin hand 0\ndumped 0\nprocessed 0\nlines 0\nfeed collect 1 0 going\nout write 0 0\n".as_slice(),
     );
     Ok(())
 }
@@ -54,7 +56,7 @@ fn a_new_store_has_no_dumps(rt: HostRuntime) -> Result<(), Fail> {
     let alloc = rt.alloc();
     let mut out = sink(alloc);
     let end = shown(alloc, store(alloc)?, TinyRules, Shown::Dumps, &mut out);
-    assert_eq!(rt; end, StoreEnd::Done);
+    same(&rt, end, StoreEnd::Done);
     assert!(rt; out.bytes().is_empty());
     Ok(())
 }
@@ -70,7 +72,7 @@ fn an_empty_disk_is_no_store(rt: HostRuntime) -> Result<(), Fail> {
         Shown::State,
         &mut out,
     );
-    assert_eq!(rt; end, StoreEnd::Store { have: 0 });
+    same(&rt, end, StoreEnd::Store { have: 0 });
     assert!(rt; out.bytes().is_empty());
     Ok(())
 }
@@ -89,7 +91,7 @@ fn a_damaged_root_is_told(rt: HostRuntime) -> Result<(), Fail> {
     damaged(&mut disk)?;
     let mut out = sink(alloc);
     let end = shown(alloc, disk, TinyRules, Shown::Dumps, &mut out);
-    assert_eq!(rt; end, StoreEnd::Damaged { file: 0, at: 0 });
+    same(&rt, end, StoreEnd::Damaged { file: 0, at: 0 });
     Ok(())
 }
 
@@ -101,7 +103,7 @@ fn a_disk_that_fails_is_told(rt: HostRuntime) -> Result<(), Fail> {
     disk.plan(numbers(alloc, next)?, None);
     let mut out = sink(alloc);
     let end = shown(alloc, disk, TinyRules, Shown::State, &mut out);
-    assert_eq!(rt; end, StoreEnd::Disk);
+    same(&rt, end, StoreEnd::Disk);
     Ok(())
 }
 
@@ -110,6 +112,6 @@ fn an_output_that_fails_is_told(rt: HostRuntime) -> Result<(), Fail> {
     let alloc = rt.alloc();
     let mut out = MemSink::new(alloc, numbers(alloc, 1)?);
     let end = shown(alloc, store(alloc)?, TinyRules, Shown::State, &mut out);
-    assert_eq!(rt; end, StoreEnd::Sink);
+    same(&rt, end, StoreEnd::Sink);
     Ok(())
 }

@@ -1,3 +1,4 @@
+use crate::same::same;
 use base_types::{
     Blob, BotName, FaultNote, ListOf, Moment, Msg, NoteList, QueueName, SendList, Text,
 };
@@ -236,8 +237,8 @@ fn check_read(
     let Some((found, len)) = again(alloc, kind, bytes)? else {
         return Err(Fail::from("bad"));
     };
-    assert_eq!(rt; found.bytes(), code);
-    assert_eq!(rt; len, code.len());
+    same(rt, found.bytes(), code);
+    same(rt, len, code.len());
     Ok(())
 }
 
@@ -275,15 +276,15 @@ pub fn check_step(
     pieces: &[Piece],
 ) -> Result<(), Fail> {
     let code = joined(alloc, pieces)?;
-    assert_eq!(rt; encode_step(alloc, step)?.bytes(), code.as_slice());
+    same(rt, encode_step(alloc, step)?.bytes(), code.as_slice());
     check_code(rt, alloc, Kind::Step, &code)
 }
 
 #[test]
 fn a_take_has_25_bytes(rt: HostRuntime) -> Result<(), Fail> {
     let alloc = rt.alloc();
-    assert_eq!(rt; TAKE_CODE.len(), 25);
-    assert_eq!(rt; joined(alloc, &TAKE)?.as_slice(), TAKE_CODE);
+    same(&rt, TAKE_CODE.len(), 25);
+    same(&rt, joined(alloc, &TAKE)?.as_slice(), TAKE_CODE);
     let step = Step {
         moment: Moment(1_700_000_000),
         what: StepKind::Take {
@@ -294,8 +295,8 @@ fn a_take_has_25_bytes(rt: HostRuntime) -> Result<(), Fail> {
     };
     check_step(&rt, alloc, &step, &TAKE)?;
     let (again, len) = decode_step(alloc, TAKE_CODE)?;
-    assert_eq!(rt; len, 25);
-    assert_eq!(rt; again.moment, Moment(1_700_000_000));
+    same(&rt, len, 25);
+    same(&rt, again.moment, Moment(1_700_000_000));
     let StepKind::Take {
         bot,
         instance,
@@ -304,8 +305,8 @@ fn a_take_has_25_bytes(rt: HostRuntime) -> Result<(), Fail> {
     else {
         return Err(Fail::from("another kind"));
     };
-    assert_eq!(rt; bot.bytes(), b"parse".as_slice());
-    assert_eq!(rt; (*instance, *message), (1, 1));
+    same(&rt, bot.bytes(), b"parse".as_slice());
+    same(&rt, (*instance, *message), (1, 1));
     Ok(())
 }
 
@@ -318,7 +319,7 @@ fn a_start_has_no_field(rt: HostRuntime) -> Result<(), Fail> {
     };
     check_step(&rt, alloc, &step, &START)?;
     let (again, _) = decode_step(alloc, &joined(alloc, &START)?)?;
-    assert_eq!(rt; again.moment, Moment(2));
+    same(&rt, again.moment, Moment(2));
     assert!(rt; matches!(again.what, StepKind::Start));
     Ok(())
 }
@@ -346,9 +347,9 @@ fn a_piece_is_collected(rt: HostRuntime) -> Result<(), Fail> {
     else {
         return Err(Fail::from("another kind"));
     };
-    assert_eq!(rt; bot.bytes(), b"feodo".as_slice());
-    assert_eq!(rt; (*from, *upto), (4_294_967_296, 4_294_967_301));
-    assert_eq!(rt; piece.bytes(), b"a,b\r\n".as_slice());
+    same(&rt, bot.bytes(), b"feodo".as_slice());
+    same(&rt, (*from, *upto), (4_294_967_296, 4_294_967_301));
+    same(&rt, piece.bytes(), b"a,b\r\n".as_slice());
     Ok(())
 }
 
@@ -364,12 +365,12 @@ fn a_feed_ends(rt: HostRuntime) -> Result<(), Fail> {
     };
     check_step(&rt, alloc, &step, &FEED_END)?;
     let (again, _) = decode_step(alloc, &joined(alloc, &FEED_END)?)?;
-    assert_eq!(rt; again.moment, Moment(u64::MAX));
+    same(&rt, again.moment, Moment(u64::MAX));
     let StepKind::FeedEnd { bot, position } = &again.what else {
         return Err(Fail::from("another kind"));
     };
-    assert_eq!(rt; bot.bytes(), b"f".as_slice());
-    assert_eq!(rt; *position, 9_223_372_036_854_775_808);
+    same(&rt, bot.bytes(), b"f".as_slice());
+    same(&rt, *position, 9_223_372_036_854_775_808);
     Ok(())
 }
 
@@ -427,16 +428,16 @@ fn check_given(rt: &impl Abort, sends: &SendList, dumps: &NoteList) -> Result<()
     let [first, second] = sends.as_slice() else {
         return Err(Fail::from("not two sends"));
     };
-    assert_eq!(rt; first.0.bytes(), b"first-queue".as_slice());
-    assert_eq!(rt; first.1.bytes(), b"a\0\xff".as_slice());
-    assert_eq!(rt; second.0.bytes(), b"second-queue".as_slice());
-    assert_eq!(rt; second.1.bytes(), b"".as_slice());
+    same(rt, first.0.bytes(), b"first-queue".as_slice());
+    same(rt, first.1.bytes(), b"a\0\xff".as_slice());
+    same(rt, second.0.bytes(), b"second-queue".as_slice());
+    same(rt, second.1.bytes(), b"".as_slice());
     let [dump] = dumps.as_slice() else {
         return Err(Fail::from("not one dump"));
     };
-    assert_eq!(rt; dump.0.bytes(), b"part".as_slice());
-    assert_eq!(rt; dump.1.code, 258);
-    assert_eq!(rt; dump.1.text.as_str(), "naïve");
+    same(rt, dump.0.bytes(), b"part".as_slice());
+    same(rt, dump.1.code, 258);
+    same(rt, dump.1.text.as_str(), "naïve");
     Ok(())
 }
 
@@ -457,8 +458,12 @@ fn a_done_step_is_read_field_by_field(rt: HostRuntime) -> Result<(), Fail> {
     else {
         return Err(Fail::from("another kind"));
     };
-    assert_eq!(rt; bot.bytes(), b"dedup.A_1".as_slice());
-    assert_eq!(rt; (*instance, *message, *bundle), (255, 256, u64::MAX - 1));
+    same(&rt, bot.bytes(), b"dedup.A_1".as_slice());
+    same(
+        &rt,
+        (*instance, *message, *bundle),
+        (255, 256, u64::MAX - 1),
+    );
     check_given(&rt, sends, dumps)?;
     assert!(rt; *key == Some(Blob::new(alloc, b"key")?));
     assert!(rt; *line);
@@ -589,7 +594,7 @@ fn a_state_is_written_and_read(rt: HostRuntime) -> Result<(), Fail> {
         halted: halted(alloc)?,
     };
     let code = joined(alloc, &STATE)?;
-    assert_eq!(rt; encode_base(alloc, &base)?.bytes(), code.as_slice());
+    same(&rt, encode_base(alloc, &base)?.bytes(), code.as_slice());
     check_code(&rt, alloc, Kind::State, &code)
 }
 
@@ -616,22 +621,22 @@ fn an_empty_state_is_written_and_read(rt: HostRuntime) -> Result<(), Fail> {
         feeds: ListOf::new(alloc),
         halted: ListOf::new(alloc),
     };
-    assert_eq!(rt; EMPTY_STATE.len(), 72);
-    assert_eq!(rt; encode_base(alloc, &base)?.bytes(), EMPTY_STATE);
+    same(&rt, EMPTY_STATE.len(), 72);
+    same(&rt, encode_base(alloc, &base)?.bytes(), EMPTY_STATE);
     check_code(&rt, alloc, Kind::State, EMPTY_STATE)
 }
 
 // The numbers of the state `STATE`, its bundle, and how many items its lists have.
 fn check_counts(rt: &impl Abort, base: &Base) {
-    assert_eq!(rt; base.steps, 0x0102_0304_0506_0708);
-    assert_eq!(rt; (base.next_message, base.next_dump), (12, 3));
-    assert_eq!(rt; base.latest, Moment(1_700_000_000));
-    assert_eq!(rt; base.bundle_no, 256);
-    assert_eq!(rt; base.bundle.bytes(), b"bundle".as_slice());
-    assert_eq!(rt; (base.queues.len(), base.hands.len()), (2, 2));
-    assert_eq!(rt; (base.caches.len(), base.dumps.len()), (2, 1));
-    assert_eq!(rt; (base.outs.len(), base.feeds.len()), (2, 2));
-    assert_eq!(rt; base.halted.len(), 1);
+    same(rt, base.steps, 0x0102_0304_0506_0708);
+    same(rt, (base.next_message, base.next_dump), (12, 3));
+    same(rt, base.latest, Moment(1_700_000_000));
+    same(rt, base.bundle_no, 256);
+    same(rt, base.bundle.bytes(), b"bundle".as_slice());
+    same(rt, (base.queues.len(), base.hands.len()), (2, 2));
+    same(rt, (base.caches.len(), base.dumps.len()), (2, 1));
+    same(rt, (base.outs.len(), base.feeds.len()), (2, 2));
+    same(rt, base.halted.len(), 1);
 }
 
 // Its queues, hands, caches and dumps.
@@ -639,18 +644,18 @@ fn check_items(rt: &impl Abort, alloc: Global, base: &Base) -> Result<(), Fail> 
     let ([waiting, empty], [_, hand]) = (base.queues.as_slice(), base.hands.as_slice()) else {
         return Err(Fail::from("other queues or hands"));
     };
-    assert_eq!(rt; waiting.name.bytes(), b"parse-queue".as_slice());
-    assert_eq!(rt; (waiting.messages.len(), empty.messages.len()), (2, 0));
-    assert_eq!(rt; hand.bot.bytes(), b"expert".as_slice());
-    assert_eq!(rt; (hand.instance, hand.tries), (255, u32::MAX - 1));
+    same(rt, waiting.name.bytes(), b"parse-queue".as_slice());
+    same(rt, (waiting.messages.len(), empty.messages.len()), (2, 0));
+    same(rt, hand.bot.bytes(), b"expert".as_slice());
+    same(rt, (hand.instance, hand.tries), (255, u32::MAX - 1));
     assert!(rt; hand.message == message(alloc, 6, b"\xff\0\x01")?);
-    assert_eq!(rt; hand.since, Moment(1_700_000_000));
+    same(rt, hand.since, Moment(1_700_000_000));
     let ([cache, _], [dump]) = (base.caches.as_slice(), base.dumps.as_slice()) else {
         return Err(Fail::from("other caches or dumps"));
     };
-    assert_eq!(rt; cache.bot.bytes(), b"dedup".as_slice());
-    assert_eq!(rt; cache.marks.len(), 2);
-    assert_eq!(rt; (dump.no, dump.moment), (2, Moment(1_699_999_997)));
+    same(rt, cache.bot.bytes(), b"dedup".as_slice());
+    same(rt, cache.marks.len(), 2);
+    same(rt, (dump.no, dump.moment), (2, Moment(1_699_999_997)));
     assert!(rt; dump.message == message(alloc, 4, b"four")?);
     assert!(rt; dump.note == note(alloc)?);
     Ok(())
@@ -661,16 +666,16 @@ fn check_ends(rt: &impl Abort, base: &Base) -> Result<(), Fail> {
     let ([out, _], [feed, other]) = (base.outs.as_slice(), base.feeds.as_slice()) else {
         return Err(Fail::from("other outputs or feeds"));
     };
-    assert_eq!(rt; out.bot.bytes(), b"file".as_slice());
-    assert_eq!(rt; (out.sealed_bytes, out.sealed_lines), (4096, 16));
-    assert_eq!(rt; out.lines.len(), 2);
-    assert_eq!(rt; feed.bot.bytes(), b"feodo".as_slice());
-    assert_eq!(rt; (feed.round, feed.position), (1, 300));
-    assert_eq!(rt; (feed.finished, other.finished), (true, false));
+    same(rt, out.bot.bytes(), b"file".as_slice());
+    same(rt, (out.sealed_bytes, out.sealed_lines), (4096, 16));
+    same(rt, out.lines.len(), 2);
+    same(rt, feed.bot.bytes(), b"feodo".as_slice());
+    same(rt, (feed.round, feed.position), (1, 300));
+    same(rt, (feed.finished, other.finished), (true, false));
     let [halted] = base.halted.as_slice() else {
         return Err(Fail::from("other halted bots"));
     };
-    assert_eq!(rt; halted.bytes(), b"expert".as_slice());
+    same(rt, halted.bytes(), b"expert".as_slice());
     Ok(())
 }
 
@@ -701,7 +706,7 @@ fn check_changed(
     let Some((found, len)) = again(alloc, kind, &changed)? else {
         return Ok(false);
     };
-    assert_eq!(rt; found.bytes().len(), len);
+    same(rt, found.bytes().len(), len);
     assert!(rt;
         changed.starts_with(found.bytes()),
         "{bits} turned at {place}"
@@ -732,13 +737,13 @@ fn check_changes(
 #[test]
 fn a_changed_byte_is_bad_or_gives_another_value(rt: HostRuntime) -> Result<(), Fail> {
     let alloc = rt.alloc();
-    assert_eq!(rt; check_changes(&rt, alloc, Kind::Step, &START)?, 16);
-    assert_eq!(rt; check_changes(&rt, alloc, Kind::Step, &COLLECT)?, 65);
-    assert_eq!(rt; check_changes(&rt, alloc, Kind::Step, &FEED_END)?, 33);
-    assert_eq!(rt; check_changes(&rt, alloc, Kind::Step, &TAKE)?, 39);
-    assert_eq!(rt; check_changes(&rt, alloc, Kind::Step, &DONE)?, 102);
-    assert_eq!(rt; check_changes(&rt, alloc, Kind::Step, &BARE_DONE)?, 53);
-    assert_eq!(rt; check_changes(&rt, alloc, Kind::State, &STATE)?, 555);
+    same(&rt, check_changes(&rt, alloc, Kind::Step, &START)?, 16);
+    same(&rt, check_changes(&rt, alloc, Kind::Step, &COLLECT)?, 65);
+    same(&rt, check_changes(&rt, alloc, Kind::Step, &FEED_END)?, 33);
+    same(&rt, check_changes(&rt, alloc, Kind::Step, &TAKE)?, 39);
+    same(&rt, check_changes(&rt, alloc, Kind::Step, &DONE)?, 102);
+    same(&rt, check_changes(&rt, alloc, Kind::Step, &BARE_DONE)?, 53);
+    same(&rt, check_changes(&rt, alloc, Kind::State, &STATE)?, 555);
     Ok(())
 }
 
@@ -917,7 +922,7 @@ pub fn with_swap(
     let Some((_, piece)) = pieces.get(place) else {
         return Err(Fail::from("no such place"));
     };
-    assert_eq!(rt; *piece, was);
+    same(rt, *piece, was);
     swapped(alloc, pieces, place, by)
 }
 
@@ -1015,12 +1020,20 @@ fn check_all_lengths(
 #[test]
 fn a_length_past_the_end_is_bad(rt: HostRuntime) -> Result<(), Fail> {
     let alloc = rt.alloc();
-    assert_eq!(rt; check_all_lengths(&rt, alloc, Kind::Step, &START)?, 0);
-    assert_eq!(rt; check_all_lengths(&rt, alloc, Kind::Step, &COLLECT)?, 2);
-    assert_eq!(rt; check_all_lengths(&rt, alloc, Kind::Step, &FEED_END)?, 1);
-    assert_eq!(rt; check_all_lengths(&rt, alloc, Kind::Step, &TAKE)?, 1);
-    assert_eq!(rt; check_all_lengths(&rt, alloc, Kind::Step, &DONE)?, 10);
-    assert_eq!(rt; check_all_lengths(&rt, alloc, Kind::Step, &BARE_DONE)?, 3);
-    assert_eq!(rt; check_all_lengths(&rt, alloc, Kind::State, &STATE)?, 38);
+    same(&rt, check_all_lengths(&rt, alloc, Kind::Step, &START)?, 0);
+    same(&rt, check_all_lengths(&rt, alloc, Kind::Step, &COLLECT)?, 2);
+    same(
+        &rt,
+        check_all_lengths(&rt, alloc, Kind::Step, &FEED_END)?,
+        1,
+    );
+    same(&rt, check_all_lengths(&rt, alloc, Kind::Step, &TAKE)?, 1);
+    same(&rt, check_all_lengths(&rt, alloc, Kind::Step, &DONE)?, 10);
+    same(
+        &rt,
+        check_all_lengths(&rt, alloc, Kind::Step, &BARE_DONE)?,
+        3,
+    );
+    same(&rt, check_all_lengths(&rt, alloc, Kind::State, &STATE)?, 38);
     Ok(())
 }

@@ -4,4 +4,6 @@
 #[cfg(test)]
 mod codes;
 #[cfg(test)]
+mod same;
+#[cfg(test)]
 mod troubles;

@@ -8,6 +8,8 @@ mod checks;
 #[cfg(test)]
 mod recoveries;
 #[cfg(test)]
+mod same;
+#[cfg(test)]
 mod stops;
 #[cfg(test)]
 mod stores;

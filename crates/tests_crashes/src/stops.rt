@@ -2,6 +2,7 @@
 
 use crate::calls::call;
 use crate::checks::{Case, check_faults, check_stops};
+use crate::same::same;
 use crate::stores::{drained_store, drill_store, feed_shelf, new_store};
 use drill_feed::DrillShelf;
 use edge_memory::MemDisk;
@@ -17,8 +18,8 @@ fn a_drain_completes_the_file_of_its_output(rt: HostRuntime) -> Result<(), Fail>
     let mut shelf = feed_shelf(alloc)?;
     let case = Case::new(alloc, new_store(alloc)?, &mut shelf, How::Start)?;
     assert!(rt; case.steps.is_empty());
-    assert_eq!(rt; case.output.as_slice(), OUTPUT);
-    assert_eq!(rt; case.dumps.bytes(), DUMP);
+    same(&rt, case.output.as_slice(), OUTPUT);
+    same(&rt, case.dumps.bytes(), DUMP);
     Ok(())
 }
 
@@ -29,7 +30,7 @@ fn stop_at_each_call(rt: HostRuntime) -> Result<(), Fail> {
     let case = Case::new(alloc, new_store(alloc)?, &mut shelf, How::Start)?;
 
     // One flush makes all steps durable. Behind it the output's file is looked at, written, cut and synced.
-    assert_eq!(rt; check_stops(&rt, &case, &mut shelf, 0)?, 4);
+    same(&rt, check_stops(&rt, &case, &mut shelf, 0)?, 4);
     Ok(())
 }
 
@@ -49,8 +50,8 @@ fn stop_at_each_call_of_new_rounds(rt: HostRuntime) -> Result<(), Fail> {
     let case = Case::new(alloc, drained_store(alloc)?, &mut shelf, How::Rounds)?;
     assert!(rt; case.output.starts_with(OUTPUT));
     assert!(rt; case.output.ends_with(OUTPUT));
-    assert_eq!(rt; case.output.len() / 2, OUTPUT.len());
-    assert_eq!(rt; check_stops(&rt, &case, &mut shelf, 0)?, 4);
+    same(&rt, case.output.len() / 2, OUTPUT.len());
+    same(&rt, check_stops(&rt, &case, &mut shelf, 0)?, 4);
     Ok(())
 }
 
@@ -60,8 +61,8 @@ fn stop_at_each_call_of_an_idle_store(rt: HostRuntime) -> Result<(), Fail> {
     let alloc = rt.alloc();
     let mut shelf = feed_shelf(alloc)?;
     let case = Case::new(alloc, drained_store(alloc)?, &mut shelf, How::Start)?;
-    assert_eq!(rt; case.output.as_slice(), OUTPUT);
-    assert_eq!(rt; check_stops(&rt, &case, &mut shelf, 0)?, 4);
+    same(&rt, case.output.as_slice(), OUTPUT);
+    same(&rt, check_stops(&rt, &case, &mut shelf, 0)?, 4);
     Ok(())
 }
 
@@ -74,7 +75,7 @@ fn stop_at_each_call_of_the_flushes_of_a_drill(rt: HostRuntime) -> Result<(), Fa
     let mut shelf = DrillShelf::new(alloc, LINES, 7)?;
     let case = Case::new(alloc, drill_store(alloc)?, &mut shelf, How::Start)?;
     let opening = case.calls.saturating_sub(12);
-    assert_eq!(rt; check_stops(&rt, &case, &mut shelf, opening)?, 8);
+    same(&rt, check_stops(&rt, &case, &mut shelf, opening)?, 8);
     Ok(())
 }
 

@@ -1,4 +1,5 @@
 //! What drains make of feeds.
+use crate::same::same;
 use edge_memory::{MemDisk, MemShelf};
 use std::alloc::Global;
 use std::process::Abort;
@@ -27,7 +28,7 @@ fn a_feed_is_drained_into_lines_and_a_dump(rt: HostRuntime) -> Result<(), Fail> 
     let (seen, _disk) = drained(alloc, book, &mut shelf, start(), None);
     let seen = seen?;
     assert_whole(&rt, &seen, "one piece");
-    assert_eq!(rt; seen.summary.bytes(), SUMMARY);
+    same(&rt, seen.summary.bytes(), SUMMARY);
     Ok(())
 }
 
@@ -39,10 +40,11 @@ fn a_feed_is_drained_piece_by_piece(rt: HostRuntime) -> Result<(), Fail> {
     let book = made(alloc, &code)?;
     let (seen, _disk) = drained(alloc, book, &mut shelf, start(), None);
     let seen = seen?;
-    assert_eq!(rt; seen.ended, Ended::Idle);
-    assert_eq!(rt;
+    same(&rt, seen.ended, Ended::Idle);
+    same(
+        &rt,
         seen.summary.bytes(),
-        b"steps 25\nbundle 1\nmessages 10\nwaiting 0\nin hand 0\ndumped 1\nprocessed 9\nlines 4\n".as_slice()
+        b"steps 25\nbundle 1\nmessages 10\nwaiting 0\nin hand 0\ndumped 1\nprocessed 9\nlines 4\n".as_slice(),
     );
     Ok(())
 }
@@ -77,10 +79,11 @@ fn a_feed_is_read_anew_where_that_is_asked(rt: HostRuntime) -> Result<(), Fail> 
     let book = reopened(alloc, disk)?;
     let (seen, _disk) = drained(alloc, book, &mut shelf, start_again(), None);
     let seen = seen?;
-    assert_eq!(rt; seen.ended, Ended::Idle);
-    assert_eq!(rt;
+    same(&rt, seen.ended, Ended::Idle);
+    same(
+        &rt,
         seen.summary.bytes(),
-        b"steps 27\nbundle 1\nmessages 12\nwaiting 0\nin hand 0\ndumped 2\nprocessed 10\nlines 8\n".as_slice()
+        b"steps 27\nbundle 1\nmessages 12\nwaiting 0\nin hand 0\ndumped 2\nprocessed 10\nlines 8\n".as_slice(),
     );
     Ok(())
 }
@@ -98,14 +101,15 @@ fn a_message_of_a_bot_that_went_waits(rt: HostRuntime) -> Result<(), Fail> {
     let book = made(alloc, &code)?;
     let (seen, disk) = drained(alloc, book, &mut shelf, start(), Some(3));
     let seen = seen?;
-    assert_eq!(rt; seen.ended, Ended::Left);
+    same(&rt, seen.ended, Ended::Left);
     let book = reopened(alloc, disk)?;
     let (seen, _disk) = drained(alloc, book, &mut shelf, opening, None);
     let seen = seen?;
-    assert_eq!(rt; seen.ended, Ended::Idle);
-    assert_eq!(rt;
+    same(&rt, seen.ended, Ended::Idle);
+    same(
+        &rt,
         seen.summary.bytes(),
-        b"steps 6\nbundle 2\nmessages 1\nwaiting 1\nin hand 0\ndumped 0\nprocessed 0\nlines 0\n".as_slice()
+        b"steps 6\nbundle 2\nmessages 1\nwaiting 1\nin hand 0\ndumped 0\nprocessed 0\nlines 0\n".as_slice(),
     );
     Ok(())
 }

@@ -1,4 +1,5 @@
 //! The drill: its bundle, its feed, and what drains make of them.
+use crate::same::same;
 use base_types::{NumberList, Text};
 use bot_rules::IntelRules;
 use config_bundle::{Bundle, bundle_code};
@@ -25,10 +26,10 @@ fn bots(alloc: Global, bundle: &Bundle) -> Result<usize, Fail> {
 fn the_bundle_of_the_drill_loads(rt: HostRuntime) -> Result<(), Fail> {
     let alloc = rt.alloc();
     let bundle = drill_bundle(alloc)?;
-    assert_eq!(rt; bots(alloc, &bundle)?, 4);
+    same(&rt, bots(alloc, &bundle)?, 4);
     let rules = IntelRules::new();
     match rules.plan(alloc, &bundle_code(alloc, &bundle)?) {
-        Ok(plan) => assert_eq!(rt; rules.facts(&plan).len(), 4),
+        Ok(plan) => same(&rt, rules.facts(&plan).len(), 4),
         Err(_) => return Err(Fail::from("refused")),
     }
     Ok(())
@@ -47,10 +48,11 @@ fn drill(alloc: Global, lines: u32) -> Result<Seen, Fail> {
 fn a_drill_is_drained(rt: HostRuntime) -> Result<(), Fail> {
     let alloc = rt.alloc();
     let seen = drill(alloc, 100)?;
-    assert_eq!(rt; seen.ended, Ended::Idle);
-    assert_eq!(rt;
+    same(&rt, seen.ended, Ended::Idle);
+    same(
+        &rt,
         seen.summary.bytes(),
-        b"steps 401\nbundle 1\nmessages 200\nwaiting 0\nin hand 0\ndumped 1\nprocessed 199\nlines 99\n".as_slice()
+        b"steps 401\nbundle 1\nmessages 200\nwaiting 0\nin hand 0\ndumped 1\nprocessed 199\nlines 99\n".as_slice(),
     );
     Ok(())
 }
@@ -113,9 +115,10 @@ fn the_shelf_has_nothing_else(rt: HostRuntime) -> Result<(), Fail> {
         let fault = fault_of(alloc, &mut shelf, &text(alloc, other)?);
         assert_eq!(rt; fault, Some(ShelfFault::Absent), "{other}");
     }
-    assert_eq!(rt;
+    same(
+        &rt,
         fault_of(alloc, &mut shelf, &text(alloc, "feed.csv")?),
-        None
+        None,
     );
     Ok(())
 }

@@ -1,4 +1,5 @@
 //! Why drains end.
+use crate::same::same;
 use std::process::Abort;
 use std::test::Fail;
 use tests_drain_fixtures::{Ended, FEED, X, bundle, drained, made, reopened, shelf_of, start};
@@ -11,10 +12,11 @@ fn as_many_steps_are_made_as_may_be(rt: HostRuntime) -> Result<(), Fail> {
     let book = made(alloc, &code)?;
     let (seen, _disk) = drained(alloc, book, &mut shelf, start(), Some(3));
     let seen = seen?;
-    assert_eq!(rt; seen.ended, Ended::Left);
-    assert_eq!(rt;
+    same(&rt, seen.ended, Ended::Left);
+    same(
+        &rt,
         seen.summary.bytes(),
-        b"steps 3\nbundle 1\nmessages 1\nwaiting 0\nin hand 1\ndumped 0\nprocessed 0\nlines 0\n".as_slice()
+        b"steps 3\nbundle 1\nmessages 1\nwaiting 0\nin hand 1\ndumped 0\nprocessed 0\nlines 0\n".as_slice(),
     );
     Ok(())
 }
@@ -31,7 +33,7 @@ fn a_feed_that_is_shorter_ends_the_turns(rt: HostRuntime) -> Result<(), Fail> {
     let book = reopened(alloc, disk)?;
     let (seen, _disk) = drained(alloc, book, &mut shelf, start(), None);
     let seen = seen?;
-    assert_eq!(rt; seen.ended, Ended::Short(100, 149));
+    same(&rt, seen.ended, Ended::Short(100, 149));
     assert!(rt; seen.summary.bytes().starts_with(b"steps 13\n"));
     Ok(())
 }
@@ -44,7 +46,7 @@ fn a_feed_that_is_absent_ends_the_turns(rt: HostRuntime) -> Result<(), Fail> {
     let book = made(alloc, &code)?;
     let (seen, _disk) = drained(alloc, book, &mut shelf, start(), None);
     let seen = seen?;
-    assert_eq!(rt; seen.ended, Ended::Absent);
+    same(&rt, seen.ended, Ended::Absent);
     Ok(())
 }
 

@@ -7,3 +7,5 @@ mod drains;
 mod drills;
 #[cfg(test)]
 mod ends;
+#[cfg(test)]
+mod same;

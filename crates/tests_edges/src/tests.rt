@@ -1,5 +1,6 @@
 ghost use Rattle.std.specs.Prelude.{◌≡◌};
 
+use crate::same::same;
 use base_types::{Blob, NumberList, Text};
 use edge_memory::{Choice, MemClock, MemDisk, MemShelf, MemSink, MemSource, NoGate};
 use edge_traits::{Clock, Disk, Failed, Shelf, ShelfFault, Sink, Source};
@@ -228,7 +229,7 @@ fn check_image(
         want.as_bytes(),
         "after {after} calls, {choice:?}"
     );
-    assert_eq!(rt; image.calls(), 0);
+    same(rt, image.calls(), 0);
     let again = image.image(alloc, 0, &LONGEST)?;
     assert_eq!(rt;
         again.file(alloc, FILE)?.as_slice(),
@@ -399,18 +400,18 @@ fn reads_fall_short(rt: HostRuntime) -> Result<(), Fail> {
     let alloc = rt.alloc();
     let mut disk = MemDisk::new(alloc);
     make(alloc, &mut disk, Call::Write(0, "abcde"))??;
-    assert_eq!(rt; disk.len(FILE)?, 5);
-    assert_eq!(rt; disk.len(FILE + 1)?, 0);
+    same(&rt, disk.len(FILE)?, 5);
+    same(&rt, disk.len(FILE + 1)?, 0);
     for at in 0..8u64 {
         let mut buf = [0u8; 3];
         let n = disk.read_at(FILE, at, &mut buf)?;
         let want = &b"abcde"[(at as usize).min(5)..];
-        assert_eq!(rt; n, want.len().min(3));
+        same(&rt, n, want.len().min(3));
         if n <= 3 && n <= want.len() {
-            assert_eq!(rt; &buf[..n], &want[..n]);
+            same(&rt, &buf[..n], &want[..n]);
         }
     }
-    assert_eq!(rt; disk.calls(), 11);
+    same(&rt, disk.calls(), 11);
     Ok(())
 }
 
@@ -419,11 +420,11 @@ fn a_sink_takes_what_is_not_to_fail(rt: HostRuntime) -> Result<(), Fail> {
     let alloc = rt.alloc();
     let fail = numbers(alloc, &[2])?;
     let mut sink = MemSink::new(alloc, fail);
-    assert_eq!(rt; sink.write(b"abc")?, 3);
+    same(&rt, sink.write(b"abc")?, 3);
     assert!(rt; sink.write(b"def").is_err());
-    assert_eq!(rt; sink.write(b"")?, 0);
-    assert_eq!(rt; sink.write(b"gh")?, 2);
-    assert_eq!(rt; sink.bytes(), b"abcgh".as_slice());
+    same(&rt, sink.write(b"")?, 0);
+    same(&rt, sink.write(b"gh")?, 2);
+    same(&rt, sink.bytes(), b"abcgh".as_slice());
     assert!(rt; !sink.starved());
     Ok(())
 }
@@ -449,10 +450,10 @@ fn a_source_fails_where_it_is_told_to(rt: HostRuntime) -> Result<(), Fail> {
     let second = read_from_one(&mut source);
     let third = read_from_one(&mut source);
     let content = source.into_content();
-    assert_eq!(rt; first, Some(*b"bc-"));
-    assert_eq!(rt; second, None);
-    assert_eq!(rt; third, Some(*b"bc-"));
-    assert_eq!(rt; content.bytes(), b"abc".as_slice());
+    same(&rt, first, Some(*b"bc-"));
+    same(&rt, second, None);
+    same(&rt, third, Some(*b"bc-"));
+    same(&rt, content.bytes(), b"abc".as_slice());
     Ok(())
 }
 
@@ -485,28 +486,30 @@ fn a_shelf_counts_by_name(rt: HostRuntime) -> Result<(), Fail> {
     shelf.put(alloc, &name, &content, reads)?;
 
     // An absent name comes before the list: this is the first fetch.
-    assert_eq!(rt;
+    same(
+        &rt,
         fetch_and_read(alloc, &mut shelf, &other),
-        Err(ShelfFault::Absent)
+        Err(ShelfFault::Absent),
     );
     assert_eq!(rt;
         fetch_and_read(alloc, &mut shelf, &name),
         Ok(None),
         "its first read is to fail"
     );
-    assert_eq!(rt; shelf.faults(&name), 1);
-    assert_eq!(rt;
+    same(&rt, shelf.faults(&name), 1);
+    same(
+        &rt,
         fetch_and_read(alloc, &mut shelf, &name),
-        Err(ShelfFault::Failed)
+        Err(ShelfFault::Failed),
     );
-    assert_eq!(rt; shelf.faults(&name), 2);
+    same(&rt, shelf.faults(&name), 2);
     assert_eq!(rt;
         fetch_and_read(alloc, &mut shelf, &name),
         Ok(Some(*b"bc-")),
         "only the first source fails"
     );
-    assert_eq!(rt; shelf.faults(&name), 2);
-    assert_eq!(rt; shelf.faults(&other), 0);
+    same(&rt, shelf.faults(&name), 2);
+    same(&rt, shelf.faults(&other), 0);
     Ok(())
 }
 
@@ -521,15 +524,19 @@ fn a_file_is_put_in_place_of_another(rt: HostRuntime) -> Result<(), Fail> {
         let none = numbers(alloc, &[])?;
         shelf.put(alloc, &name, &content, none)?;
     }
-    assert_eq!(rt; fetch_and_read(alloc, &mut shelf, &name), Ok(Some(*b"yz-")));
+    same(
+        &rt,
+        fetch_and_read(alloc, &mut shelf, &name),
+        Ok(Some(*b"yz-")),
+    );
     Ok(())
 }
 
 #[test]
 fn a_clock_stands_still(rt: HostRuntime) {
     let clock = MemClock::new(1_700_000_000);
-    assert_eq!(rt; clock.now(), 1_700_000_000);
-    assert_eq!(rt; clock.now(), 1_700_000_000);
+    same(&rt, clock.now(), 1_700_000_000);
+    same(&rt, clock.now(), 1_700_000_000);
 }
 
 fn send<T: Send>(value: T) -> T
@@ -550,7 +557,7 @@ fn threads_may_have_them(rt: HostRuntime) -> Result<(), Fail> {
     let content = source.into_content();
     share(&MemClock::new(0));
     share(&NoGate);
-    assert_eq!(rt; content.bytes(), b"abc".as_slice());
-    assert_eq!(rt; disk.calls(), 0);
+    same(&rt, content.bytes(), b"abc".as_slice());
+    same(&rt, disk.calls(), 0);
     Ok(())
 }

@@ -3,6 +3,7 @@
 
 use crate::candidates::{Scene, candidate};
 use crate::random::Random;
+use crate::same::same;
 use crate::tally::Tally;
 use base_types::Blob;
 use std::alloc::Global;
@@ -43,9 +44,9 @@ impl Pair {
     // Whether the step fits. If it doesn't, the first core refuses it, and the states stay the same.
     fn may_take(&mut self, rt: &impl Abort, step: &Step) -> Result<bool, Fail> {
         let refusal = self.asked.refusal(step)?;
-        assert_eq!(rt; self.asked.fits_step(step)?, refusal.is_none());
+        same(rt, self.asked.fits_step(step)?, refusal.is_none());
         if let Some(refusal) = refusal {
-            assert_eq!(rt; self.asked.attempt_step(step)?, Err(refusal));
+            same(rt, self.asked.attempt_step(step)?, Err(refusal));
         }
         Ok(refusal.is_none())
     }
@@ -71,9 +72,9 @@ impl Pair {
     fn take(&mut self, rt: &impl Abort, step: &Step) -> Result<(), Fail> {
         let code = encode_step(self.alloc, step)?;
         let (read, len) = decode_step(self.alloc, code.bytes())?;
-        assert_eq!(rt; len, code.bytes().len());
-        assert_eq!(rt; self.asked.attempt_step(step)?, Ok(()));
-        assert_eq!(rt; self.told.attempt_step(&read)?, Ok(()));
+        same(rt, len, code.bytes().len());
+        same(rt, self.asked.attempt_step(step)?, Ok(()));
+        same(rt, self.told.attempt_step(&read)?, Ok(()));
         Ok(())
     }
 
@@ -88,9 +89,9 @@ impl Pair {
     fn restart(&mut self, rt: &impl Abort) -> Result<(), Fail> {
         let code = code_of(self.alloc, &self.told)?;
         let (base, len) = decode_base(self.alloc, code.bytes())?;
-        assert_eq!(rt; len, code.bytes().len());
+        same(rt, len, code.bytes().len());
         self.told = TinyCore::new(self.alloc, base)?;
-        assert_eq!(rt; self.told.text()?.as_str(), self.asked.text()?.as_str());
+        same(rt, self.told.text()?.as_str(), self.asked.text()?.as_str());
         Ok(())
     }
 }

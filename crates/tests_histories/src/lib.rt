@@ -8,4 +8,6 @@ mod histories;
 #[cfg(test)]
 mod random;
 #[cfg(test)]
+mod same;
+#[cfg(test)]
 mod tally;

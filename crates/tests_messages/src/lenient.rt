@@ -1,3 +1,4 @@
+use crate::same::same;
 use base_types::Text;
 use event_json::{Cleaner, clean_message};
 use event_model::{EventFault, Fields, Kind, Message, ReadFault};
@@ -587,7 +588,7 @@ fn fields_are_found_by_name(rt: HostRuntime) -> Result<(), Fail> {
     else {
         return Err(Fail::from("fault"));
     };
-    assert_eq!(rt; message.kind, Kind::Report);
+    same(&rt, message.kind, Kind::Report);
     let wanted = Value::Text(Text::new(alloc, b"192.0.2.1")?);
     assert!(rt; message.fields.get(&ip) == Some(&wanted));
     assert!(rt; message.fields.get(&Text::new(alloc, b"comment")?).is_none());
@@ -604,16 +605,22 @@ fn a_message_that_was_read_is_changed_by_its_calls(rt: HostRuntime) -> Result<()
     let port = Text::new(alloc, b"source.port")?;
     let comment = Text::new(alloc, b"comment")?;
     let value = Value::Text(Text::new(alloc, b"443")?);
-    assert_eq!(rt; message.fields.update(alloc, &comment, &value), Ok(false));
-    assert_eq!(rt;
-        message.fields.add(alloc, &port, &value),
-        Err(EventFault::Present)
+    same(
+        &rt,
+        message.fields.update(alloc, &comment, &value),
+        Ok(false),
     );
-    assert_eq!(rt; text_of(alloc, &message)?.as_str(), before.as_str());
-    assert_eq!(rt; message.fields.update(alloc, &port, &value), Ok(true));
-    assert_eq!(rt;
+    same(
+        &rt,
+        message.fields.add(alloc, &port, &value),
+        Err(EventFault::Present),
+    );
+    same(&rt, text_of(alloc, &message)?.as_str(), before.as_str());
+    same(&rt, message.fields.update(alloc, &port, &value), Ok(true));
+    same(
+        &rt,
         text_of(alloc, &message)?.as_str(),
-        r#"{"__type":"Event","source.port":443}"#
+        r#"{"__type":"Event","source.port":443}"#,
     );
     Ok(())
 }

@@ -6,4 +6,6 @@ mod kinds;
 #[cfg(test)]
 mod lenient;
 #[cfg(test)]
+mod same;
+#[cfg(test)]
 mod strict;

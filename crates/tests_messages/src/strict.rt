@@ -1,4 +1,5 @@
 use crate::lenient::{text_of, word_of};
+use crate::same::same;
 use event_json::clean_message;
 use event_text::{read_message, write_message};
 use std::alloc::Global;
@@ -199,7 +200,7 @@ fn bytes_that_are_no_text(rt: HostRuntime) -> Result<(), Fail> {
         b"{\"__type\":\"Event\",\"extra.a\":[\"\xed\xa0\x80\"]}",
     ];
     for line in &lines {
-        assert_eq!(rt; reading(alloc, line)?.as_str(), "json");
+        same(&rt, reading(alloc, line)?.as_str(), "json");
     }
     Ok(())
 }
@@ -249,6 +250,10 @@ fn a_long_text_is_read_back(rt: HostRuntime) -> Result<(), Fail> {
         line.push_str("abc\\\\\\n")?;
     }
     line.push_str("\"}")?;
-    assert_eq!(rt; reading(alloc, line.as_bytes())?.as_str(), line.as_str());
+    same(
+        &rt,
+        reading(alloc, line.as_bytes())?.as_str(),
+        line.as_str(),
+    );
     Ok(())
 }

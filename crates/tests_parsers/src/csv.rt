@@ -1,3 +1,4 @@
+use crate::same::same;
 use crate::shared::{check, fields_of, outcome, report_of, text, text_of};
 use base_types::TextList;
 use event_model::Kind;
@@ -454,7 +455,7 @@ fn ten_thousand_cells(rt: HostRuntime) -> Result<(), Fail> {
     }
     let report = report_of(alloc, &content)?;
     let lines = outcome(alloc, parse_csv(alloc, &rule, &report))?;
-    assert_eq!(rt; lines.len(), 1);
+    same(&rt, lines.len(), 1);
     for line in &lines {
         assert!(rt;
             line.ends_with(r#", {"__type":"Event","feed.name":"T","source.ip":"192.0.2.1"}"#)
@@ -508,11 +509,12 @@ fn demo(alloc: Global) -> Result<Parsed, Fail> {
 fn events_of_a_feed(rt: HostRuntime) -> Result<(), Fail> {
     let alloc = rt.alloc();
     let all = demo(alloc)?;
-    assert_eq!(rt; all.events.len(), EVENTS.len());
+    same(&rt, all.events.len(), EVENTS.len());
     for (event, wanted) in all.events.as_slice().iter().zip(&EVENTS) {
-        assert_eq!(rt;
+        same(
+            &rt,
             text_of(alloc, Kind::Event, event.copy(alloc)?)?.as_str(),
-            *wanted
+            *wanted,
         );
     }
     Ok(())
@@ -522,13 +524,14 @@ fn events_of_a_feed(rt: HostRuntime) -> Result<(), Fail> {
 fn bad_line_of_a_feed(rt: HostRuntime) -> Result<(), Fail> {
     let alloc = rt.alloc();
     let all = demo(alloc)?;
-    assert_eq!(rt; all.bad.len(), 1);
+    same(&rt, all.bad.len(), 1);
     for bad in all.bad.as_slice() {
-        assert_eq!(rt; bad.note.code, 4);
-        assert_eq!(rt; bad.note.text.as_str(), "column 1: source.ip");
-        assert_eq!(rt;
+        same(&rt, bad.note.code, 4);
+        same(&rt, bad.note.text.as_str(), "column 1: source.ip");
+        same(
+            &rt,
             text_of(alloc, Kind::Report, bad.report.copy(alloc)?)?.as_str(),
-            r#"{"__type":"Report","feed.name":"Demo","raw":"aXAscG9ydCx0eXBlLG5vdGUKMTkyLjAuMi4zMDAsMjIsc2Nhbm5lcix4Cg==","time.observation":"2023-11-14T22:13:20+00:00"}"#
+            r#"{"__type":"Report","feed.name":"Demo","raw":"aXAscG9ydCx0eXBlLG5vdGUKMTkyLjAuMi4zMDAsMjIsc2Nhbm5lcix4Cg==","time.observation":"2023-11-14T22:13:20+00:00"}"#,
         );
     }
     Ok(())

@@ -1,3 +1,4 @@
+use crate::same::same;
 use crate::shared::{check, fields_of, outcome, report_of, text_of};
 use event_model::Kind;
 use feed_json::{JsonRule, Style, parse_json};
@@ -195,12 +196,13 @@ fn lines_of(alloc: Global) -> Result<Parsed, Fail> {
 fn bad_line_as_a_report(rt: HostRuntime) -> Result<(), Fail> {
     let alloc = rt.alloc();
     let all = lines_of(alloc)?;
-    assert_eq!(rt; all.events.len(), 1);
-    assert_eq!(rt; all.bad.len(), 1);
+    same(&rt, all.events.len(), 1);
+    same(&rt, all.bad.len(), 1);
     for bad in all.bad.as_slice() {
-        assert_eq!(rt;
+        same(
+            &rt,
             text_of(alloc, Kind::Report, bad.report.copy(alloc)?)?.as_str(),
-            r#"{"__type":"Report","feed.name":"T","raw":"Nwo="}"#
+            r#"{"__type":"Report","feed.name":"T","raw":"Nwo="}"#,
         );
     }
     Ok(())

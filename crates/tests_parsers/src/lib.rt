@@ -8,4 +8,6 @@ mod json;
 #[cfg(test)]
 mod notes;
 #[cfg(test)]
+mod same;
+#[cfg(test)]
 mod shared;

@@ -1,3 +1,4 @@
+use crate::same::same;
 use crate::shared::{note_text, text};
 use base_types::TextList;
 use feed_rows::{
@@ -17,9 +18,17 @@ fn names(alloc: Global, words: &[&str]) -> Result<TextList, Fail> {
 #[test]
 fn notes_of_whole_messages(rt: HostRuntime) -> Result<(), Fail> {
     let alloc = rt.alloc();
-    assert_eq!(rt; note_text(alloc, &kind_note(alloc)?)?.as_str(), "1 kind");
-    assert_eq!(rt; note_text(alloc, &json_note(alloc)?)?.as_str(), "2 json");
-    assert_eq!(rt; note_text(alloc, &raw_note(alloc)?)?.as_str(), "6 raw");
+    same(
+        &rt,
+        note_text(alloc, &kind_note(alloc)?)?.as_str(),
+        "1 kind",
+    );
+    same(
+        &rt,
+        note_text(alloc, &json_note(alloc)?)?.as_str(),
+        "2 json",
+    );
+    same(&rt, note_text(alloc, &raw_note(alloc)?)?.as_str(), "6 raw");
     Ok(())
 }
 
@@ -33,9 +42,10 @@ const ROWS: [(RowFault, &str); 3] = [
 fn notes_of_rows(rt: HostRuntime) -> Result<(), Fail> {
     let alloc = rt.alloc();
     for (fault, wanted) in &ROWS {
-        assert_eq!(rt;
+        same(
+            &rt,
             note_text(alloc, &row_note(alloc, *fault)?)?.as_str(),
-            *wanted
+            *wanted,
         );
     }
     Ok(())
@@ -58,9 +68,10 @@ fn notes_of_columns(rt: HostRuntime) -> Result<(), Fail> {
     let alloc = rt.alloc();
     for (number, words, wanted) in &COLUMNS {
         let names = names(alloc, words)?;
-        assert_eq!(rt;
+        same(
+            &rt,
             note_text(alloc, &column_note(alloc, *number, &names)?)?.as_str(),
-            *wanted
+            *wanted,
         );
     }
     Ok(())
@@ -70,13 +81,15 @@ fn notes_of_columns(rt: HostRuntime) -> Result<(), Fail> {
 fn notes_of_fields_and_actions(rt: HostRuntime) -> Result<(), Fail> {
     let alloc = rt.alloc();
     let key = text(alloc, "source.ip")?;
-    assert_eq!(rt;
+    same(
+        &rt,
         note_text(alloc, &key_note(alloc, &key)?)?.as_str(),
-        "4 key source.ip"
+        "4 key source.ip",
     );
-    assert_eq!(rt;
+    same(
+        &rt,
         note_text(alloc, &sieve_note(alloc, 18)?)?.as_str(),
-        "5 sieve 18"
+        "5 sieve 18",
     );
     Ok(())
 }

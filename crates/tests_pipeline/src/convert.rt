@@ -1,3 +1,4 @@
+use crate::same::same;
 use crate::system::{CONVERT, Faults, NONE, NOW, numbers, outcome, words_of};
 use base_types::{Blob, Text};
 use edge_memory::{MemClock, MemShelf, MemSink};
@@ -190,10 +191,10 @@ fn names_of_255_and_256_bytes(rt: HostRuntime) -> Result<(), Fail> {
         name.push('n')?;
     }
     let (status, _) = outcome(alloc, &["convert", "--feed", name.as_str()], b"", &NONE)?;
-    assert_eq!(rt; status.number(), 4);
+    same(&rt, status.number(), 4);
     name.push('n')?;
     let (status, _) = outcome(alloc, &["convert", "--feed", name.as_str()], b"", &NONE)?;
-    assert_eq!(rt; status, Status::Words);
+    same(&rt, status, Status::Words);
     Ok(())
 }
 
@@ -201,12 +202,13 @@ fn names_of_255_and_256_bytes(rt: HostRuntime) -> Result<(), Fail> {
 fn an_absent_feed(rt: HostRuntime) -> Result<(), Fail> {
     let alloc = rt.alloc();
     let (status, written) = outcome(alloc, &["convert", "--feed", "other.json"], b"{}\n", &NONE)?;
-    assert_eq!(rt;
+    same(
+        &rt,
         status_text(alloc, &status)?.as_str(),
-        "feed other.json absent"
+        "feed other.json absent",
     );
-    assert_eq!(rt; status.number(), 4);
-    assert_eq!(rt; written.bytes(), b"".as_slice());
+    same(&rt, status.number(), 4);
+    same(&rt, written.bytes(), b"".as_slice());
     Ok(())
 }
 
@@ -330,11 +332,11 @@ fn the_count_on_the_feed_rises_by_its_faults(rt: HostRuntime) -> Result<(), Fail
         &mut out,
         &clock,
     );
-    assert_eq!(rt; first.number(), 4);
-    assert_eq!(rt; shelf.faults(&name), 1);
+    same(&rt, first.number(), 4);
+    same(&rt, shelf.faults(&name), 1);
     let (second, _) = run_tool(alloc, words.as_slice(), &mut shelf, disk, &mut out, &clock);
-    assert_eq!(rt; second, Status::Done);
-    assert_eq!(rt; shelf.faults(&name), 1);
-    assert_eq!(rt; out.bytes(), b"{\"__type\":\"Event\"}\n".as_slice());
+    same(&rt, second, Status::Done);
+    same(&rt, shelf.faults(&name), 1);
+    same(&rt, out.bytes(), b"{\"__type\":\"Event\"}\n".as_slice());
     Ok(())
 }

@@ -1,3 +1,4 @@
+use crate::same::same;
 use crate::system::{CONVERT, NONE, outcome};
 use pipeline_top::Status;
 use std::test::Fail;
@@ -231,7 +232,7 @@ fn all_fields_stand_in_one_event(rt: HostRuntime) -> Result<(), Fail> {
     feed.push_str("}")?;
     wanted.push_str("}\n")?;
     let (status, written) = outcome(alloc, &CONVERT, feed.as_bytes(), &NONE)?;
-    assert_eq!(rt; status, Status::Done);
-    assert_eq!(rt; written.bytes(), wanted.as_bytes());
+    same(&rt, status, Status::Done);
+    same(&rt, written.bytes(), wanted.as_bytes());
     Ok(())
 }

@@ -1,3 +1,4 @@
+use crate::same::same;
 use base_types::{
     Blob, BotName, NameFault, NumberList, QueueName, Text, TextFault, put_u16, put_u32, put_u64,
     queue_of, read_u16, read_u32, read_u64,
@@ -8,13 +9,13 @@ use std::test::Fail;
 fn texts(rt: HostRuntime) -> Result<(), Fail> {
     let alloc = rt.alloc();
     let text = Text::new(alloc, "größe".as_bytes())?;
-    assert_eq!(rt; text.as_str(), "größe");
-    assert_eq!(rt; text.copy(alloc)?, text);
-    assert_eq!(rt; text.bytes().len(), 7);
+    same(&rt, text.as_str(), "größe");
+    same(&rt, &text.copy(alloc)?, &text);
+    same(&rt, text.bytes().len(), 7);
     let Err(fault) = Text::new(alloc, b"ab\xc3\xa4\xff") else {
         return Err(Fail::from("a text"));
     };
-    assert_eq!(rt; fault, TextFault::Utf8 { at: 4 });
+    same(&rt, fault, TextFault::Utf8 { at: 4 });
     Ok(())
 }
 
@@ -23,8 +24,8 @@ fn blobs(rt: HostRuntime) -> Result<(), Fail> {
     let alloc = rt.alloc();
     let mut blob = Blob::new(alloc, b"\xff\x00")?;
     blob.append(b"z")?;
-    assert_eq!(rt; blob.bytes(), b"\xff\x00z".as_slice());
-    assert_eq!(rt; blob.copy(alloc)?, blob);
+    same(&rt, blob.bytes(), b"\xff\x00z".as_slice());
+    same(&rt, &blob.copy(alloc)?, &blob);
     Ok(())
 }
 
@@ -35,16 +36,17 @@ fn numbers_with_the_most_significant_byte_first(rt: HostRuntime) -> Result<(), F
     put_u16(&mut blob, 0x0102)?;
     put_u32(&mut blob, 0x0304_0506)?;
     put_u64(&mut blob, 0x0708_090a_0b0c_0d0e)?;
-    assert_eq!(rt;
+    same(
+        &rt,
         blob.bytes(),
-        b"\x01\x02\x03\x04\x05\x06\x07\x08\x09\x0a\x0b\x0c\x0d\x0e".as_slice()
+        b"\x01\x02\x03\x04\x05\x06\x07\x08\x09\x0a\x0b\x0c\x0d\x0e".as_slice(),
     );
-    assert_eq!(rt; read_u16(blob.bytes(), 0), Some(0x0102));
-    assert_eq!(rt; read_u32(blob.bytes(), 2), Some(0x0304_0506));
-    assert_eq!(rt; read_u64(blob.bytes(), 6), Some(0x0708_090a_0b0c_0d0e));
-    assert_eq!(rt; read_u64(blob.bytes(), 7), None);
-    assert_eq!(rt; read_u16(blob.bytes(), 13), None);
-    assert_eq!(rt; read_u32(blob.bytes(), usize::MAX), None);
+    same(&rt, read_u16(blob.bytes(), 0), Some(0x0102));
+    same(&rt, read_u32(blob.bytes(), 2), Some(0x0304_0506));
+    same(&rt, read_u64(blob.bytes(), 6), Some(0x0708_090a_0b0c_0d0e));
+    same(&rt, read_u64(blob.bytes(), 7), None);
+    same(&rt, read_u16(blob.bytes(), 13), None);
+    same(&rt, read_u32(blob.bytes(), usize::MAX), None);
     Ok(())
 }
 
@@ -79,26 +81,26 @@ fn names_of_bots_and_queues(rt: HostRuntime) -> Result<(), Fail> {
         );
     }
     let bot = BotName::new(b"parse").map_err(|_| Fail::from("name"))?;
-    assert_eq!(rt; queue_of(&bot).bytes(), b"parse-queue".as_slice());
-    assert_eq!(rt; QueueName::new(b"parse-queue"), Ok(queue_of(&bot)));
-    assert_eq!(rt; QueueName::new(b"parse"), Err(NameFault::Shape));
-    assert_eq!(rt; QueueName::new(b"parse-Queue"), Err(NameFault::Shape));
+    same(&rt, queue_of(&bot).bytes(), b"parse-queue".as_slice());
+    same(&rt, QueueName::new(b"parse-queue"), Ok(queue_of(&bot)));
+    same(&rt, QueueName::new(b"parse"), Err(NameFault::Shape));
+    same(&rt, QueueName::new(b"parse-Queue"), Err(NameFault::Shape));
     Ok(())
 }
 
 #[test]
 fn lists(rt: HostRuntime) -> Result<(), Fail> {
     let mut list = NumberList::new(rt.alloc());
-    assert_eq!(rt; list.pop(), None);
+    same(&rt, list.pop(), None);
     for n in [5, 6] {
         if list.push(n).is_err() {
             return Err(Fail::from("memory"));
         }
     }
     assert_eq!(rt; list.len(), 2);
-    assert_eq!(rt; *list.at(1), 6);
-    assert_eq!(rt; list.as_slice(), [5, 6].as_slice());
-    assert_eq!(rt; list.pop(), Some(6));
-    assert_eq!(rt; list.len(), 1);
+    same(&rt, *list.at(1), 6);
+    same(&rt, list.as_slice(), [5, 6].as_slice());
+    same(&rt, list.pop(), Some(6));
+    same(&rt, list.len(), 1);
     Ok(())
 }

@@ -12,4 +12,6 @@ mod long;
 #[cfg(test)]
 mod made;
 #[cfg(test)]
+mod same;
+#[cfg(test)]
 mod system;

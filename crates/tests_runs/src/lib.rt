@@ -12,4 +12,6 @@ mod forty;
 #[cfg(test)]
 mod runs;
 #[cfg(test)]
+mod same;
+#[cfg(test)]
 mod stores;

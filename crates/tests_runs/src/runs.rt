@@ -1,6 +1,7 @@
 //! Runs over a disk in memory.
 
 use crate::forty::{FEED, FORTY, Mark, Part, played};
+use crate::same::same;
 use base_types::{Blob, NumberList, Text};
 use edge_memory::{MemDisk, MemShelf};
 use std::alloc::Global;
@@ -96,8 +97,8 @@ pub fn state_behind(marks: &[Mark], steps: u64) -> Option<&[u8]> {
 fn forty_steps_are_of_ten_kinds(rt: HostRuntime) -> Result<(), Fail> {
     let alloc = rt.alloc();
     let ran = forty_steps(alloc)?;
-    assert_eq!(rt; ran.stored.steps.len(), 40);
-    assert_eq!(rt; ran.marks.len(), FORTY.len() + 1);
+    same(&rt, ran.stored.steps.len(), 40);
+    same(&rt, ran.marks.len(), FORTY.len() + 1);
     assert!(rt; !ran.disk.starved());
 
     // There is no kind 0.
@@ -112,6 +113,6 @@ fn forty_steps_are_of_ten_kinds(rt: HostRuntime) -> Result<(), Fail> {
     let all = [
         false, true, true, true, true, true, true, true, true, true, true,
     ];
-    assert_eq!(rt; kinds.as_slice(), all.as_slice());
+    same(&rt, kinds.as_slice(), all.as_slice());
     Ok(())
 }

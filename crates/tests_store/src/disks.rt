@@ -1,3 +1,4 @@
+use crate::same::same;
 use base_types::NumberList;
 use edge_memory::{Choice, MemDisk};
 use edge_traits::Disk;
@@ -66,7 +67,7 @@ pub fn check_durable(
     disk: &MemDisk,
     bytes: &[u8],
 ) -> Result<(), Fail> {
-    assert_eq!(rt; disk.file(alloc, FILE)?.as_slice(), bytes);
+    same(rt, disk.file(alloc, FILE)?.as_slice(), bytes);
     for choice in &CHOICES {
         let crashed = crashed(alloc, disk, disk.calls(), choice)?;
         assert_eq!(rt;

@@ -5,6 +5,7 @@ use crate::disks::{
     CHOICES, FILE, KEPT, LONGEST, SHORTEST, check_durable, crashed, disk_with, filled, only,
     stop_after,
 };
+use crate::same::same;
 use crate::untold::{ShortRead, UntoldDisk};
 use base_types::BlobList;
 use disk_journal::{AppendFault, Journal, JournalFault};
@@ -87,8 +88,8 @@ fn a_new_journal_has_a_header_and_a_record(rt: HostRuntime) -> Result<(), Fail> 
     let alloc = rt.alloc();
     let mut disk = MemDisk::new(alloc);
     let _journal = create(alloc, &mut disk)?;
-    assert_eq!(rt; CREATED.len(), 27);
-    assert_eq!(rt; disk.calls(), 3);
+    same(&rt, CREATED.len(), 27);
+    same(&rt, disk.calls(), 3);
     check_durable(&rt, alloc, &disk, CREATED)
 }
 
@@ -98,7 +99,7 @@ fn a_journal_is_made_anew(rt: HostRuntime) -> Result<(), Fail> {
     let mut disk = disk_with(alloc, APPENDED)?;
     let _journal = Journal::create(alloc, &mut disk, FILE, 0x0102_0304_0506_0708, b"")?;
     let want = b"IMQJ\0\0\0\x01\x01\x02\x03\x04\x05\x06\x07\x08\x01\0\0\0\0\0\0\0\0\0";
-    assert_eq!(rt; disk.file(alloc, FILE)?.as_slice(), want.as_slice());
+    same(&rt, disk.file(alloc, FILE)?.as_slice(), want.as_slice());
     assert!(rt; !disk.starved());
     Ok(())
 }
@@ -173,9 +174,9 @@ fn check_files(
 fn an_append_makes_four_calls(rt: HostRuntime) -> Result<(), Fail> {
     let alloc = rt.alloc();
     let mut disk = MemDisk::new(alloc);
-    assert_eq!(rt; create_and_append(alloc, &mut disk)?, Ok(()));
-    assert_eq!(rt; APPENDED.len(), 38);
-    assert_eq!(rt; disk.calls(), 7);
+    same(&rt, create_and_append(alloc, &mut disk)?, Ok(()));
+    same(&rt, APPENDED.len(), 38);
+    same(&rt, disk.calls(), 7);
     check_durable(&rt, alloc, &disk, APPENDED)?;
     check_files(&rt, alloc, &disk, &CRASHES)
 }
@@ -219,8 +220,8 @@ fn a_create_makes_three_calls(rt: HostRuntime) -> Result<(), Fail> {
     let alloc = rt.alloc();
     let mut disk = disk_with(alloc, b"old")?;
     let journal = create(alloc, &mut disk)?;
-    assert_eq!(rt; journal.len(), CREATED.len() as u64);
-    assert_eq!(rt; disk.calls(), 3);
+    same(&rt, journal.len(), CREATED.len() as u64);
+    same(&rt, disk.calls(), 3);
     check_files(&rt, alloc, &disk, &CRASHES_OF_CREATE)
 }
 
@@ -269,11 +270,12 @@ fn a_gate_counts_where_it_is_open(rt: HostRuntime) -> Result<(), Fail> {
     let alloc = rt.alloc();
     for gate in &GATES {
         let mut disk = disk_with_gate(alloc, gate.byte)?;
-        assert_eq!(rt; disk.file(alloc, FILE)?.len(), APPENDED.len());
-        assert_eq!(rt; disk.file(alloc, FILE)?.get(GATE), Some(&gate.byte));
-        assert_eq!(rt;
+        same(&rt, disk.file(alloc, FILE)?.len(), APPENDED.len());
+        same(&rt, disk.file(alloc, FILE)?.get(GATE), Some(&gate.byte));
+        same(
+            &rt,
             reopened(alloc, &mut disk)?.as_slice(),
-            gate.bodies.as_bytes()
+            gate.bodies.as_bytes(),
         );
         check_durable(&rt, alloc, &disk, gate.file)?;
         assert!(rt; !disk.starved());
@@ -411,7 +413,7 @@ const CASES: [Case; 17] = [
 
 fn check_case(rt: &impl Abort, alloc: Global, case: &Case) -> Result<(), Fail> {
     let mut disk = disk_with(alloc, case.file)?;
-    assert_eq!(rt; damage(alloc, &mut disk)?, case.damaged);
+    same(rt, damage(alloc, &mut disk)?, case.damaged);
     if case.damaged.is_some() {
         assert_eq!(rt;
             disk.file(alloc, FILE)?.as_slice(),
@@ -419,9 +421,10 @@ fn check_case(rt: &impl Abort, alloc: Global, case: &Case) -> Result<(), Fail> {
             "nothing is cut"
         );
     } else {
-        assert_eq!(rt;
+        same(
+            rt,
             reopened(alloc, &mut disk)?.as_slice(),
-            case.bodies.as_bytes()
+            case.bodies.as_bytes(),
         );
         check_crashes(rt, alloc, &disk, case.bodies)?;
     }
@@ -457,14 +460,16 @@ fn fail_in_append(rt: &impl Abort, alloc: Global, number: u64) -> Result<MemDisk
     let fail = only(alloc, number)?;
     disk.plan(fail, None);
     let mut journal = create(alloc, &mut disk)?;
-    assert_eq!(rt;
+    same(
+        rt,
         append(alloc, &mut disk, &mut journal, b"ab")?,
-        Err(AppendFault::Disk)
+        Err(AppendFault::Disk),
     );
-    assert_eq!(rt; disk.calls(), number);
-    assert_eq!(rt;
+    same(rt, disk.calls(), number);
+    same(
+        rt,
         append(alloc, &mut disk, &mut journal, b"ab")?,
-        Err(AppendFault::Broken)
+        Err(AppendFault::Broken),
     );
     assert_eq!(rt; disk.calls(), number, "a broken journal makes no call");
     Ok(disk)
@@ -497,7 +502,7 @@ fn a_failed_create_or_reopen_answers_disk(rt: HostRuntime) -> Result<(), Fail> {
         disk.plan(fail, None);
         let created = create(alloc, &mut disk);
         assert!(rt; matches!(created, Err(JournalFault::Disk)));
-        assert_eq!(rt; disk.calls(), number);
+        same(&rt, disk.calls(), number);
     }
     let mut disk = disk_with(alloc, APPENDED)?;
     reopened(alloc, &mut disk)?;
@@ -507,10 +512,11 @@ fn a_failed_create_or_reopen_answers_disk(rt: HostRuntime) -> Result<(), Fail> {
         failing.plan(fail, None);
         let opened = Journal::reopen(alloc, &mut failing, FILE, 0);
         assert!(rt; matches!(opened, Err(JournalFault::Disk)));
-        assert_eq!(rt; failing.calls(), number);
-        assert_eq!(rt;
+        same(&rt, failing.calls(), number);
+        same(
+            &rt,
             reopened(alloc, &mut failing)?.as_slice(),
-            b"z,ab,".as_slice()
+            b"z,ab,".as_slice(),
         );
     }
     Ok(())
@@ -581,7 +587,7 @@ fn check_run(
 fn crashes_keep_what_was_acknowledged(rt: HostRuntime) -> Result<(), Fail> {
     let alloc = rt.alloc();
     let mut whole = MemDisk::new(alloc);
-    assert_eq!(rt; run(alloc, &mut whole)?, 4);
+    same(&rt, run(alloc, &mut whole)?, 4);
     assert!(rt; !whole.starved());
     for stop in 0..=whole.calls() {
         let mut disk = MemDisk::new(alloc);
@@ -700,15 +706,19 @@ fn a_journal_opens_on_a_disk_that_tells_nothing(rt: HostRuntime) -> Result<(), F
     let alloc = rt.alloc();
     let mut disk = UntoldDisk::new(alloc, APPENDED);
     let (mut journal, bodies) = Journal::reopen(alloc, &mut disk, FILE, 0)?;
-    assert_eq!(rt; list_text(alloc, &bodies)?.as_slice(), b"z,ab,".as_slice());
-    assert_eq!(rt; journal.len(), APPENDED.len() as u64);
-    assert_eq!(rt; disk.trace(), b"slrrrrrrcs".as_slice());
+    same(
+        &rt,
+        list_text(alloc, &bodies)?.as_slice(),
+        b"z,ab,".as_slice(),
+    );
+    same(&rt, journal.len(), APPENDED.len() as u64);
+    same(&rt, disk.trace(), b"slrrrrrrcs".as_slice());
     journal.reserve(2)?;
     if journal.len() > 1_000_000 {
         return Err(Fail::from("a journal of more than a million bytes"));
     }
-    assert_eq!(rt; journal.append(&mut disk, b"xy"), Ok(()));
-    assert_eq!(rt; disk.trace(), b"slrrrrrrcswsws".as_slice());
+    same(&rt, journal.append(&mut disk, b"xy"), Ok(()));
+    same(&rt, disk.trace(), b"slrrrrrrcswsws".as_slice());
     Ok(())
 }
 
@@ -744,8 +754,8 @@ fn create_and_append_untold(
         return Ok(());
     };
     journal.reserve(2)?;
-    assert_eq!(rt; journal.append(disk, b"ab"), Err(AppendFault::Disk));
-    assert_eq!(rt; journal.append(disk, b"ab"), Err(AppendFault::Broken));
+    same(rt, journal.append(disk, b"ab"), Err(AppendFault::Disk));
+    same(rt, journal.append(disk, b"ab"), Err(AppendFault::Broken));
     Ok(())
 }
 
@@ -771,6 +781,6 @@ fn a_failed_sync_is_not_tried_again(rt: HostRuntime) -> Result<(), Fail> {
     disk.fail_sync(2);
     let opened = Journal::reopen(alloc, &mut disk, FILE, 0);
     assert!(rt; matches!(opened, Err(JournalFault::Disk)));
-    assert_eq!(rt; disk.trace(), b"slrrrrrrcs".as_slice());
+    same(&rt, disk.trace(), b"slrrrrrrcs".as_slice());
     Ok(())
 }

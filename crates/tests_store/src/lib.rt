@@ -8,4 +8,6 @@ mod journals;
 #[cfg(test)]
 mod outputs;
 #[cfg(test)]
+mod same;
+#[cfg(test)]
 mod untold;

@@ -2,6 +2,7 @@ ghost use Rattle.std.specs.Prelude.{◌≡◌, IfOk};
 ghost use Rattle.out_files.specs.Output.{lines_text};
 
 use crate::disks::{CHOICES, FILE, check_durable, crashed, disk_with, only};
+use crate::same::same;
 use crate::untold::UntoldDisk;
 use base_types::{Blob, LineList};
 use edge_memory::MemDisk;
@@ -118,13 +119,15 @@ fn check_completed(
     row: &Row,
     lines: &LineList,
 ) -> Result<(), Fail> {
-    assert_eq!(rt;
+    same(
+        rt,
         complete(alloc, disk, row.sealed, lines)?,
-        Ok(row.completed.len() as u64)
+        Ok(row.completed.len() as u64),
     );
-    assert_eq!(rt;
+    same(
+        rt,
         disk.file(alloc, FILE)?.as_slice(),
-        row.completed.as_bytes()
+        row.completed.as_bytes(),
     );
     assert!(rt; !disk.starved());
     Ok(())
@@ -179,11 +182,12 @@ fn each_call_may_fail(rt: HostRuntime) -> Result<(), Fail> {
             let mut disk = disk_with(alloc, row.file.as_bytes())?;
             let fail = only(alloc, number)?;
             disk.plan(fail, None);
-            assert_eq!(rt;
+            same(
+                &rt,
                 complete(alloc, &mut disk, row.sealed, &lines)?,
-                Err(OutFault::Disk)
+                Err(OutFault::Disk),
             );
-            assert_eq!(rt; disk.calls(), number);
+            same(&rt, disk.calls(), number);
             check_crashes(&rt, alloc, &disk, row, &lines)?;
             check_completed(&rt, alloc, &mut disk, row, &lines)?;
         }
@@ -198,11 +202,12 @@ fn a_short_file_stays(rt: HostRuntime) -> Result<(), Fail> {
     push(alloc, &mut lines, b"x")?;
     for sealed in 4..7u64 {
         let mut disk = disk_with(alloc, b"abc")?;
-        assert_eq!(rt;
+        same(
+            &rt,
             complete(alloc, &mut disk, sealed, &lines)?,
-            Err(OutFault::Short { have: 3 })
+            Err(OutFault::Short { have: 3 }),
         );
-        assert_eq!(rt; disk.file(alloc, FILE)?.as_slice(), b"abc".as_slice());
+        same(&rt, disk.file(alloc, FILE)?.as_slice(), b"abc".as_slice());
     }
     Ok(())
 }
@@ -262,9 +267,9 @@ fn check_large(rt: &impl Abort, alloc: Global, large: &Large) -> Result<(), Fail
     want.extend_from_slice(&text_of(alloc, &lines)?)?;
     let mut disk = disk_with(alloc, b"head\ntail")?;
     let end = complete(alloc, &mut disk, 5, &lines)?;
-    assert_eq!(rt; end, Ok(want.len() as u64));
+    same(rt, end, Ok(want.len() as u64));
     assert!(rt; disk.file(alloc, FILE)?.as_slice() == want.as_slice());
-    assert_eq!(rt; disk.calls(), large.calls);
+    same(rt, disk.calls(), large.calls);
     assert!(rt; !disk.starved());
     for after in 0..=disk.calls() {
         for choice in &CHOICES {
@@ -293,10 +298,11 @@ fn a_failed_sync_is_not_tried_again(rt: HostRuntime) -> Result<(), Fail> {
     }
     let mut disk = UntoldDisk::new(alloc, b"head\n");
     disk.fail_sync(1);
-    assert_eq!(rt;
+    same(
+        &rt,
         bring_up(alloc, &mut disk, FILE, 5, lines.as_slice()),
-        Err(OutFault::Disk)
+        Err(OutFault::Disk),
     );
-    assert_eq!(rt; disk.trace(), b"lwcs".as_slice());
+    same(&rt, disk.trace(), b"lwcs".as_slice());
     Ok(())
 }

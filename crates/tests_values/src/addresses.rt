@@ -1,3 +1,4 @@
+use crate::same::same;
 use base_types::{Bad, Text};
 use scalar_net::{Ip, Network, holds, print_ip, print_network, read_asn, read_ip, read_network};
 use std::alloc::Global;
@@ -86,8 +87,8 @@ const ADDRESSES: [(&str, &str); 41] = [
 fn addresses_have_their_canonical_text(rt: HostRuntime) -> Result<(), Fail> {
     let alloc = rt.alloc();
     for (text, canonical) in &ADDRESSES {
-        assert_eq!(rt; address_again(alloc, text)?.as_str(), *canonical);
-        assert_eq!(rt; address_again(alloc, canonical)?.as_str(), *canonical);
+        same(&rt, address_again(alloc, text)?.as_str(), *canonical);
+        same(&rt, address_again(alloc, canonical)?.as_str(), *canonical);
     }
     Ok(())
 }
@@ -141,7 +142,7 @@ const NO_ADDRESSES: [&str; 43] = [
 #[test]
 fn other_texts_are_no_addresses(rt: HostRuntime) -> Result<(), Fail> {
     for text in &NO_ADDRESSES {
-        assert_eq!(rt; read_ip(text.as_bytes()), Err(Bad));
+        same(&rt, read_ip(text.as_bytes()), Err(Bad));
     }
     Ok(())
 }
@@ -149,11 +150,11 @@ fn other_texts_are_no_addresses(rt: HostRuntime) -> Result<(), Fail> {
 #[test]
 fn an_address_is_a_number(rt: HostRuntime) -> Result<(), Fail> {
     let four = ip("192.0.2.1")?;
-    assert_eq!(rt; four.six, false);
-    assert_eq!(rt; four.bits, 0xc000_0201);
+    same(&rt, four.six, false);
+    same(&rt, four.bits, 0xc000_0201);
     let six = ip("2001:db8::ff00:42:8329")?;
-    assert_eq!(rt; six.six, true);
-    assert_eq!(rt; six.bits, 0x2001_0db8_0000_0000_0000_ff00_0042_8329);
+    same(&rt, six.six, true);
+    same(&rt, six.bits, 0x2001_0db8_0000_0000_0000_ff00_0042_8329);
     Ok(())
 }
 
@@ -195,8 +196,8 @@ const NETWORKS: [(&str, &str); 19] = [
 fn networks_have_their_canonical_text(rt: HostRuntime) -> Result<(), Fail> {
     let alloc = rt.alloc();
     for (text, canonical) in &NETWORKS {
-        assert_eq!(rt; network_again(alloc, text)?.as_str(), *canonical);
-        assert_eq!(rt; network_again(alloc, canonical)?.as_str(), *canonical);
+        same(&rt, network_again(alloc, text)?.as_str(), *canonical);
+        same(&rt, network_again(alloc, canonical)?.as_str(), *canonical);
     }
     Ok(())
 }
@@ -224,7 +225,7 @@ const NO_NETWORKS: [&str; 17] = [
 #[test]
 fn other_texts_are_no_networks(rt: HostRuntime) -> Result<(), Fail> {
     for text in &NO_NETWORKS {
-        assert_eq!(rt; read_network(text.as_bytes()), Err(Bad));
+        same(&rt, read_network(text.as_bytes()), Err(Bad));
     }
     Ok(())
 }
@@ -251,7 +252,7 @@ const PLACES: [(&str, &str, bool); 16] = [
 #[test]
 fn a_network_holds_its_addresses(rt: HostRuntime) -> Result<(), Fail> {
     for (net, address, inside) in &PLACES {
-        assert_eq!(rt; holds(&network(net)?, &ip(address)?), *inside);
+        same(&rt, holds(&network(net)?, &ip(address)?), *inside);
     }
     Ok(())
 }
@@ -271,7 +272,7 @@ const NUMBERS: [(&str, u32); 9] = [
 #[test]
 fn autonomous_systems_have_numbers(rt: HostRuntime) -> Result<(), Fail> {
     for (text, number) in &NUMBERS {
-        assert_eq!(rt; read_asn(text.as_bytes()), Ok(*number));
+        same(&rt, read_asn(text.as_bytes()), Ok(*number));
     }
     Ok(())
 }
@@ -298,7 +299,7 @@ const NO_NUMBERS: [&str; 16] = [
 #[test]
 fn other_texts_are_no_such_numbers(rt: HostRuntime) -> Result<(), Fail> {
     for text in &NO_NUMBERS {
-        assert_eq!(rt; read_asn(text.as_bytes()), Err(Bad));
+        same(&rt, read_asn(text.as_bytes()), Err(Bad));
     }
     Ok(())
 }

@@ -1,3 +1,4 @@
+use crate::same::same;
 use base_types::{ScalarFault, Text};
 use scalar_net::{read_fqdn, read_url};
 use std::test::Fail;
@@ -54,11 +55,16 @@ fn domain_names_have_their_canonical_text(rt: HostRuntime) -> Result<(), Fail> {
     let alloc = rt.alloc();
     for (text, canonical) in &NAMES {
         let want = Text::new(alloc, canonical.as_bytes())?;
-        assert_eq!(rt;
+        same(
+            &rt,
             kept(read_fqdn(alloc, text.as_bytes()))?,
-            Some(want.copy(alloc)?)
+            Some(want.copy(alloc)?),
         );
-        assert_eq!(rt; kept(read_fqdn(alloc, canonical.as_bytes()))?, Some(want));
+        same(
+            &rt,
+            kept(read_fqdn(alloc, canonical.as_bytes()))?,
+            Some(want),
+        );
     }
     Ok(())
 }
@@ -93,7 +99,7 @@ const NO_NAMES: [&[u8]; 23] = [
 fn other_texts_are_no_domain_names(rt: HostRuntime) -> Result<(), Fail> {
     let alloc = rt.alloc();
     for text in &NO_NAMES {
-        assert_eq!(rt; kept(read_fqdn(alloc, text))?, None);
+        same(&rt, kept(read_fqdn(alloc, text))?, None);
     }
     Ok(())
 }
@@ -123,11 +129,16 @@ fn urls_are_kept(rt: HostRuntime) -> Result<(), Fail> {
     let alloc = rt.alloc();
     for (text, canonical) in &URLS {
         let want = Text::new(alloc, canonical.as_bytes())?;
-        assert_eq!(rt;
+        same(
+            &rt,
             kept(read_url(alloc, text.as_bytes()))?,
-            Some(want.copy(alloc)?)
+            Some(want.copy(alloc)?),
         );
-        assert_eq!(rt; kept(read_url(alloc, canonical.as_bytes()))?, Some(want));
+        same(
+            &rt,
+            kept(read_url(alloc, canonical.as_bytes()))?,
+            Some(want),
+        );
     }
     Ok(())
 }
@@ -152,7 +163,7 @@ const NO_URLS: [&[u8]; 13] = [
 fn other_texts_are_no_urls(rt: HostRuntime) -> Result<(), Fail> {
     let alloc = rt.alloc();
     for text in &NO_URLS {
-        assert_eq!(rt; kept(read_url(alloc, text))?, None);
+        same(&rt, kept(read_url(alloc, text))?, None);
     }
     Ok(())
 }

@@ -6,6 +6,8 @@ mod addresses;
 #[cfg(test)]
 mod domains;
 #[cfg(test)]
+mod same;
+#[cfg(test)]
 mod texts;
 #[cfg(test)]
 mod times;

@@ -1,3 +1,4 @@
+use crate::same::same;
 use base_types::{Bad, ScalarFault, Text};
 use scalar_text::{
     print_decimal, quote_decimals, read_class, read_decimal, read_flag, read_port, read_raw,
@@ -149,7 +150,7 @@ const PRINTED_DECIMALS: [(i64, &str); 14] = [
 fn decimals_are_printed(rt: HostRuntime) -> Result<(), Fail> {
     let alloc = rt.alloc();
     for (number, text) in &PRINTED_DECIMALS {
-        assert_eq!(rt; print_decimal(alloc, *number)?.as_str(), *text);
+        same(&rt, print_decimal(alloc, *number)?.as_str(), *text);
     }
     Ok(())
 }
@@ -185,10 +186,11 @@ fn decimals_are_quoted(rt: HostRuntime) -> Result<(), Fail> {
     let alloc = rt.alloc();
     for (text, quoted) in &QUOTED {
         let once = quote_decimals(alloc, text.as_bytes())?;
-        assert_eq!(rt; once.bytes(), quoted.as_bytes());
-        assert_eq!(rt;
+        same(&rt, once.bytes(), quoted.as_bytes());
+        same(
+            &rt,
             quote_decimals(alloc, once.bytes())?.bytes(),
-            quoted.as_bytes()
+            quoted.as_bytes(),
         );
     }
     Ok(())

@@ -1,3 +1,4 @@
+use crate::same::same;
 use base_types::Text;
 use scalar_text::{TimeFault, print_time, read_time};
 use std::test::Fail;
@@ -34,7 +35,7 @@ const TIMES: [(&str, u64); 25] = [
 #[test]
 fn times_have_their_seconds(rt: HostRuntime) {
     for (text, seconds) in &TIMES {
-        assert_eq!(rt; read_time(text.as_bytes()), Ok(*seconds));
+        same(&rt, read_time(text.as_bytes()), Ok(*seconds));
     }
 }
 
@@ -87,7 +88,7 @@ const NO_TIMES: [&str; 43] = [
 #[test]
 fn other_texts_are_no_times(rt: HostRuntime) {
     for text in &NO_TIMES {
-        assert_eq!(rt; read_time(text.as_bytes()), Err(TimeFault::Bad));
+        same(&rt, read_time(text.as_bytes()), Err(TimeFault::Bad));
     }
 }
 
@@ -108,7 +109,7 @@ fn times_are_printed_in_utc(rt: HostRuntime) -> Result<(), Fail> {
         if *seconds > 315_537_897_599 {
             return Err(Fail::from("seconds"));
         }
-        assert_eq!(rt; print_time(alloc, *seconds)?.as_str(), *text);
+        same(&rt, print_time(alloc, *seconds)?.as_str(), *text);
     }
     Ok(())
 }

@@ -1,15 +1,14 @@
 -- Texts of times that are as these are printed.
-use Rattle.std.proofs.Common.{◌≡◌, ℕ, ◌+◌, ◌*◌, ◌/◌, ◌%◌, ◌<◌, inl, inr, ℤ, pos, negsuc, ◌+ℤ◌, ◌-ℤ◌, ◌*ℤ◌, refl, sym, ap, ap₂, ◌∙◌, subst, List, [], ◌∷◌, ◌++◌, codes, drop, take-append-drop, drop-drop, arith}
+use Rattle.std.proofs.Common.{◌≡◌, ◌↔◌, Some, ℕ, ◌+◌, ◌*◌, ◌/◌, ◌%◌, ◌<◌, inl, inr, ℤ, pos, negsuc, ◌+ℤ◌, ◌-ℤ◌, ◌*ℤ◌, refl, sym, ap, ap₂, ◌∙◌, subst, List, [], ◌∷◌, ◌++◌, codes, drop, take-append-drop, drop-drop, arith}
 use Rattle.std.specs.Char.{digit_value}
 use Rattle.std.proofs.lemmas.Str.{digit_value_digit}
 use Rattle.std.proofs.lemmas.Str.Parse.{digit_from_value}
 use Rattle.jiff_core.proofs.SignedLemmas.{signed_arith}
 use Rattle.jiff_fmt.specs.Text.{pad2, pad4}
-use Rattle.scalar_text.specs.Time.{part, IsExactly, IsTwoDigits, IsDayOf, IsTail, IsTimeText, IsPrintedTime}
-use Rattle.scalar_text.proofs.DayTexts.{printed_is}
-use Rattle.scalar_text.proofs.TimeForms.{time_some}
+use Rattle.scalar_text.specs.Time.{part, IsExactly, IsTwoDigits, IsDayOf, IsTail, IsTimeText, IsPrintedTime, time_in, time_text}
+use Rattle.scalar_text.proofs.DayTexts.{printed_is, printed_time}
+use Rattle.scalar_text.proofs.TimeForms.{time_form}
 use Rattle.scalar_text.proofs.Times.{same_tail}
-use Rattle.event_json.specs.PrintedTime.{StaysAsTime}
 
 -- ---- digits
 
@@ -79,7 +78,7 @@ days_of (pos n) clock seconds below is =
     (ap pos days, omega (arith, below, sum))
 days_of (negsuc n) clock seconds below is = absurd (omega (arith, signed_arith, below, is))
 
-pub is_printed : (text : List ℕ) (seconds : ℕ) → IsTimeText text seconds → part 10 1 text ≡ 84 ∷ [] → drop 19 text ≡ codes "+00:00" → IsPrintedTime seconds text
+is_printed : (text : List ℕ) (seconds : ℕ) → IsTimeText text seconds → part 10 1 text ≡ 84 ∷ [] → drop 19 text ≡ codes "+00:00" → IsPrintedTime seconds text
 is_printed text seconds is separator ends =
     let (year, month, mday, y, hyphen, m, other, d, of_day) = is.date in
     let (hour, minute, second, h, colon, mi, last, s, of_clock) = is.time in
@@ -100,9 +99,12 @@ is_printed text seconds is separator ends =
           (cut 10 1 text ∙ onto separator (cut 11 8 text ∙ onto (clock_spelled (part 11 8 text) hour minute second h.0 colon mi.0 last s.0) ends));
     }
 
-pub stays : (text : List ℕ) (seconds : ℕ) → IsTimeText text seconds → part 10 1 text ≡ 84 ∷ [] → drop 19 text ≡ codes "+00:00" → StaysAsTime text
-stays text seconds is separator ends = record {
-  seconds = seconds;
-  read = sym (time_some text seconds is);
-  same = printed_is seconds text is.last (is_printed text seconds is separator ends);
-}
+-- ---- both ways
+
+printed_parts : (text : List ℕ) (seconds : ℕ) → IsPrintedTime seconds text → (part 10 1 text ≡ 84 ∷ []) × (drop 19 text ≡ codes "+00:00")
+printed_parts text seconds p = (ap (part 10 1) p.spelled, ap (drop 19) p.spelled)
+
+pub time_stays : (text : List ℕ) (seconds : ℕ) → time_in text ≡ Some seconds → ((part 10 1 text ≡ 84 ∷ []) × (drop 19 text ≡ codes "+00:00")) ↔ (text ≡ time_text seconds)
+time_stays text seconds read =
+    let is = (time_form text).sound seconds read in
+    (λ parts. printed_is seconds text is.last (is_printed text seconds is parts.0 parts.1), λ same. printed_parts text seconds (subst (IsPrintedTime seconds) (sym same) (printed_time seconds is.last)))
