@@ -12,16 +12,17 @@ use field_types::FieldKey;
 use json::Value;
 use std::alloc::Global;
 
-// Places of names of the table, of which one is left for `__type` before them, and one for a name that begins with `extra`.
+// One place for each row of the table of fields, one before them for `__type`, and one for a name that begins with `extra`.
+// A wrong number here makes lines slower and nothing else: what the places give counts only if all names rise in it.
 const PLACES: usize = 86;
 
-// The table's names behind those of `extra` begin at this row.
+// The first row of the table whose name is above those that begin with `extra`.
 const ROW_BEHIND_EXTRA: u8 = 32;
 
 // No member.
 const NONE: u8 = u8::MAX;
 
-// Where a name is tried first.
+// The place that is kept for a name. Places rise with the names of the table.
 fn place(name: &FieldKey<'_>) -> u8 {
     match name.number() {
         Some(row) if row < ROW_BEHIND_EXTRA => row.saturating_add(1),
@@ -31,14 +32,14 @@ fn place(name: &FieldKey<'_>) -> u8 {
     }
 }
 
-// Notes that the name's place is that of a member.
+// Notes the member of a name at the place that is kept for the name.
 fn note(places: &mut [u8; PLACES], name: &FieldKey<'_>, member: usize) {
     if let Some(place) = places.get_mut(usize::from(place(name))) {
         *place = u8::try_from(member).unwrap_or(NONE);
     }
 }
 
-// The members as the text has them. Their places are noted.
+// The members as the text has them, each noted at its place.
 fn members_of<'m, 't>(
     alloc: Global,
     members: &'m [(&'t str, Value<'t>)],

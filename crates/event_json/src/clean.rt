@@ -10,8 +10,8 @@ use base_types::OutOfMemory;
 use event_model::{Message, ReadFault};
 use event_text::{clean_any, write_message};
 use json::Scratch;
+use simdutf8::compat;
 use std::alloc::Global;
-use std::str;
 
 // Makes the line the message of bytes of the usual forms, or its text.
 fn write_line(
@@ -22,7 +22,7 @@ fn write_line(
 ) -> Result<bool, OutOfMemory>
     ensures { IfOk result (λ taken. taken ≡ true → HasText (λ message. lenient bytes.now ≡ Ok message) (ended line.new)) }
 {
-    match str::from_utf8(bytes) {
+    match compat::from_utf8(bytes) {
         Ok(text) => write_text(alloc, text, scratch, line),
         Err(_) => Ok(false),
     }

@@ -9,10 +9,11 @@ ghost use Rattle.event_model.specs.Lenient.{type_key};
 ghost use Rattle.event_text.specs.Decode.{opening};
 ghost use Rattle.event_json.specs.Direct.{PutsName, PutsPair};
 
-use base_types::{OutOfMemory, push_quoted};
+use base_types::OutOfMemory;
 use event_model::Kind;
 use event_text::opening;
 use field_types::{FieldKey, Value, push_value};
+use scalar_text::push_quoted;
 use std::alloc::Global;
 use std::marker::Model;
 

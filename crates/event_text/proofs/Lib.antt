@@ -3,6 +3,7 @@ pub mod Exact
 pub mod MessageText
 pub mod Messages
 pub mod PairTexts
+pub mod PlainStrings
 pub mod Readable
 pub mod Runs
 pub mod Strings

@@ -1,11 +1,9 @@
 -- What a content writes, escape by escape.
-use Rattle.std.proofs.Common.{◌≡◌, ℕ, zero, suc, ◌+◌, ◌-◌, ◌<◌, ◌≤◌, ◌==◌, ◌||◌, not, List, true, false, Some, None, [], ◌∷◌, ◌++◌, length, take, drop, get_or, fold, flat_map, length-append, subst, refl, sym, ap, ◌∙◌, arith, append_assoc, if◌then◌else◌}
+use Rattle.std.proofs.Common.{◌≡◌, ℕ, zero, suc, ◌+◌, ◌-◌, ◌<◌, ◌≤◌, ◌==◌, List, true, false, Some, None, [], ◌∷◌, ◌++◌, length, take, drop, get_or, flat_map, length-append, subst, refl, sym, ap, ◌∙◌, arith, append_assoc}
 use Rattle.std.proofs.lemmas.Bool.{eqb-true, ne_eqb, eq-eqb}
 use Rattle.std.proofs.lemmas.List.{drop_more, take_rest, take_at}
-use Rattle.std.specs.Str.{is_utf8}
 use Rattle.memchr.specs.Find.{IsFirstByte, is_byte}
-use Rattle.base_types.specs.JsonText.{is_plain, escaped, quoted}
-use Rattle.base_types.proofs.Plain.{content-plain}
+use Rattle.base_types.specs.JsonText.{escaped, quoted}
 use Rattle.event_text.specs.Decode.{control, unescaped, unescaped_behind, unescaped_control, text_in, utf8_text}
 use Rattle.event_text.proofs.Strings.{same_bytes, unescaped_written}
 
@@ -43,18 +41,10 @@ no_escape (b ∷ bs) none =
     rw plain (ap (λ t. b ∷ t) (no_escape bs (λ k low below. none (suc k) (omega arith) (omega arith))))
 
 -- a content that is how the text itself is written
-written_text : (content : List ℕ) → flat_map escaped content ≡ content → text_in content ≡ utf8_text content
+pub written_text : (content : List ℕ) → flat_map escaped content ≡ content → text_in content ≡ utf8_text content
 written_text content written =
     let read : unescaped content ≡ content = ap unescaped (sym written) ∙ unescaped_written content in
     rw (read, written, same_bytes content) refl
-
--- a plain content is the text itself
-pub plain_text : (content : List ℕ) → fold (λ found b. found || not (is_plain b)) false content ≡ false → text_in content ≡ utf8_text content
-plain_text content none = written_text content (content-plain content none)
-
--- such a content that is UTF-8 is its text
-pub known_text : (content known : List ℕ) → flat_map escaped content ≡ content → is_utf8 content ≡ true → known ≡ content → Some known ≡ text_in content
-known_text content known written utf8 same = ap Some same ∙ sym (written_text content written ∙ ap (λ b. if b then Some content else None) utf8)
 
 -- ---- what is written stands between quotation marks
 

@@ -13,7 +13,7 @@ use field_types::{FieldName, Value};
 use std::alloc::Global;
 
 // Most messages have fewer fields.
-const USUAL_FIELDS: usize = 24;
+const USUAL_FIELDS: usize = 16;
 
 // The value behind a colon, and what is behind it.
 fn value_behind_colon(alloc: Global, rest: &[u8]) -> Result<Option<(Value, &[u8])>, OutOfMemory>

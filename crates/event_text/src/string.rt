@@ -1,10 +1,12 @@
 //! JSON strings in canonical texts.
-ghost use Rattle.std.specs.Prelude.{◌≡◌, ◌∷◌, ◌≤◌, length, option_map, IfOk};
+ghost use Rattle.std.specs.Prelude.{◌≡◌, ◌∷◌, ◌≤◌, Some, length, flat_map, option_map, IfOk, IfSome};
+ghost use Rattle.base_types.specs.JsonText.{escaped};
 ghost use Rattle.event_text.specs.Decode.{string_end, escape_end, KeepsEnd, short_escape, digit_of, control, unescaped, unescaped_behind, unescaped_control, utf8_text, is_content_of, text_in, text_at};
 
-use base_types::{OutOfMemory, Text, TextFault, has_escapes, push_quoted};
+use base_types::{OutOfMemory, Text, TextFault};
 use field_types::FieldName;
 use memchr::{memchr, memchr2};
+use scalar_text::{plain_len, push_quoted};
 use std::alloc::Global;
 
 // What is behind the byte that a backslash covers.
@@ -132,13 +134,10 @@ fn utf8_text(alloc: Global, bytes: &[u8]) -> Result<Option<Text>, OutOfMemory>
     }
 }
 
-// The text that a content writes canonically. Nearly all contents are plain, and are the text itself.
+// The text that a content writes canonically.
 fn text_in(alloc: Global, content: &[u8]) -> Result<Option<Text>, OutOfMemory>
     ensures { IfOk result (λ found. found ≡ text_in content.now) }
 {
-    if !has_escapes(content) {
-        return utf8_text(alloc, content);
-    }
     let text = unescape(alloc, content)?;
     if !is_content_of(alloc, content, &text)? {
         return Ok(None);
@@ -146,10 +145,9 @@ fn text_in(alloc: Global, content: &[u8]) -> Result<Option<Text>, OutOfMemory>
     utf8_text(alloc, &text)
 }
 
-/// The text of the string whose inside begins here, and what is behind the string: nothing where that isn't the
-/// canonical text of a string.
+// The text of a string, as `text_at`, whatever its content has.
 #[tactic(auto, unfolding(crate::specs::Decode::text_at))]
-pub fn text_at(alloc: Global, inside: &[u8]) -> Result<Option<(Text, &[u8])>, OutOfMemory>
+fn any_text_at(alloc: Global, inside: &[u8]) -> Result<Option<(Text, &[u8])>, OutOfMemory>
     ensures { IfOk result (λ found. option_map (λ at. (at.0, at.1.now)) found ≡ text_at inside.now) }
 {
     let Some((content, behind)) = string_end(inside) else {
@@ -161,29 +159,68 @@ pub fn text_at(alloc: Global, inside: &[u8]) -> Result<Option<(Text, &[u8])>, Ou
     Ok(Some((text, behind)))
 }
 
-// The name that a content writes canonically.
-fn name_in(alloc: Global, content: &[u8]) -> Result<Option<FieldName>, OutOfMemory>
-    ensures { IfOk result (λ found. found ≡ text_in content.now) }
+// The content of the string whose inside begins here, where that has no escape, and what is behind the string: nothing
+// where another byte than its quotation mark is the first that doesn't stand in a string as it is.
+fn plain_string(inside: &[u8]) -> Option<(&[u8], &[u8])>
+    ensures ends { IfSome result (λ ends. string_end inside.now ≡ Some (ends.0.now, ends.1.now)) }
+    ensures plain { IfSome result (λ ends. flat_map escaped ends.0.now ≡ ends.0.now) }
 {
-    if let Some(known) = FieldName::known(content) {
+    let (content, rest) = inside.split_at(plain_len(inside));
+    let [mark, behind @ ..] = rest else {
+        return None;
+    };
+    if *mark != b'"' {
+        return None;
+    }
+    Some((content, behind))
+}
+
+/// The text of the string whose inside begins here, and what is behind the string: nothing where that isn't the
+/// canonical text of a string. Nearly all contents are the text itself.
+pub fn text_at(alloc: Global, inside: &[u8]) -> Result<Option<(Text, &[u8])>, OutOfMemory>
+    ensures { IfOk result (λ found. option_map (λ at. (at.0, at.1.now)) found ≡ text_at inside.now) }
+{
+    let Some((text, behind)) = plain_string(inside) else {
+        return any_text_at(alloc, inside);
+    };
+    match utf8_text(alloc, text)? {
+        Some(text) => Ok(Some((text, behind))),
+        None => Ok(None),
+    }
+}
+
+// Bytes as a name, where they are UTF-8. A name of the table of fields takes no memory.
+fn utf8_name(alloc: Global, bytes: &[u8]) -> Result<Option<FieldName>, OutOfMemory>
+    ensures { IfOk result (λ found. found ≡ utf8_text bytes.now) }
+{
+    if let Some(known) = FieldName::known(bytes) {
         return Ok(Some(known));
     }
-    match text_in(alloc, content)? {
+    match utf8_text(alloc, bytes)? {
         Some(text) => Ok(Some(FieldName::from(text))),
         None => Ok(None),
     }
 }
 
+// The name of a field, as `name_at`, whatever its content has.
+fn any_name_at(alloc: Global, inside: &[u8]) -> Result<Option<(FieldName, &[u8])>, OutOfMemory>
+    ensures { IfOk result (λ found. option_map (λ at. (at.0, at.1.now)) found ≡ text_at inside.now) }
+{
+    match any_text_at(alloc, inside)? {
+        Some((text, behind)) => Ok(Some((FieldName::from(text), behind))),
+        None => Ok(None),
+    }
+}
+
 /// The name of a field whose inside begins here, as `text_at`. A name of the table of fields takes no memory.
-#[tactic(auto, unfolding(crate::specs::Decode::text_at))]
 pub fn name_at(alloc: Global, inside: &[u8]) -> Result<Option<(FieldName, &[u8])>, OutOfMemory>
     ensures { IfOk result (λ found. option_map (λ at. (at.0, at.1.now)) found ≡ text_at inside.now) }
 {
-    let Some((content, behind)) = string_end(inside) else {
-        return Ok(None);
+    let Some((name, behind)) = plain_string(inside) else {
+        return any_name_at(alloc, inside);
     };
-    let Some(name) = name_in(alloc, content)? else {
-        return Ok(None);
-    };
-    Ok(Some((name, behind)))
+    match utf8_name(alloc, name)? {
+        Some(name) => Ok(Some((name, behind))),
+        None => Ok(None),
+    }
 }

@@ -165,7 +165,7 @@ fn value_of(item: Item) -> Value
 }
 
 /// The value at the front, and what is behind it: nothing where no canonical text of a value stands there.
-#[tactic(auto, unfolding(crate::specs::Decode::value_at))]
+#[tactic(auto, unfolding(crate::specs::Decode::value_at, crate::specs::Decode::item_at))]
 pub fn value_at(alloc: Global, rest: &[u8]) -> Result<Option<(Value, &[u8])>, OutOfMemory>
     ensures { IfOk result (λ found. option_map (λ at. (at.0, at.1.now)) found ≡ value_at rest.now) }
 {
@@ -174,6 +174,9 @@ pub fn value_at(alloc: Global, rest: &[u8]) -> Result<Option<(Value, &[u8])>, Ou
         [b'[', inside @ ..] => {
             Ok(list_at(alloc, inside)?.map(|(items, behind)| (Value::List(items), behind)))
         }
-        _ => Ok(item_at(alloc, rest)?.map(|(item, behind)| (value_of(item), behind))),
+        [b'"', inside @ ..] => {
+            Ok(text_at(alloc, inside)?.map(|(text, behind)| (Value::Text(text), behind)))
+        }
+        _ => Ok(scalar_at(alloc, rest)?.map(|(item, behind)| (value_of(item), behind))),
     }
 }

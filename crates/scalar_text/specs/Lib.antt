@@ -1,4 +1,5 @@
 pub mod Number
+pub mod Plain
 pub mod Quote
 pub mod Raw
 pub mod Strip

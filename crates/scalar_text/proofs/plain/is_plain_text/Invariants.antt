@@ -1,0 +1,9 @@
+use Rattle.std.proofs.Common.{◌-◌, ◌≤◌, length}
+use Rattle.scalar_text.specs.Plain.{PlainBetween}
+use Rattle.scalar_text.proofs.plain.is_plain_text.Given as goal
+
+abbrev pub invariant-lanes : goal.invariant-lanes
+invariant-lanes l = (PlainBetween l.text 0 l.at) × (l.at ≤ length l.text)
+
+abbrev pub decreases-lanes : goal.decreases-lanes
+decreases-lanes l = length l.text - l.at

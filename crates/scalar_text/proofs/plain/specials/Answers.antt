@@ -1,0 +1,6 @@
+use Rattle.std.proofs.Common.{arith}
+use Rattle.scalar_text.proofs.PlainRuns.{mask}
+use Rattle.scalar_text.proofs.plain.specials.Goals as goal
+
+pub returns : goal.returns
+returns c = mask c.args.bytes 16 c.fits-bytes.0 (omega arith)

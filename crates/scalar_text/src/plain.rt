@@ -1,0 +1,103 @@
+//! Texts as JSON strings, looked at many bytes at a time.
+ghost use Rattle.std.specs.Prelude.{◌≡◌, ◌<◌, ◌≤◌, ◌++◌, length, map, flat_map, OnOk, IsTrue};
+ghost use Rattle.std.specs.List.{prefix_len};
+ghost use Rattle.std.specs.Simd.Lanes.{mask_l};
+ghost use Rattle.base_types.specs.JsonText.{escaped, is_plain, quoted};
+ghost use Rattle.scalar_text.specs.Plain.{is_special, PlainBetween};
+
+use base_types::{OutOfMemory, is_plain};
+use std::simd::prelude::*;
+
+// A bit for each byte that is escaped in a string.
+fn specials(bytes: u8x16) -> u64
+    ensures { result ≡ mask_l (map is_special bytes) }
+{
+    (bytes.simd_eq(u8x16::splat(b'"'))
+        | bytes.simd_eq(u8x16::splat(b'\\'))
+        | bytes.simd_lt(u8x16::splat(32))).to_bitmask()
+}
+
+// The same of eight bytes.
+fn specials_of_eight(bytes: u8x8) -> u64
+    ensures { result ≡ mask_l (map is_special bytes) }
+{
+    (bytes.simd_eq(u8x8::splat(b'"'))
+        | bytes.simd_eq(u8x8::splat(b'\\'))
+        | bytes.simd_lt(u8x8::splat(32))).to_bitmask()
+}
+
+// The same as `plain_len`, one byte after the other.
+fn plain_len_by_one(text: &[u8]) -> usize
+    ensures { result ≡ prefix_len is_plain text.now }
+{
+    text.iter().take_while(|byte| is_plain(**byte)).count()
+}
+
+/// How many bytes at the front stand in a JSON string as they are.
+pub fn plain_len(text: &[u8]) -> usize
+    ensures { result ≡ prefix_len is_plain text.now }
+{
+    let mut at = 0;
+    'lanes: while text.len() - at >= 16 {
+        let found = specials(u8x16::from_slice(&text[at..]));
+        if found != 0 {
+            return at + found.trailing_zeros() as usize;
+        }
+        at += 16;
+    }
+    at + plain_len_by_one(&text[at..])
+}
+
+// Whether fewer than sixteen bytes stand in a JSON string as they are. Two looks at eight may overlap.
+fn is_short_plain(text: &[u8]) -> bool
+    requires { length text.now < 16 }
+    ensures { IsTrue result → PlainBetween text.now 0 (length text.now) }
+{
+    let len = text.len();
+    if len < 8 {
+        return plain_len_by_one(text) == len;
+    }
+    specials_of_eight(u8x8::from_slice(text)) == 0
+        && specials_of_eight(u8x8::from_slice(&text[len - 8..])) == 0
+}
+
+// Whether a text stands in a JSON string as it is. The last look may overlap the one before.
+fn is_plain_text(text: &[u8]) -> bool
+    ensures { IsTrue result → PlainBetween text.now 0 (length text.now) }
+{
+    let len = text.len();
+    if len < 16 {
+        return is_short_plain(text);
+    }
+    let mut at = 0;
+    'lanes: while len - at > 16 {
+        if specials(u8x16::from_slice(&text[at..])) != 0 {
+            return false;
+        }
+        at += 16;
+    }
+    specials(u8x16::from_slice(&text[len - 16..])) == 0
+}
+
+#[tactic(auto, unfolding(base_types::specs::JsonText::quoted))]
+fn push_plain(out: &mut Vec<u8>, text: &[u8]) -> Result<(), OutOfMemory>
+    requires { flat_map escaped text.now ≡ text.now }
+    ensures { OnOk result (out.new.items ≡ out.old.items ++ quoted text.now) }
+{
+    out.push(b'"')?;
+    out.extend_from_slice(text)?;
+    out.push(b'"')?;
+    Ok(())
+}
+
+/// Puts a text as a JSON string (RFC 8259, section 7) behind `out`, as that of `base_types` does, which takes the texts
+/// that have something to escape. Without memory, a part of it may stand there.
+pub fn push_quoted(out: &mut Vec<u8>, text: &[u8]) -> Result<(), OutOfMemory>
+    ensures { OnOk result (out.new.items ≡ out.old.items ++ quoted text.now) }
+{
+    if is_plain_text(text) {
+        push_plain(out, text)
+    } else {
+        base_types::push_quoted(out, text)
+    }
+}
