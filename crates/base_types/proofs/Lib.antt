@@ -8,4 +8,5 @@ pub mod Options
 pub mod Padding
 pub mod Places
 pub mod Plain
+pub mod PlainRuns
 pub mod Positions

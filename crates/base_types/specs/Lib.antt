@@ -1,3 +1,4 @@
+-- what only proofs use
 -- what public contracts cite
 pub mod Digits
 pub mod JsonText
@@ -5,9 +6,9 @@ pub mod Lines
 pub mod Lists
 pub mod Name
 pub mod Number
+pub mod Padded
 pub mod Place
+pub mod Plain
 pub mod Scalar
 pub mod Text
--- what only proofs use
 pub mod formers
-pub mod Padded

@@ -1,8 +1,9 @@
 //! Strings and flags as JSON (RFC 8259).
-ghost use Rattle.std.specs.Prelude.{◌≡◌, ◌++◌, ◌<◌, ◌||◌, flat_map, fold, not, false, OnOk};
+ghost use Rattle.std.specs.Prelude.{◌≡◌, ◌++◌, ◌<◌, flat_map, OnOk};
 ghost use Rattle.base_types.specs.JsonText.{escaped, hex_digit, is_plain, quoted, flag_word};
 
 use crate::OutOfMemory;
+use crate::plain_runs::is_plain_text;
 
 /// Whether a byte stands in a JSON string as it is.
 pub fn is_plain(byte: u8) -> bool
@@ -50,18 +51,11 @@ fn push_escaped(out: &mut Vec<u8>, byte: u8) -> Result<(), OutOfMemory>
     Ok(())
 }
 
-/// Whether a byte has to be escaped in a JSON string. It looks at all of them, which is faster than to stop at the first.
-pub fn has_escapes(text: &[u8]) -> bool
-    ensures { result ≡ fold (λ found b. found || not (is_plain b)) false text.now }
-{
-    text.iter().fold(false, |found, b| found | !is_plain(*b))
-}
-
 // The inside of a JSON string.
 fn push_content(out: &mut Vec<u8>, text: &[u8]) -> Result<(), OutOfMemory>
     ensures { OnOk result (out.new.items ≡ out.old.items ++ flat_map escaped text.now) }
 {
-    if !has_escapes(text) {
+    if is_plain_text(text) {
         out.extend_from_slice(text)?;
         return Ok(());
     }

@@ -8,9 +8,8 @@ ghost use Rattle.event_json.specs.Quoted.{quoted_value, quoted_view, quoted_item
 
 use crate::numbers::{decimal_in, whole_in};
 use crate::ordered::{Member, may_be_decimal, one_by_one};
-use base_types::{OutOfMemory, push_flag};
+use base_types::{OutOfMemory, push_flag, push_quoted};
 use json::Value as Tree;
-use scalar_text::push_quoted;
 use std::alloc::Global;
 
 // Puts a number behind `out`: a whole one in its digits, a decimal as it stands.

@@ -9,11 +9,10 @@ ghost use Rattle.event_model.specs.Lenient.{type_key};
 ghost use Rattle.event_text.specs.Decode.{opening};
 ghost use Rattle.event_json.specs.Direct.{PutsName, PutsPair};
 
-use base_types::OutOfMemory;
+use base_types::{OutOfMemory, push_quoted};
 use event_model::Kind;
 use event_text::opening;
 use field_types::{FieldKey, Value, push_value};
-use scalar_text::push_quoted;
 use std::alloc::Global;
 use std::marker::Model;
 

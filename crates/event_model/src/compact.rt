@@ -6,7 +6,7 @@ ghost use Rattle.event_model.specs.Trees.{comma, compact, compact_items, compact
 ghost use Rattle.event_model.specs.declared.compact.NoText.TheVariants.{OutOfMemory};
 
 use crate::tree::lexeme_in;
-use scalar_text::push_quoted;
+use base_types::push_quoted;
 use serde_json::{Map, Number, Value as Tree};
 use std::alloc::AllocError;
 

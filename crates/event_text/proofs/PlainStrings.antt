@@ -5,7 +5,7 @@ use Rattle.std.proofs.lemmas.Bool.{and_parts, not-true}
 use Rattle.std.proofs.lemmas.List.{get_or-take, length-take, take_rest}
 use Rattle.std.proofs.lemmas.List.Sums.{prefix_len_passes}
 use Rattle.base_types.specs.JsonText.{escaped, is_plain}
-use Rattle.scalar_text.proofs.PlainRuns.{written}
+use Rattle.base_types.proofs.PlainRuns.{written}
 use Rattle.event_text.specs.Decode.{with_front, string_end, text_at, text_of, utf8_text}
 use Rattle.event_text.proofs.Unescaped.{written_text}
 

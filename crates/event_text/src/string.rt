@@ -3,10 +3,9 @@ ghost use Rattle.std.specs.Prelude.{◌≡◌, ◌∷◌, ◌≤◌, Some, lengt
 ghost use Rattle.base_types.specs.JsonText.{escaped};
 ghost use Rattle.event_text.specs.Decode.{string_end, escape_end, KeepsEnd, short_escape, digit_of, control, unescaped, unescaped_behind, unescaped_control, utf8_text, is_content_of, text_in, text_at};
 
-use base_types::{OutOfMemory, Text, TextFault};
+use base_types::{OutOfMemory, Text, TextFault, plain_len, push_quoted};
 use field_types::FieldName;
 use memchr::{memchr, memchr2};
-use scalar_text::{plain_len, push_quoted};
 use std::alloc::Global;
 
 // What is behind the byte that a backslash covers.

@@ -7,9 +7,9 @@ ghost use Rattle.base_types.specs.JsonText.{quoted};
 ghost use Rattle.field_types.specs.Writing.{item_text, value_text, is_utf8_item, is_utf8_value};
 
 use crate::{FieldName, Item, Value};
-use base_types::{OutOfMemory, Text, push_flag};
+use base_types::{OutOfMemory, Text, push_flag, push_quoted};
 use itoa::Buffer;
-use scalar_text::{print_decimal, push_quoted};
+use scalar_text::print_decimal;
 
 fn push_whole(out: &mut Vec<u8>, n: i64) -> Result<(), OutOfMemory>
     ensures { OnOk result (out.new.items ≡ out.old.items ++ signed_decimal n) }

@@ -5,7 +5,6 @@ pub mod Ends
 pub mod Forms
 pub mod NumberForms
 pub mod Numerals
-pub mod PlainRuns
 pub mod Ports
 pub mod PrintedDecimals
 pub mod PrintedNumbers

@@ -1,5 +1,4 @@
 pub mod Number
-pub mod Plain
 pub mod Quote
 pub mod Raw
 pub mod Strip

@@ -3,7 +3,6 @@
 
 mod blanks;
 mod number;
-mod plain;
 mod printing;
 mod quote;
 mod raw;
@@ -14,7 +13,6 @@ pub use blanks::strip;
 pub use number::{
     decimal_of_a_text_is_one, number_forms_are_exact, read_decimal, read_port, read_whole,
 };
-pub use plain::{plain_len, push_quoted};
 pub use printing::{
     canonical_decimal_is_printed, decimal_texts_differ, print_decimal, printed_decimal_reads_back,
     printed_decimals_are_canonical,

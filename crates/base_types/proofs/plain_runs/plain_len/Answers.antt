@@ -3,8 +3,8 @@ use Rattle.std.specs.List.{prefix_len}
 use Rattle.std.proofs.lemmas.List.{take_rest}
 use Rattle.base_types.specs.JsonText.{is_plain}
 use lib.Count.{count_trailing_zeros}
-use Rattle.scalar_text.proofs.PlainRuns.{goes_on, stops, run_bound}
-use Rattle.scalar_text.proofs.plain.plain_len.Goals as goal
+use Rattle.base_types.proofs.PlainRuns.{goes_on, stops, run_bound}
+use Rattle.base_types.proofs.plain_runs.plain_len.Goals as goal
 
 pub returns-then-found-ne0 : goal.returns-then-found-ne0
 returns-then-found-ne0 c =

@@ -1,11 +1,11 @@
-//! Texts as JSON strings, looked at many bytes at a time.
-ghost use Rattle.std.specs.Prelude.{◌≡◌, ◌<◌, ◌≤◌, ◌++◌, length, map, flat_map, OnOk, IsTrue};
+//! Bytes of JSON strings, looked at many at a time.
+ghost use Rattle.std.specs.Prelude.{◌≡◌, ◌<◌, length, map, IsTrue};
 ghost use Rattle.std.specs.List.{prefix_len};
 ghost use Rattle.std.specs.Simd.Lanes.{mask_l};
-ghost use Rattle.base_types.specs.JsonText.{escaped, is_plain, quoted};
-ghost use Rattle.scalar_text.specs.Plain.{is_special, PlainBetween};
+ghost use Rattle.base_types.specs.JsonText.{is_plain};
+ghost use Rattle.base_types.specs.Plain.{is_special, PlainBetween};
 
-use base_types::{OutOfMemory, is_plain};
+use crate::is_plain;
 use std::simd::prelude::*;
 
 // A bit for each byte that is escaped in a string.
@@ -61,8 +61,8 @@ fn is_short_plain(text: &[u8]) -> bool
         && specials_of_eight(u8x8::from_slice(&text[len - 8..])) == 0
 }
 
-// Whether a text stands in a JSON string as it is. The last look may overlap the one before.
-fn is_plain_text(text: &[u8]) -> bool
+/// Whether a text stands in a JSON string as it is. The last look may overlap the one before.
+pub(crate) fn is_plain_text(text: &[u8]) -> bool
     ensures { IsTrue result → PlainBetween text.now 0 (length text.now) }
 {
     let len = text.len();
@@ -77,27 +77,4 @@ fn is_plain_text(text: &[u8]) -> bool
         at += 16;
     }
     specials(u8x16::from_slice(&text[len - 16..])) == 0
-}
-
-#[tactic(auto, unfolding(base_types::specs::JsonText::quoted))]
-fn push_plain(out: &mut Vec<u8>, text: &[u8]) -> Result<(), OutOfMemory>
-    requires { flat_map escaped text.now ≡ text.now }
-    ensures { OnOk result (out.new.items ≡ out.old.items ++ quoted text.now) }
-{
-    out.push(b'"')?;
-    out.extend_from_slice(text)?;
-    out.push(b'"')?;
-    Ok(())
-}
-
-/// Puts a text as a JSON string (RFC 8259, section 7) behind `out`, as that of `base_types` does, which takes the texts
-/// that have something to escape. Without memory, a part of it may stand there.
-pub fn push_quoted(out: &mut Vec<u8>, text: &[u8]) -> Result<(), OutOfMemory>
-    ensures { OnOk result (out.new.items ≡ out.old.items ++ quoted text.now) }
-{
-    if is_plain_text(text) {
-        push_plain(out, text)
-    } else {
-        base_types::push_quoted(out, text)
-    }
 }

@@ -1,6 +1,6 @@
 use Rattle.std.proofs.Common.{sym, ◌∙◌, eqb-true, arith}
-use Rattle.scalar_text.proofs.PlainRuns.{more_plain, last_plain}
-use Rattle.scalar_text.proofs.plain.is_plain_text.Goals as goal
+use Rattle.base_types.proofs.PlainRuns.{more_plain, last_plain}
+use Rattle.base_types.proofs.plain_runs.is_plain_text.Goals as goal
 
 pub lanes-preserved : goal.lanes-preserved
 lanes-preserved c =

@@ -1,6 +1,6 @@
 use Rattle.std.proofs.Common.{◌-◌, ◌≤◌, length}
-use Rattle.scalar_text.specs.Plain.{PlainBetween}
-use Rattle.scalar_text.proofs.plain.is_plain_text.Given as goal
+use Rattle.base_types.specs.Plain.{PlainBetween}
+use Rattle.base_types.proofs.plain_runs.is_plain_text.Given as goal
 
 abbrev pub invariant-lanes : goal.invariant-lanes
 invariant-lanes l = (PlainBetween l.text 0 l.at) × (l.at ≤ length l.text)

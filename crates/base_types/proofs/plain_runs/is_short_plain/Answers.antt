@@ -1,6 +1,6 @@
 use Rattle.std.proofs.Common.{length, sym, ◌∙◌, eqb-true, arith}
-use Rattle.scalar_text.proofs.PlainRuns.{whole_run, more_plain, last_plain}
-use Rattle.scalar_text.proofs.plain.is_short_plain.Goals as goal
+use Rattle.base_types.proofs.PlainRuns.{whole_run, more_plain, last_plain}
+use Rattle.base_types.proofs.plain_runs.is_short_plain.Goals as goal
 
 pub returns-then-len-lt8 : goal.returns-then-len-lt8
 returns-then-len-lt8 c whole = whole_run c.args.text.now (sym c.plain_len_by_one.ensures ∙ eqb-true c.plain_len_by_one.result (length c.args.text.now) whole)

@@ -10,7 +10,7 @@ use Rattle.std.proofs.lemmas.List.Sums.{prefix_len-le-length, prefix_len_passes}
 use Rattle.std.proofs.lemmas.Simd.{chunk-drop, length-chunk, mask_l-mod, zip2_splat, zip2-map, leading_from_mask_l, trailing_mask_l, none_from_empty_mask}
 use Rattle.base_types.specs.JsonText.{escaped, is_plain}
 use Rattle.base_types.proofs.Plain.{content-plain}
-use Rattle.scalar_text.specs.Plain.{is_special, PlainBetween}
+use Rattle.base_types.specs.Plain.{is_special, PlainBetween}
 use lib.Bits.{bit_or}
 use lib.Count.{count_trailing_zeros}
 use lib.Lanes.{chunk, top, zip2}
