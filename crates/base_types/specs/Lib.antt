@@ -1,4 +1,3 @@
--- what only proofs use
 -- what public contracts cite
 pub mod Digits
 pub mod JsonText

@@ -21,6 +21,6 @@ pub use memory::OutOfMemory;
 pub use message::{FaultNote, Moment, Msg};
 pub use name::{BotName, NameFault, QueueName, queue_of};
 pub use number::{put_u16, put_u32, put_u64, read_u16, read_u32, read_u64};
-pub use plain_runs::plain_len;
+pub use plain_runs::{is_plain_text, split_plain_ascii};
 pub use scalar::{Bad, ScalarFault};
 pub use text::{Blob, Text, TextFault};

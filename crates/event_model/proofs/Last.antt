@@ -73,10 +73,9 @@ above_front key value (e ∷ front) back sorted =
     let parts = and_parts (below_all order e.0 (front ++ (key, value) ∷ back)) (is_sorted order (front ++ (key, value) ∷ back)) sorted in
     and_from _ _ (below_at e.0 key value front back parts.0) (above_front key value front back parts.1)
 
-pub in_order_with : (key : Key) (value : Value) (es : Pairs) (bytes : Key) (pairs : Pairs) → bytes ≡ key → pairs ≡ es → AreFieldsInOrder es → is_above_all bytes pairs ≡ true → IsField key value
-    → AreFieldsInOrder (es ++ (key, value) ∷ [])
-in_order_with key value es bytes pairs same_name same is above field =
-    let over : is_above_all key es ≡ true = ap (is_above_all key) (sym same) ∙ ap (λ k. is_above_all k pairs) (sym same_name) ∙ above in
+pub in_order_with : (key : Key) (value : Value) (es pairs : Pairs) → pairs ≡ es → AreFieldsInOrder es → is_above_all key pairs ≡ true → IsField key value → AreFieldsInOrder (es ++ (key, value) ∷ [])
+in_order_with key value es pairs same is above field =
+    let over : is_above_all key es ≡ true = ap (is_above_all key) (sym same) ∙ above in
     record { fields = fields_push key value es is.fields field; order = sorted_push key value es is.order over }
 
 pub pushed : (key : Key) (value : Value) (es items : Pairs) (map : FieldMap) → items ≡ es ++ (key, value) ∷ [] → from_entries es ≡ map → AreFieldsInOrder es → AreFieldsInOrder (es ++ (key, value) ∷ [])
@@ -85,8 +84,6 @@ pushed key value es items map new view is with =
     ap (λ (ps : Pairs). entries {R = order} (from_entries ps)) new ∙ entries-from_entries (es ++ (key, value) ∷ []) with.order
     ∙ ap (λ (ps : Pairs). ps ++ (key, value) ∷ []) (sym (entries-from_entries es is.order) ∙ ap (λ (m : FieldMap). entries m) view)
 
-pub not_above : (key : Key) (es : Pairs) (bytes : Key) (pairs : Pairs) (map : FieldMap) → bytes ≡ key → pairs ≡ es → from_entries es ≡ map → AreFieldsInOrder es → is_above_all bytes pairs ≡ false
-    → is_above_all key (entries map) ≡ false
-not_above key es bytes pairs map same_name same view is none =
-    ap (λ (m : FieldMap). is_above_all key (entries m)) (sym view) ∙ ap (is_above_all key) (entries-from_entries es is.order ∙ sym same)
-    ∙ ap (λ k. is_above_all k pairs) (sym same_name) ∙ none
+pub not_above : (key : Key) (es pairs : Pairs) (map : FieldMap) → pairs ≡ es → from_entries es ≡ map → AreFieldsInOrder es → is_above_all key pairs ≡ false → is_above_all key (entries map) ≡ false
+not_above key es pairs map same view is none =
+    ap (λ (m : FieldMap). is_above_all key (entries m)) (sym view) ∙ ap (is_above_all key) (entries-from_entries es is.order ∙ sym same) ∙ none

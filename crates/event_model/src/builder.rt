@@ -11,7 +11,7 @@ ghost use Rattle.event_model.specs.Built.{is_below, has_same_name, AreSettled};
 use crate::Fields;
 use crate::place::is_above_all;
 use base_types::OutOfMemory;
-use field_types::{FieldKey, FieldName, Value};
+use field_types::{FieldName, Value};
 use std::alloc::Global;
 use std::cmp::Ordering;
 use std::marker::Model;
@@ -47,7 +47,7 @@ impl Model for FieldsBuilder {
 fn compare_names(a: &(FieldName, Value), b: &(FieldName, Value)) -> Ordering
     ensures { result ≡ slice_cmp nat_cmp a.now.0 b.now.0 }
 {
-    a.0.as_key().compare(&b.0.as_key())
+    a.0.compare(&b.0)
 }
 
 fn has_same_name(a: &(FieldName, Value), b: &(FieldName, Value)) -> bool
@@ -57,7 +57,7 @@ fn has_same_name(a: &(FieldName, Value), b: &(FieldName, Value)) -> bool
 }
 
 // Whether the names still rise with this one behind them.
-fn goes_on(pairs: &[(FieldName, Value)], rises: bool, key: &FieldKey<'_>) -> bool
+fn goes_on(pairs: &[(FieldName, Value)], rises: bool, key: &FieldName) -> bool
     requires { rises ≡ true → is_sorted (slice_cmp nat_cmp) pairs.now ≡ true }
     ensures { result ≡ (rises && is_above_all key.now pairs.now) }
 {
@@ -115,7 +115,7 @@ impl FieldsBuilder {
         ensures ok { OnOk result (self.new ≡ insert self.old key value) }
         ensures err { OnErr result (self.new ≡ self.old) }
     {
-        let rises = goes_on(&self.pairs, self.rises, &key.as_key());
+        let rises = goes_on(&self.pairs, self.rises, &key);
         self.pairs.push((key, value))?;
         self.rises = rises;
         Ok(())

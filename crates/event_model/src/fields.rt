@@ -336,7 +336,7 @@ impl Fields {
         ensures ok { IfOk result (λ pushed. IsPush pushed key value self.old self.new) }
         ensures err { OnErr result (self.new ≡ self.old) }
     {
-        if !is_above_all(&self.pairs, &key.as_key()) {
+        if !is_above_all(&self.pairs, &key) {
             return Ok(false);
         }
         self.pairs.push((key, value))?;

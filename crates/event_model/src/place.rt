@@ -30,7 +30,7 @@ impl PlaceHint {
 fn compare(pair: &(FieldName, Value), key: &FieldKey<'_>) -> Ordering
     ensures { result ≡ slice_cmp nat_cmp pair.now.0 key.now }
 {
-    pair.0.as_key().compare(key)
+    pair.0.compare_key(key)
 }
 
 /// Where a name stands among pairs in byte order of their names, or else where it would stand.
@@ -80,12 +80,12 @@ fn place_behind(pairs: &[(FieldName, Value)], key: &FieldKey<'_>, i: usize) -> R
 }
 
 /// Whether a name is above all of pairs in byte order of their names: it is above the last.
-pub fn is_above_all(pairs: &[(FieldName, Value)], key: &FieldKey<'_>) -> bool
+pub fn is_above_all(pairs: &[(FieldName, Value)], key: &FieldName) -> bool
     requires { is_sorted (slice_cmp nat_cmp) pairs.now ≡ true }
     ensures { result ≡ is_above_all key.now pairs.now }
 {
     match pairs.last() {
-        Some(pair) => compare(pair, key).is_lt(),
+        Some(pair) => pair.0.compare(key).is_lt(),
         None => true,
     }
 }

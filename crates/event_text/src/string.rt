@@ -1,9 +1,10 @@
 //! JSON strings in canonical texts.
-ghost use Rattle.std.specs.Prelude.{◌≡◌, ◌∷◌, ◌≤◌, Some, length, flat_map, option_map, IfOk, IfSome};
+ghost use Rattle.std.specs.Prelude.{◌≡◌, ◌∷◌, ◌≤◌, true, Some, length, flat_map, option_map, IfOk, IfSome};
+ghost use Rattle.std.specs.Str.{is_utf8};
 ghost use Rattle.base_types.specs.JsonText.{escaped};
 ghost use Rattle.event_text.specs.Decode.{string_end, escape_end, KeepsEnd, short_escape, digit_of, control, unescaped, unescaped_behind, unescaped_control, utf8_text, is_content_of, text_in, text_at};
 
-use base_types::{OutOfMemory, Text, TextFault, plain_len, push_quoted};
+use base_types::{OutOfMemory, Text, TextFault, is_plain_text, push_quoted, split_plain_ascii};
 use field_types::FieldName;
 use memchr::{memchr, memchr2};
 use std::alloc::Global;
@@ -137,6 +138,9 @@ fn utf8_text(alloc: Global, bytes: &[u8]) -> Result<Option<Text>, OutOfMemory>
 fn text_in(alloc: Global, content: &[u8]) -> Result<Option<Text>, OutOfMemory>
     ensures { IfOk result (λ found. found ≡ text_in content.now) }
 {
+    if is_plain_text(content) {
+        return utf8_text(alloc, content);
+    }
     let text = unescape(alloc, content)?;
     if !is_content_of(alloc, content, &text)? {
         return Ok(None);
@@ -158,13 +162,14 @@ fn any_text_at(alloc: Global, inside: &[u8]) -> Result<Option<(Text, &[u8])>, Ou
     Ok(Some((text, behind)))
 }
 
-// The content of the string whose inside begins here, where that has no escape, and what is behind the string: nothing
-// where another byte than its quotation mark is the first that doesn't stand in a string as it is.
-fn plain_string(inside: &[u8]) -> Option<(&[u8], &[u8])>
+// The content of the string whose inside begins here, where that is ASCII without an escape, and what is behind the
+// string: nothing where another byte than its quotation mark is the first that such a content can't have.
+fn plain_string(inside: &[u8]) -> Option<(&str, &[u8])>
     ensures ends { IfSome result (λ ends. string_end inside.now ≡ Some (ends.0.now, ends.1.now)) }
     ensures plain { IfSome result (λ ends. flat_map escaped ends.0.now ≡ ends.0.now) }
+    ensures utf8 { IfSome result (λ ends. is_utf8 ends.0.now ≡ true) }
 {
-    let (content, rest) = inside.split_at(plain_len(inside));
+    let (content, rest) = split_plain_ascii(inside);
     let [mark, behind @ ..] = rest else {
         return None;
     };
@@ -179,26 +184,11 @@ fn plain_string(inside: &[u8]) -> Option<(&[u8], &[u8])>
 pub fn text_at(alloc: Global, inside: &[u8]) -> Result<Option<(Text, &[u8])>, OutOfMemory>
     ensures { IfOk result (λ found. option_map (λ at. (at.0, at.1.now)) found ≡ text_at inside.now) }
 {
-    let Some((text, behind)) = plain_string(inside) else {
+    let Some((content, behind)) = plain_string(inside) else {
         return any_text_at(alloc, inside);
     };
-    match utf8_text(alloc, text)? {
-        Some(text) => Ok(Some((text, behind))),
-        None => Ok(None),
-    }
-}
-
-// Bytes as a name, where they are UTF-8. A name of the table of fields takes no memory.
-fn utf8_name(alloc: Global, bytes: &[u8]) -> Result<Option<FieldName>, OutOfMemory>
-    ensures { IfOk result (λ found. found ≡ utf8_text bytes.now) }
-{
-    if let Some(known) = FieldName::known(bytes) {
-        return Ok(Some(known));
-    }
-    match utf8_text(alloc, bytes)? {
-        Some(text) => Ok(Some(FieldName::from(text))),
-        None => Ok(None),
-    }
+    let text = Text::from(String::from_str(alloc, content)?);
+    Ok(Some((text, behind)))
 }
 
 // The name of a field, as `name_at`, whatever its content has.
@@ -215,11 +205,9 @@ fn any_name_at(alloc: Global, inside: &[u8]) -> Result<Option<(FieldName, &[u8])
 pub fn name_at(alloc: Global, inside: &[u8]) -> Result<Option<(FieldName, &[u8])>, OutOfMemory>
     ensures { IfOk result (λ found. option_map (λ at. (at.0, at.1.now)) found ≡ text_at inside.now) }
 {
-    let Some((name, behind)) = plain_string(inside) else {
+    let Some((content, behind)) = plain_string(inside) else {
         return any_name_at(alloc, inside);
     };
-    match utf8_name(alloc, name)? {
-        Some(name) => Ok(Some((name, behind))),
-        None => Ok(None),
-    }
+    let name = FieldName::new(alloc, content)?;
+    Ok(Some((name, behind)))
 }

@@ -6,8 +6,7 @@ ghost use Rattle.event_text.specs.Decode.{canonical_decimal, has_point, is_stop,
 use crate::string::text_at;
 use base_types::OutOfMemory;
 use field_types::{Item, ItemList, Value};
-use itoa::Buffer;
-use scalar_text::{print_decimal, read_decimal, read_whole};
+use scalar_text::{is_printed_decimal, is_printed_whole, read_decimal, read_whole};
 use std::alloc::Global;
 
 // What follows a value: a comma, or the end of a list or an object.
@@ -39,7 +38,7 @@ fn canonical_whole(run: &[u8]) -> Option<i64>
     let Ok(n) = read_whole(run) else {
         return None;
     };
-    if Buffer::new().format(n).as_bytes() == run {
+    if is_printed_whole(run, n) {
         Some(n)
     } else {
         None
@@ -47,17 +46,16 @@ fn canonical_whole(run: &[u8]) -> Option<i64>
 }
 
 // The decimal that a run is the canonical text of, in millionths.
-fn canonical_decimal(alloc: Global, run: &[u8]) -> Result<Option<i64>, OutOfMemory>
-    ensures { IfOk result (λ found. found ≡ canonical_decimal run.now) }
+fn canonical_decimal(run: &[u8]) -> Option<i64>
+    ensures { result ≡ canonical_decimal run.now }
 {
     let Ok(n) = read_decimal(run) else {
-        return Ok(None);
+        return None;
     };
-    let text = print_decimal(alloc, n)?;
-    if text.bytes() == run {
-        Ok(Some(n))
+    if is_printed_decimal(run, n) {
+        Some(n)
     } else {
-        Ok(None)
+        None
     }
 }
 
@@ -68,39 +66,39 @@ fn has_point(run: &[u8]) -> bool
 }
 
 // The number that a run is the canonical text of: a decimal where it has a point.
-fn number_in(alloc: Global, run: &[u8]) -> Result<Option<Item>, OutOfMemory>
-    ensures { IfOk result (λ found. found ≡ number_in run.now) }
+fn number_in(run: &[u8]) -> Option<Item>
+    ensures { result ≡ number_in run.now }
 {
     if has_point(run) {
-        Ok(canonical_decimal(alloc, run)?.map(Item::Decimal))
+        canonical_decimal(run).map(Item::Decimal)
     } else {
-        Ok(canonical_whole(run).map(Item::Whole))
+        canonical_whole(run).map(Item::Whole)
     }
 }
 
 // The flag or number that a run is the canonical text of.
 #[tactic(auto, unfolding(crate::specs::Decode::scalar_in))]
-fn scalar_in(alloc: Global, run: &[u8]) -> Result<Option<Item>, OutOfMemory>
-    ensures { IfOk result (λ found. found ≡ scalar_in run.now) }
+fn scalar_in(run: &[u8]) -> Option<Item>
+    ensures { result ≡ scalar_in run.now }
 {
     if run == b"true".as_slice() {
-        return Ok(Some(Item::Flag(true)));
+        return Some(Item::Flag(true));
     }
     if run == b"false".as_slice() {
-        return Ok(Some(Item::Flag(false)));
+        return Some(Item::Flag(false));
     }
-    number_in(alloc, run)
+    number_in(run)
 }
 
 // The flag or number before the first stop, and what is behind it.
 #[tactic(auto, unfolding(crate::specs::Decode::scalar_at))]
-fn scalar_at(alloc: Global, rest: &[u8]) -> Result<Option<(Item, &[u8])>, OutOfMemory>
-    ensures { IfOk result (λ found. option_map (λ at. (at.0, at.1.now)) found ≡ scalar_at rest.now) }
+fn scalar_at(rest: &[u8]) -> Option<(Item, &[u8])>
+    ensures { option_map (λ at. (at.0, at.1.now)) result ≡ scalar_at rest.now }
 {
     let (run, behind) = rest.split_at(run_len(rest));
-    match scalar_in(alloc, run)? {
-        Some(item) => Ok(Some((item, behind))),
-        None => Ok(None),
+    match scalar_in(run) {
+        Some(item) => Some((item, behind)),
+        None => None,
     }
 }
 
@@ -114,7 +112,7 @@ fn item_at(alloc: Global, rest: &[u8]) -> Result<Option<(Item, &[u8])>, OutOfMem
         [b'"', inside @ ..] => {
             Ok(text_at(alloc, inside)?.map(|(text, behind)| (Item::Text(text), behind)))
         }
-        _ => scalar_at(alloc, rest),
+        _ => Ok(scalar_at(rest)),
     }
 }
 
@@ -177,6 +175,6 @@ pub fn value_at(alloc: Global, rest: &[u8]) -> Result<Option<(Value, &[u8])>, Ou
         [b'"', inside @ ..] => {
             Ok(text_at(alloc, inside)?.map(|(text, behind)| (Value::Text(text), behind)))
         }
-        _ => Ok(scalar_at(alloc, rest)?.map(|(item, behind)| (value_of(item), behind))),
+        _ => Ok(scalar_at(rest).map(|(item, behind)| (value_of(item), behind))),
     }
 }

@@ -1,5 +1,5 @@
 -- The order of the rows in the code's table of fields is the byte order of their names.
-use Rattle.std.proofs.Common.{◌≡◌, ℕ, zero, suc, ◌<◌, List, [], ◌∷◌, slice_get, true, Some, Ordering, Less, Equal, Greater, nat_cmp, refl, sym, ap, subst, ◌∙◌, arith}
+use Rattle.std.proofs.Common.{◌≡◌, ℕ, zero, suc, ◌<◌, List, [], ◌∷◌, length, slice_get, true, Some, Ordering, Less, Equal, Greater, nat_cmp, refl, sym, ap, subst, ◌∙◌, arith}
 use Rattle.std.specs.Cmp.{nat_cmp_is}
 use Rattle.std.specs.FinMap.{is_sorted}
 use Rattle.std.specs.FinMap.Entries.{below_all}
@@ -8,7 +8,8 @@ use Rattle.std.proofs.lemmas.Bool.{and_parts}
 use Rattle.std.proofs.lemmas.Cmp.{nat_list_cmp_total, tied_itself}
 use Rattle.std.proofs.lemmas.Option.{none-some}
 use Rattle.base_types.proofs.Places.{Key, order, less_of}
-use Rattle.field_types.specs.Names.{rows}
+use Rattle.field_types.specs.Names.{bytes_in_row, rows}
+use Rattle.field_types.proofs.Tables.{row_there}
 use Rattle.field_types.specs.declared.kind.FieldType.{FieldType}
 
 abbrev Row : Type 0
@@ -54,5 +55,8 @@ numbered (first ∷ all) (suc m) (suc n) a b sorted at_m at_n =
     one_later m n (order a.0 b.0) (numbered all m n a b (and_parts (below_all order first.0 all) (is_sorted order all) sorted).1 at_m at_n)
 
 -- names are compared by the numbers of their rows
-pub by_numbers : (m n : ℕ) (a b : Key) (x y : FieldType) → slice_get rows m ≡ Some (a, x) → slice_get rows n ≡ Some (b, y) → nat_cmp m n ≡ order a b
-by_numbers m n a b x y at_m at_n = sym (nat_cmp_is m n (order a b) (numbered rows m n (a, x) (b, y) rows_sorted at_m at_n))
+pub by_numbers : (m n : ℕ) → m < length rows → n < length rows → nat_cmp m n ≡ order (bytes_in_row m) (bytes_in_row n)
+by_numbers m n m_within n_within =
+    let a = row_there m m_within in
+    let b = row_there n n_within in
+    sym (nat_cmp_is m n (order (bytes_in_row m) (bytes_in_row n)) (numbered rows m n (bytes_in_row m, a.0) (bytes_in_row n, b.0) rows_sorted a.1 b.1))

@@ -3,6 +3,7 @@ pub mod Faults
 pub mod Field
 pub mod Hash
 pub mod Kept
+pub mod Known
 pub mod Names
 pub mod Writing
 pub mod Written

@@ -1,13 +1,15 @@
-ghost use Rattle.std.specs.Prelude.{◌≡◌, ◌<◌, true, IfSome, OnSome, nat_le, map, option_map, option_and_then, slice_get};
+ghost use Rattle.std.specs.Prelude.{◌≡◌, ◌<◌, true, None, Some, OnSome, MatchOption, nat_le, map, length, is_some, option_and_then, slice_get};
 ghost use Rattle.std.specs.List.{list_all};
-ghost use Rattle.std.specs.Option.{option_copied};
+ghost use Rattle.std.specs.Ordering.{nat_cmp};
+ghost use Rattle.std.specs.Cmp.Lexicographic.{slice_cmp};
 ghost use Rattle.std.specs.Str.{is_utf8};
 ghost use Rattle.field_types.specs.Field.{type_of, kind_in, field_table, is_extra_name, is_extra_part};
 ghost use Rattle.field_types.specs.Hash.{hash, if_named};
-ghost use Rattle.field_types.specs.Names.{rows, row_name, IsRow};
+ghost use Rattle.field_types.specs.Names.{bytes_in_row, rows};
 
 use crate::FieldType;
 use base_types::Text;
+use std::cmp::Ordering;
 use std::str;
 
 /// The table of fields, in byte order of their names.
@@ -125,11 +127,28 @@ fn is_extra_part(name: &[u8]) -> bool
     !name.is_empty() && name.len() <= LONGEST_EXTRA_PART && has_no_control(name) && is_utf8(name)
 }
 
+// The same of a text, whose bytes are UTF-8.
+fn is_extra_text(name: &str) -> bool
+    ensures { result ≡ is_extra_part name.now }
+{
+    !name.is_empty() && name.len() <= LONGEST_EXTRA_PART && has_no_control(name.as_bytes())
+}
+
 fn is_extra_name(key: &[u8]) -> bool
     ensures { result ≡ is_extra_name key.now }
 {
     match key.strip_prefix(EXTRA_FRONT) {
         Some(name) => is_extra_part(name),
+        None => false,
+    }
+}
+
+// As `is_extra_name`, of a text.
+fn is_extra(key: &str) -> bool
+    ensures { result ≡ is_extra_name key.now }
+{
+    match key.strip_prefix("extra.") {
+        Some(name) => is_extra_text(name),
         None => false,
     }
 }
@@ -169,58 +188,63 @@ fn hash(name: &[u8]) -> usize
     sum % 256
 }
 
-/// A row of the table: its number, and its kind.
+/// A row of the table, by its number.
 #[derive(Clone, Copy, Debug)]
 pub(crate) struct Row {
     pub number: u8,
-    pub kind: FieldType,
+    pub ghost in_table: { number < length rows },
 }
 
-// The name there.
-fn name_at(rows: &[(&'static str, FieldType)], at: usize) -> Option<&'static str>
-    ensures { option_copied result ≡ option_map row_name (slice_get (map (λ row. (row.0.now, row.1)) rows.now) at) }
+// The table as it stands in memory.
+#[tactic(auto, unfolding(crate::specs::Names::rows))]
+fn fields() -> &'static [(&'static str, FieldType)]
+    ensures { map (λ row. (row.0.now, row.1)) result.now ≡ rows }
 {
-    let row = rows.get(at)?;
-    Some(row.0)
+    &FIELDS
 }
 
 /// The name of a row.
-#[tactic(auto, unfolding(crate::specs::Names::rows))]
-pub(crate) fn name_of(row: Row) -> Option<&'static str>
-    ensures { option_copied result ≡ option_map row_name (slice_get rows row.number) }
+pub(crate) fn name_of(row: Row) -> &'static str
+    ensures { result.now ≡ bytes_in_row row.number }
 {
-    name_at(&FIELDS, usize::from(row.number))
+    fields()[usize::from(row.number)].0
 }
 
-// The row there, if its name is that one.
-fn row_at(
-    rows: &[(&'static str, FieldType)],
-    at: usize,
-    name: &[u8],
-) -> Option<(&'static str, FieldType)>
-    ensures kind { option_map (λ row. row.1) result ≡ option_and_then (if_named name.now) (slice_get (map (λ row. (row.0.now, row.1)) rows.now) at) }
-    ensures named { IfSome result (λ row. row.0.now ≡ name.now) }
-    ensures utf8 { OnSome result (is_utf8 name.now ≡ true) }
+/// The kind of a row.
+pub(crate) fn kind_of(row: Row) -> FieldType
+    ensures { Some result ≡ type_of (bytes_in_row row.number) }
 {
-    let row = rows.get(at)?;
-    if row.0.as_bytes() == name {
-        Some(*row)
-    } else {
-        None
+    fields()[usize::from(row.number)].1
+}
+
+/// The order of the names of two rows, which is that of their numbers.
+pub(crate) fn compare_rows(a: Row, b: Row) -> Ordering
+    ensures { result ≡ slice_cmp nat_cmp (bytes_in_row a.number) (bytes_in_row b.number) }
+{
+    a.number.cmp(&b.number)
+}
+
+// Whether the row there has that name.
+fn is_named(rows: &[(&'static str, FieldType)], at: usize, name: &[u8]) -> bool
+    ensures named { result ≡ is_some (option_and_then (if_named name.now) (slice_get (map (λ row. (row.0.now, row.1)) rows.now) at)) }
+    ensures utf8 { result ≡ true → is_utf8 name.now ≡ true }
+{
+    match rows.get(at) {
+        Some(row) => row.0.as_bytes() == name,
+        None => false,
     }
 }
 
-/// The row of that name in the table, and the name. The names of the table stand in JSON strings as they are.
-pub(crate) fn row_of(name: &[u8]) -> Option<(&'static str, Row)>
-    ensures kind { option_map (λ row. row.1.kind) result ≡ kind_in field_table name.now }
-    ensures row { IfSome result (λ row. IsRow row.1 name.now) }
-    ensures named { IfSome result (λ row. row.0.now ≡ name.now) }
+/// The row of that name in the table. The names of the table stand in JSON strings as they are.
+pub(crate) fn row_of(name: &[u8]) -> Option<Row>
+    ensures row { MatchOption result (kind_in field_table name.now ≡ None) (λ row. bytes_in_row row.number ≡ name.now) }
     ensures utf8 { OnSome result (is_utf8 name.now ≡ true) }
 {
     let number = ROWS[hash(name)];
-    match row_at(&FIELDS, usize::from(number), name) {
-        Some((known, kind)) => Some((known, Row { number, kind })),
-        None => None,
+    if is_named(fields(), usize::from(number), name) {
+        Some(Row { number })
+    } else {
+        None
     }
 }
 
@@ -230,15 +254,20 @@ pub fn type_of_bytes(key: &[u8]) -> Option<FieldType>
     ensures { result ≡ type_of key.now }
 {
     match row_of(key) {
-        Some(row) => Some(row.1.kind),
+        Some(row) => Some(kind_of(row)),
         None if is_extra_name(key) => Some(FieldType::Extra),
         None => None,
     }
 }
 
 /// The kind of a field, by its name; None exactly where there is no such field. It takes no memory.
+#[tactic(auto, unfolding(crate::specs::Field::type_of))]
 pub fn type_of(key: &Text) -> Option<FieldType>
     ensures { result ≡ type_of key.now }
 {
-    type_of_bytes(key.bytes())
+    match row_of(key.bytes()) {
+        Some(row) => Some(kind_of(row)),
+        None if is_extra(key.as_str()) => Some(FieldType::Extra),
+        None => None,
+    }
 }

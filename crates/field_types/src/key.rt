@@ -2,10 +2,11 @@ ghost use Rattle.std.specs.Prelude.{◌≡◌, Some, IfSome, option_map, slice_g
 ghost use Rattle.std.specs.Ordering.{nat_cmp};
 ghost use Rattle.std.specs.Cmp.Lexicographic.{slice_cmp};
 ghost use Rattle.field_types.specs.Field.{type_of};
-ghost use Rattle.field_types.specs.Names.{IsRowOf, row_name, rows};
+ghost use Rattle.field_types.specs.Names.{row_name, rows};
+ghost use Rattle.field_types.specs.Known.{IsRowOf};
 
 use crate::FieldType;
-use crate::field::{Row, name_of, row_of, type_of_bytes};
+use crate::field::{Row, compare_rows, kind_of, name_of, row_of, type_of_bytes};
 use std::cmp::Ordering;
 use std::marker::Model;
 
@@ -19,7 +20,7 @@ pub struct FieldKey<'t> {
 
 impl<'t> Model for FieldKey<'t> {
     ghost use Rattle.std.specs.Prelude.{List, ℕ};
-    ghost use Rattle.field_types.specs.Names.{IsRowOf};
+    ghost use Rattle.field_types.specs.Known.{IsRowOf};
 
     ghost Value = { List ℕ };
 
@@ -34,7 +35,7 @@ impl<'t> FieldKey<'t> {
         ensures { result ≡ text.now }
     {
         match row_of(text.as_bytes()) {
-            Some((_, row)) => FieldKey::with_row(text, Some(row)),
+            Some(row) => FieldKey::with_row(text, Some(row)),
             None => FieldKey::with_row(text, None),
         }
     }
@@ -47,12 +48,18 @@ impl<'t> FieldKey<'t> {
         FieldKey { text, row }
     }
 
+    pub(crate) fn row(&self) -> Option<Row>
+        ensures { IsRowOf result self.now }
+    {
+        self.row
+    }
+
     /// The kind of the field; None exactly where there is no field of this name. It takes no memory.
     pub fn kind(&self) -> Option<FieldType>
         ensures { result ≡ type_of self.now }
     {
         match self.row {
-            Some(row) => Some(row.kind),
+            Some(row) => Some(kind_of(row)),
             None => type_of_bytes(self.text.as_bytes()),
         }
     }
@@ -78,8 +85,7 @@ impl<'t> FieldKey<'t> {
         ensures { IfSome result (λ known. known ≡ self.now) }
     {
         let row = self.row?;
-        let name = name_of(row)?;
-        Some(FieldKey::with_row(name, Some(row)))
+        Some(FieldKey::with_row(name_of(row), Some(row)))
     }
 
     /// The order of the names' bytes.
@@ -87,7 +93,7 @@ impl<'t> FieldKey<'t> {
         ensures { result ≡ slice_cmp nat_cmp self.now other.now }
     {
         match (self.row, other.row) {
-            (Some(row), Some(other)) => row.number.cmp(&other.number),
+            (Some(row), Some(other)) => compare_rows(row, other),
             _ => self.text.as_bytes().cmp(other.text.as_bytes()),
         }
     }

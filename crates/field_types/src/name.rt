@@ -1,21 +1,24 @@
 ghost use Rattle.std.specs.Prelude.{◌≡◌, true, flat_map, IfOk, IfSome, OnSome};
 ghost use Rattle.std.specs.Str.{bytes_eq, is_utf8};
+ghost use Rattle.std.specs.Ordering.{nat_cmp};
+ghost use Rattle.std.specs.Cmp.Lexicographic.{slice_cmp};
 ghost use Rattle.std.proofs.Common.{rules};
 ghost use Rattle.std.specs.Cmp.Rules.{comparing};
 ghost use Rattle.field_types.specs.Field.{type_of};
-ghost use Rattle.field_types.specs.Names.{IsRowOf};
+ghost use Rattle.field_types.specs.Known.{IsRowOf};
 ghost use Rattle.base_types.specs.JsonText.{escaped};
 
-use crate::field::{Row, row_of, type_of};
+use crate::field::{Row, compare_rows, kind_of, name_of, row_of, type_of};
 use crate::{FieldKey, FieldType};
 use base_types::{OutOfMemory, Text};
 use std::alloc::Global;
+use std::cmp::Ordering;
 use std::marker::Model;
 
 // Names of the table of fields take no memory.
 #[derive(Debug, Drop)]
 enum Name {
-    Known(&'static str, Row),
+    Known(Row),
     Other(Text),
 }
 
@@ -27,13 +30,11 @@ pub struct FieldName {
 
 impl Model for FieldName {
     ghost use Rattle.std.specs.Prelude.{List, ℕ};
-    ghost use Rattle.field_types.specs.Names.{name_bytes, IsKnown};
+    ghost use Rattle.field_types.specs.Known.{name_bytes};
 
     ghost Value = { List ℕ };
 
     ghost view = { λ n. name_bytes n.name };
-
-    ghost invariant = { λ n. IsKnown n.name };
 }
 
 impl PartialEq for FieldName {
@@ -78,8 +79,8 @@ impl FieldName {
         ensures plain { OnSome result (flat_map escaped name.now ≡ name.now) }
     {
         match row_of(name) {
-            Some((known, row)) => Some(FieldName {
-                name: Name::Known(known, row),
+            Some(row) => Some(FieldName {
+                name: Name::Known(row),
             }),
             None => None,
         }
@@ -90,7 +91,7 @@ impl FieldName {
         ensures { result ≡ type_of self.now }
     {
         match &self.name {
-            Name::Known(_, row) => Some(row.kind),
+            Name::Known(row) => Some(kind_of(*row)),
             Name::Other(name) => type_of(name),
         }
     }
@@ -99,7 +100,7 @@ impl FieldName {
         ensures { result.now ≡ self.now }
     {
         match &self.name {
-            Name::Known(known, _) => known,
+            Name::Known(row) => name_of(*row),
             Name::Other(text) => text.as_str(),
         }
     }
@@ -114,7 +115,7 @@ impl FieldName {
         ensures { IsRowOf result self.now }
     {
         match &self.name {
-            Name::Known(_, row) => Some(*row),
+            Name::Known(row) => Some(*row),
             Name::Other(_) => None,
         }
     }
@@ -126,12 +127,32 @@ impl FieldName {
         FieldKey::with_row(self.as_str(), self.row())
     }
 
+    /// The order of the names' bytes.
+    pub fn compare(&self, other: &FieldName) -> Ordering
+        ensures { result ≡ slice_cmp nat_cmp self.now other.now }
+    {
+        match (self.row(), other.row()) {
+            (Some(row), Some(other)) => compare_rows(row, other),
+            _ => self.bytes().cmp(other.bytes()),
+        }
+    }
+
+    /// The order of the names' bytes.
+    pub fn compare_key(&self, key: &FieldKey<'_>) -> Ordering
+        ensures { result ≡ slice_cmp nat_cmp self.now key.now }
+    {
+        match (self.row(), key.row()) {
+            (Some(row), Some(other)) => compare_rows(row, other),
+            _ => self.bytes().cmp(key.as_str().as_bytes()),
+        }
+    }
+
     pub fn copy(&self, alloc: Global) -> Result<FieldName, OutOfMemory>
         ensures { IfOk result (λ copied. copied ≡ self.now) }
     {
         match &self.name {
-            Name::Known(known, row) => Ok(FieldName {
-                name: Name::Known(known, *row),
+            Name::Known(row) => Ok(FieldName {
+                name: Name::Known(*row),
             }),
             Name::Other(text) => Ok(FieldName::from(text.copy(alloc)?)),
         }

@@ -11,7 +11,9 @@ ghost use Rattle.field_types.specs.Kept.{IsKeptAs};
 
 use crate::{FieldFault, FieldType, Value};
 use base_types::Text;
-use scalar_net::{print_ip, print_network, read_asn, read_fqdn, read_ip, read_network, read_url};
+use scalar_net::{
+    is_plain_url, print_ip, print_network, read_asn, read_fqdn, read_ip, read_network, read_url,
+};
 use scalar_text::{
     class_word, is_printed_time, print_time, read_decimal, read_flag, read_port, read_raw,
     read_time, read_whole, registry_word, taxonomy_word, tlp_word,
@@ -178,12 +180,19 @@ fn network(alloc: Global, text: &str) -> Result<Kept, FieldFault>
 fn domain(alloc: Global, text: &str) -> Result<Kept, FieldFault>
     ensures { IsKeptAs (of_text kind.Fqdn text.now) text.now result }
 {
-    Ok(text_of(read_fqdn(alloc, text.as_bytes())?))
+    let name = read_fqdn(alloc, text.as_bytes())?;
+    if name.as_str() == text {
+        return Ok(Kept::Same);
+    }
+    Ok(text_of(Text::from(name.into_owned(alloc)?)))
 }
 
 fn url(alloc: Global, text: &str) -> Result<Kept, FieldFault>
     ensures { IsKeptAs (of_text kind.Url text.now) text.now result }
 {
+    if is_plain_url(text) {
+        return Ok(Kept::Same);
+    }
     Ok(text_of(read_url(alloc, text.as_bytes())?))
 }
 

@@ -5,6 +5,7 @@ pub mod Bytes
 pub mod FqdnLaws
 pub mod NetworkTexts
 pub mod Networks
+pub mod PlainUrls
 pub mod Ranges
 pub mod Runs
 pub mod Slashes

@@ -4,4 +4,5 @@ pub mod Canonical
 pub mod Family
 pub mod Fqdn
 pub mod Network
+pub mod PlainUrl
 pub mod Url

@@ -1,12 +1,15 @@
 ghost use Rattle.std.specs.Prelude.{◌≡◌, ◌==◌, length};
 ghost use Rattle.std.specs.List.{list_all, list_any, slice_split};
+ghost use Rattle.std.specs.Cow.{cow_str_bytes};
 ghost use Rattle.std.specs.Int.{is_in_range};
+ghost use Rattle.std.specs.Result.{result_map_both};
 ghost use Rattle.scalar_net.specs.Fqdn.{fqdn, is_domain_name, is_ipv4, has_end_hyphen, is_label, is_label_byte, without_final_dot};
 ghost use Rattle.base_types.specs.Scalar.{IsReadAs};
 
-use base_types::{ScalarFault, Text};
+use base_types::ScalarFault;
 use idna::{AsciiDenyList, Errors, domain_to_ascii_cow};
 use std::alloc::Global;
+use std::borrow::CowStr;
 use std::net::Ipv4Addr;
 
 const LONGEST_NAME: usize = 253;
@@ -76,13 +79,14 @@ fn is_domain_name(name: &[u8]) -> bool
     name.len() <= LONGEST_NAME && has_dot(name) && has_labels(name) && !is_ipv4(name)
 }
 
-/// The canonical text of a domain name: its ASCII form (UTS 46) without a final dot.
+/// The canonical text of a domain name: its ASCII form (UTS 46) without a final dot. Where the text stands so already, it
+/// takes no memory.
 #[tactic(auto, unfolding(crate::specs::Fqdn::fqdn))]
-pub fn read_fqdn(alloc: Global, text: &[u8]) -> Result<Text, ScalarFault>
-    ensures { IsReadAs (fqdn text.now) result }
+pub fn read_fqdn(alloc: Global, text: &[u8]) -> Result<CowStr<'_>, ScalarFault>
+    ensures { IsReadAs (fqdn text.now) (result_map_both cow_str_bytes (λ fault. fault) result) }
 {
     match domain_to_ascii_cow(alloc, without_final_dot(text), AsciiDenyList::EMPTY) {
-        Ok(name) if is_domain_name(name.as_bytes()) => Ok(Text::from(name.into_owned(alloc)?)),
+        Ok(name) if is_domain_name(name.as_bytes()) => Ok(name),
         Err(Errors::OutOfMemory) => Err(ScalarFault::OutOfMemory),
         _ => Err(ScalarFault::Bad),
     }

@@ -31,19 +31,20 @@ pub fn read_ip(text: &[u8]) -> Result<Ip, Bad>
     }
 }
 
-fn last_slash(text: &[u8]) -> Option<usize>
-    ensures none { IfNone result (EachIndex text.now (λ k. slice_index text.now k ≢ 47)) }
-    ensures at { IfSome result (λ i. (i < length text.now) × (slice_index text.now i ≡ 47)) }
-    ensures last { IfSome result (λ i. (k : ℕ) → i < k → k < length text.now → slice_index text.now k ≢ 47) }
+/// Where a byte stands last.
+pub(crate) fn last_of(text: &[u8], mark: u8) -> Option<usize>
+    ensures none { IfNone result (EachIndex text.now (λ k. slice_index text.now k ≢ mark)) }
+    ensures at { IfSome result (λ i. (i < length text.now) × (slice_index text.now i ≡ mark)) }
+    ensures last { IfSome result (λ i. (k : ℕ) → i < k → k < length text.now → slice_index text.now k ≢ mark) }
 {
-    text.iter().rposition(|b| *b == b'/')
+    text.iter().rposition(|b| *b == mark)
 }
 
 // What is before the last `/` and what is behind it.
 fn around_last_slash(text: &[u8]) -> Option<(&[u8], &[u8])>
     ensures { MatchOption result (¬ (Contains text.now 47)) (λ parts. (text.now ≡ parts.0.now ++ 47 ∷ parts.1.now) × (¬ (Contains parts.1.now 47))) }
 {
-    let at = last_slash(text)?;
+    let at = last_of(text, b'/')?;
     Some((&text[..at], &text[at + 1..]))
 }
 

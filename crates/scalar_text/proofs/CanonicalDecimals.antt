@@ -51,7 +51,7 @@ amount_other (suc w) p fits below more = other_first (decimal (suc w)) (part_tex
 
 -- ---- no needless zero
 
-whole_alone : (w : ℕ) → w < 2 ^ 64 → slice_index (decimal w) 0 ≡ 48 → length (decimal w) ≡ 1
+pub whole_alone : (w : ℕ) → w < 2 ^ 64 → slice_index (decimal w) 0 ≡ 48 → length (decimal w) ≡ 1
 whole_alone zero fits e = ap length (decimal_digit 0 (omega arith))
 whole_alone (suc w) fits e = let first = first_decimal (suc w) (omega arith) fits in absurd (omega (arith, first, e))
 
@@ -76,7 +76,7 @@ until_last (suc k) (suc n) d few below none e =
     let first = first_is_zero (suc n) (subst (λ ds. last_or (Some (first_digit (suc n))) ds ≡ Some 48) nothing last) in
     absurd (omega (arith, left, first))
 
-part_alone : (p : ℕ) → p < 1000000 → last_or None (part_text p) ≡ Some 48 → length (part_text p) ≡ 1
+pub part_alone : (p : ℕ) → p < 1000000 → last_or None (part_text p) ≡ Some 48 → length (part_text p) ≡ 1
 part_alone p below e =
     let left = until_last 5 (behind_first p) (first_digit p) (omega arith) (omega arith) (omega arith) e in
     ap (λ n. length (first_digit p ∷ digits_until_zero 5 n)) left
@@ -120,7 +120,7 @@ decimal_is_canonical z fits = canonical_by (is_negative z) (unsigned_abs z / 100
 abbrev amount_text : ℕ → List ℕ
 amount_text n = decimal (n / 1000000) ++ 46 ∷ part_text (n % 1000000)
 
-text_parts : (z : ℤ) → unsigned_abs z < 2 ^ 64 → (has_minus (decimal_text z) ≡ is_negative z) × (behind_minus (decimal_text z) ≡ amount_text (unsigned_abs z))
+pub text_parts : (z : ℤ) → unsigned_abs z < 2 ^ 64 → (has_minus (decimal_text z) ≡ is_negative z) × (behind_minus (decimal_text z) ≡ amount_text (unsigned_abs z))
 text_parts z fits =
     let w = unsigned_abs z / 1000000 in
     let p = unsigned_abs z % 1000000 in

@@ -75,7 +75,7 @@ rest_only : (d : ℕ) (ds : List ℕ) → AllDigits 10 ds → length ds ≤ 5 �
 rest_only d [] all short alone = until_nothing 5
 rest_only d (x ∷ xs) all short alone = until_only 5 (x ∷ xs) all short (omega arith) (λ e. let one = alone e in absurd (omega (arith, one)))
 
-part_only : (part : List ℕ) → IsNumeral 10 part → length part ≤ 6 → (last_or None part ≡ Some 48 → length part ≡ 1) → (millionths part < 1000000) × (part_text (millionths part) ≡ part)
+pub part_only : (part : List ℕ) → IsNumeral 10 part → length part ≤ 6 → (last_or None part ≡ Some 48 → length part ≡ 1) → (millionths part < 1000000) × (part_text (millionths part) ≡ part)
 part_only [] digits short alone = absurd (omega (arith, digits.0))
 part_only (d ∷ ds) digits short alone =
     let parts = digits_part d ds digits.1.0 digits.1.1 (omega (arith, short)) in
@@ -84,7 +84,7 @@ part_only (d ∷ ds) digits short alone =
       ap part_text value ∙ ap (λ b. b ∷ digits_until_zero 5 (behind_first (digits_value 10 (d ∷ ds) * 10 ^ (6 - suc (length ds))))) parts.0 ∙ ap (λ m. d ∷ digits_until_zero 5 m) parts.1 ∙ ap (λ r. d ∷ r) (rest_only d ds digits.1.1 (omega (arith, short)) alone),
     )
 
-whole_only : (whole : List ℕ) → IsNumeral 10 whole → (slice_index whole 0 ≡ 48 → length whole ≡ 1) → digits_value 10 whole < 2 ^ 64 → decimal (digits_value 10 whole) ≡ whole
+pub whole_only : (whole : List ℕ) → IsNumeral 10 whole → (slice_index whole 0 ≡ 48 → length whole ≡ 1) → digits_value 10 whole < 2 ^ 64 → decimal (digits_value 10 whole) ≡ whole
 whole_only whole digits alone fits = decimal-digits_value digits_model whole (digits_model.from whole digits.1) digits.0 alone fits
 
 -- a text with a digit that isn't `0` writes no zero
@@ -103,7 +103,7 @@ signed_parts false n more = (le-ltb n 0 (omega arith), refl)
 signed_parts true zero more = absurd (omega (arith, more refl))
 signed_parts true (suc n) more = (refl, refl)
 
-text_of : (negative : Bool) (w p : ℕ) (text : List ℕ) → p < 1000000 → (negative ≡ true → 0 < w * 1000000 + p) → text ≡ (if negative then 45 ∷ (decimal w ++ 46 ∷ part_text p) else decimal w ++ 46 ∷ part_text p) → text ≡ decimal_text (signed negative (w * 1000000 + p))
+pub text_of : (negative : Bool) (w p : ℕ) (text : List ℕ) → p < 1000000 → (negative ≡ true → 0 < w * 1000000 + p) → text ≡ (if negative then 45 ∷ (decimal w ++ 46 ∷ part_text p) else decimal w ++ 46 ∷ part_text p) → text ≡ decimal_text (signed negative (w * 1000000 + p))
 text_of negative w p text below more is =
     let parts = signed_parts negative (w * 1000000 + p) more in
     let front : (w * 1000000 + p) / 1000000 ≡ w = omega (arith, below) in
@@ -134,14 +134,14 @@ whole_written text whole rest z (n, are, _) behind digits =
     let (w, is, _, _) = subst (λ at. AreMillionths at (whole ++ 46 ∷ rest) n) (point_behind whole rest digits.1) there in
     (subst (λ ds. IsDigits 12 ds w) (take-append_seam whole (46 ∷ rest)) is).1
 
-fits_twelve : (whole : List ℕ) → IsNumeral 10 whole → length whole ≤ 12 → digits_value 10 whole < 10 ^ 12
+pub fits_twelve : (whole : List ℕ) → IsNumeral 10 whole → length whole ≤ 12 → digits_value 10 whole < 10 ^ 12
 fits_twelve whole digits few =
     let below = digits_value-lt 10 whole digits.1 in
     let ten : 0 < 10 = omega arith in
     let power : 10 ^ length whole ≤ 10 ^ 12 = pow-le-pow_right ten few in
     omega (arith, below, power)
 
-signed_size : (negative : Bool) (n : ℕ) → unsigned_abs (signed negative n) ≡ n
+pub signed_size : (negative : Bool) (n : ℕ) → unsigned_abs (signed negative n) ≡ n
 signed_size false n = refl
 signed_size true zero = refl
 signed_size true (suc n) = refl

@@ -12,6 +12,7 @@ pub mod PrintedTimes
 pub mod Quoted
 pub mod Requoted
 pub mod Spellings
+mod StandsPrinted
 pub mod Stripped
 pub mod TimeForms
 pub mod Times

@@ -1,10 +1,11 @@
 -- Words of lists, spelled once more.
-use Rattle.std.proofs.Common.{◌≡◌, ℕ, List, [], ◌∷◌, Bool, true, false, ◌&&◌, map, Option, Some, None, option_map, if◌then◌else◌, refl, sym, ◌∙◌, ap, subst}
+use Rattle.std.proofs.Common.{◌≡◌, ℕ, zero, suc, List, [], ◌∷◌, Bool, true, false, ◌&&◌, map, Option, Some, None, option_map, option_and_then, slice_get, if◌then◌else◌, refl, sym, ◌∙◌, ap, subst}
 use Rattle.std.specs.List.{list_all}
 use Rattle.std.specs.Str.{bytes_eq, str_eq_ignore_ascii_case}
 use Rattle.std.proofs.lemmas.Bool.{and_parts}
+use Rattle.std.proofs.lemmas.Option.{cond_some, none-some, option_and_then_some, same_Some}
 use Rattle.std.proofs.lemmas.Slice.Eq.{bytes_eq-Decides}
-use Rattle.scalar_text.specs.Words.{spelled, tlp_words, tlp_of, registry_words, registry_name, registry_of, classes, class_in, taxonomy_word_in}
+use Rattle.scalar_text.specs.Words.{spelled, tlp_words, tlp_of, registry_words, registry_name, registry_of, classes, class_in, if_word, taxonomy_word_in}
 
 -- what passes for each word of a list passes for the one that a text spells
 passes_at : (P : List ℕ → Bool) (word : List ℕ) (words : List (List ℕ)) (text w : List ℕ) (b : Bool) → (if b then Some word else spelled words text) ≡ Some w → (P word && list_all P words) ≡ true → (spelled words text ≡ Some w → list_all P words ≡ true → P w ≡ true) → P w ≡ true
@@ -58,6 +59,20 @@ class_is_spelled (row ∷ rows) text = ap (λ o. if str_eq_ignore_ascii_case row
 
 pub class_stays : (text w : List ℕ) → class_in classes text ≡ Some w → class_in classes w ≡ Some w
 class_stays text w found = the_word w (class_in classes w) (passes (λ w. is_word w (class_in classes w)) (map (λ row. row.0) classes) text w (sym (class_is_spelled classes text) ∙ found) class_rule)
+
+row_passes : (P : List ℕ → Bool) (rows : List (List ℕ × List ℕ)) (n : ℕ) (row : List ℕ × List ℕ) → slice_get rows n ≡ Some row → list_all P (map (λ row. row.0) rows) ≡ true → P row.0 ≡ true
+row_passes P [] n row at all = absurd (none-some row at)
+row_passes P (first ∷ rows) zero row at all =
+    subst (λ (r : List ℕ × List ℕ). P r.0 ≡ true) (same_Some first row at) (and_parts (P first.0) (list_all P (map (λ row. row.0) rows)) all).0
+row_passes P (first ∷ rows) (suc n) row at all = row_passes P rows n row at (and_parts (P first.0) (list_all P (map (λ row. row.0) rows)) all).1
+
+-- the word of a row is spelled by itself
+pub class_as_it_stands : (text w : List ℕ) (n : ℕ) → option_and_then (if_word text) (slice_get classes n) ≡ Some w → class_in classes text ≡ Some w
+class_as_it_stands text w n is =
+    option_and_then_some (if_word text) (slice_get classes n) w is λ row at of.
+    let found = cond_some (bytes_eq row.0 text) row.0 w of in
+    let own = the_word row.0 (class_in classes row.0) (row_passes (λ w. is_word w (class_in classes w)) classes n row at class_rule) in
+    subst (λ t. class_in classes t ≡ Some w) ((bytes_eq-Decides row.0 text).0 found.0) (own ∙ ap Some found.1)
 
 pub taxonomy_is_spelled : (rows : List (List ℕ × List ℕ)) (text : List ℕ) → taxonomy_word_in rows text ≡ spelled (map (λ row. row.1) rows) text
 taxonomy_is_spelled [] text = refl

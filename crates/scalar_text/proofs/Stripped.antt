@@ -1,8 +1,8 @@
 -- Texts that have no blank at their ends.
-use Rattle.std.proofs.Common.{◌≡◌, ℕ, ◌≤◌, ◌==◌, not, List, [], ◌∷◌, ◌++◌, length, reverse, Bool, true, false, if◌then◌else◌, nat_le, refl, sym, ap, ◌∙◌, subst, arith, length-append}
+use Rattle.std.proofs.Common.{◌≡◌, ℕ, ◌-◌, ◌<◌, ◌≤◌, ◌==◌, not, List, [], ◌∷◌, ◌++◌, get_or, length, reverse, Bool, true, false, if◌then◌else◌, nat_le, refl, sym, ap, ◌∙◌, subst, arith, length-append}
 use Rattle.std.specs.List.{list_all}
 use Rattle.std.proofs.lemmas.Bool.{and_parts, and_from, ne_eqb, leb-true, false≢true}
-use Rattle.std.proofs.lemmas.List.{reverse-append, reverse-reverse}
+use Rattle.std.proofs.lemmas.List.{get_or-reverse, reverse-append, reverse-reverse}
 use Rattle.std.proofs.lemmas.List.Folds.{list_all-append}
 use Rattle.scalar_text.specs.Strip.{is_blank, strip_front, strip_back, strip}
 
@@ -31,6 +31,16 @@ pub strip-clear : (text : List ℕ) → clear_ahead text ≡ true → clear_ahea
 unfolding strip
 strip-clear text front back =
     ap strip_back (strip_front-clear text front) ∙ ap reverse (strip_front-clear (reverse text) back) ∙ reverse-reverse text
+
+clear_at : (text : List ℕ) → is_blank (get_or text 0 0) ≡ false → clear_ahead text ≡ true
+clear_at [] clear = refl
+clear_at (b ∷ bs) clear = ap not clear
+
+-- no blank stands at an end
+pub bare_ends : (text : List ℕ) → 0 < length text → is_blank (get_or text 0 0) ≡ false → is_blank (get_or text (length text - 1) 0) ≡ false → strip text ≡ text
+bare_ends text some front back =
+    let last : length text - 1 - 0 ≡ length text - 1 = omega arith in
+    strip-clear text (clear_at text front) (clear_at (reverse text) (ap is_blank (get_or-reverse text 0 0 some ∙ ap (λ k. get_or text k 0) last) ∙ back))
 
 -- what strip_front leaves is the end of the text
 pub record IsEnd (text rest : List ℕ) : Type 0 where

@@ -1,5 +1,5 @@
 -- Numbers as texts.
-use Rattle.std.specs.Prelude.{unsigned_abs, ◌≡◌, ◌≢◌, ◌⊎◌, ℕ, zero, suc, ◌+◌, ◌-◌, ◌*◌, ◌/◌, ◌%◌, ◌^◌, ◌++◌, ◌==◌, ◌<◌, ◌≤◌, Any, slice_index, nat_lt, ◌&&◌, option_and_then, option_map, decimal, Bool, true, false, List, [], ◌∷◌, length, take, drop, position, Option, Some, None, ℤ, pos, neg_ℤ, if◌then◌else◌}
+use Rattle.std.specs.Prelude.{unsigned_abs, ◌≡◌, ◌≢◌, ◌⊎◌, ℕ, zero, suc, ◌+◌, ◌-◌, ◌*◌, ◌/◌, ◌%◌, ◌^◌, ◌++◌, ◌==◌, ◌<◌, ◌≤◌, Any, slice_index, nat_le, nat_lt, not, ◌&&◌, ◌||◌, option_and_then, option_map, decimal, Bool, true, false, List, [], ◌∷◌, length, take, drop, position, Option, Some, None, ℤ, pos, neg_ℤ, if◌then◌else◌}
 use Rattle.std.specs.Int.{is_negative}
 use Rattle.std.specs.List.{last_or}
 use Rattle.std.specs.Str.{all_ascii_digits}
@@ -92,6 +92,14 @@ abbrev pub decimal_text : ℤ → List ℕ
 decimal_text z =
     let text = decimal (unsigned_abs z / 1000000) ++ 46 ∷ part_text (unsigned_abs z % 1000000) in
     if is_negative z then 45 ∷ text else text
+
+-- a `0` is the first of the digits only where it is the only one
+abbrev pub is_shortest_whole : List ℕ → Bool
+is_shortest_whole digits = nat_le (length digits) 1 || not (slice_index digits 0 == 48)
+
+-- the digits are six at most, and a `0` is the last of them only where it is the only one
+abbrev pub is_shortest_part : List ℕ → Bool
+is_shortest_part digits = nat_le (length digits) 1 || (nat_le (length digits) 6 && not (slice_index digits (length digits - 1) == 48))
 
 -- the text is a decimal in its shortest form: perhaps a minus, digits, a point, and more digits
 pub record IsCanonicalDecimal (text : List ℕ) : Type 0 where

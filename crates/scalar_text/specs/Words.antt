@@ -54,6 +54,10 @@ abbrev pub class_in : List (List ℕ × List ℕ) → List ℕ → Option (List 
 class_in [] text = None
 class_in (row ∷ rows) text = if str_eq_ignore_ascii_case row.0 text then Some row.0 else class_in rows text
 
+-- the word of a row, if it is the text as it stands
+abbrev pub if_word : List ℕ → List ℕ × List ℕ → Option (List ℕ)
+if_word text row = if bytes_eq row.0 text then Some row.0 else None
+
 -- the taxonomy that the text spells, in any case
 abbrev pub taxonomy_word_in : List (List ℕ × List ℕ) → List ℕ → Option (List ℕ)
 taxonomy_word_in [] text = None

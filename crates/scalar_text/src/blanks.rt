@@ -1,5 +1,5 @@
-ghost use Rattle.std.specs.Prelude.{◌≡◌, ◌<◌, length, MatchOption};
-ghost use Rattle.scalar_text.specs.Strip.{strip, strip_front, strip_back};
+ghost use Rattle.std.specs.Prelude.{◌≡◌, ◌<◌, length, IsTrue, MatchOption};
+ghost use Rattle.scalar_text.specs.Strip.{is_blank, strip, strip_front, strip_back};
 
 // What is behind a blank at the front.
 fn behind_blank(text: &str) -> Option<&str>
@@ -43,10 +43,29 @@ fn strip_back(text: &str) -> &str
     rest
 }
 
+fn is_blank(byte: u8) -> bool
+    ensures { result ≡ is_blank byte }
+{
+    byte == b' ' || byte == b'\t'
+}
+
+// Whether no blank is at an end of a text of two bytes or more.
+fn has_bare_ends(text: &[u8]) -> bool
+    ensures { IsTrue result → strip text.now ≡ text.now }
+{
+    match text {
+        [first, .., last] => !is_blank(*first) && !is_blank(*last),
+        _ => false,
+    }
+}
+
 /// The text without the spaces and tabs at both ends. It takes no memory.
 #[tactic(auto, unfolding(crate::specs::Strip::strip))]
 pub fn strip(text: &str) -> &str
     ensures { result.now ≡ strip text.now }
 {
+    if has_bare_ends(text.as_bytes()) {
+        return text;
+    }
     strip_back(strip_front(text))
 }

@@ -14,8 +14,8 @@ pub use number::{
     decimal_of_a_text_is_one, number_forms_are_exact, read_decimal, read_port, read_whole,
 };
 pub use printing::{
-    canonical_decimal_is_printed, decimal_texts_differ, print_decimal, printed_decimal_reads_back,
-    printed_decimals_are_canonical,
+    canonical_decimal_is_printed, decimal_texts_differ, is_printed_decimal, is_printed_whole,
+    print_decimal, printed_decimal_reads_back, printed_decimals_are_canonical,
 };
 pub use quote::{has_decimals, quote_decimals, quoting_again_changes_nothing};
 pub use raw::{read_raw, write_raw};

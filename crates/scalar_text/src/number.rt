@@ -7,7 +7,7 @@ ghost use Rattle.scalar_text.specs.Number.{IsWholeText, whole_in, IsPortText, po
 
 use base_types::{Bad, read_digits};
 
-fn has_minus(text: &[u8]) -> bool
+pub(crate) fn has_minus(text: &[u8]) -> bool
     ensures { result ≡ has_minus text.now }
 {
     match text {
@@ -16,7 +16,7 @@ fn has_minus(text: &[u8]) -> bool
     }
 }
 
-fn behind_minus(text: &[u8]) -> &[u8]
+pub(crate) fn behind_minus(text: &[u8]) -> &[u8]
     ensures { result.now ≡ behind_minus text.now }
 {
     match text {
@@ -107,7 +107,7 @@ fn part_millionths(digits: &[u8]) -> Option<u64>
 }
 
 // Where the first point stands.
-fn point_in(text: &[u8]) -> Option<usize>
+pub(crate) fn point_in(text: &[u8]) -> Option<usize>
     ensures { result ≡ point_in text.now }
 {
     text.iter().position(|b| *b == b'.')

@@ -1,6 +1,9 @@
-ghost use Rattle.std.specs.Prelude.{ℤ, ◌≡◌, ◌<◌, ◌≤◌, ◌^◌, ◌++◌, unsigned_abs, IfOk, OnOk, string_bytes};
-ghost use Rattle.scalar_text.specs.Number.{IsDecimalText, first_digit, behind_first, digits_until_zero, part_text, decimal_text, IsCanonicalDecimal};
+ghost use Rattle.std.specs.Prelude.{ℤ, ◌≡◌, ◌↔◌, ◌<◌, ◌≤◌, ◌+◌, ◌^◌, ◌++◌, ◌&&◌, unsigned_abs, length, take, drop, IfOk, IsTrue, OnOk, Some, string_bytes};
+ghost use Rattle.std.specs.Fmt.{signed_decimal};
+ghost use Rattle.std.specs.Int.{is_negative};
+ghost use Rattle.scalar_text.specs.Number.{has_minus, whole_in, IsDecimalText, first_digit, behind_first, digits_until_zero, part_text, decimal_in, decimal_text, is_shortest_part, is_shortest_whole, IsCanonicalDecimal};
 
+use crate::number::{behind_minus, has_minus, point_in};
 use base_types::{OutOfMemory, Text};
 use std::alloc::{AllocError, Global};
 
@@ -53,6 +56,59 @@ pub fn print_decimal(alloc: Global, n: i64) -> Result<Text, OutOfMemory>
     };
     push_part(&mut text, size % 1_000_000)?;
     Ok(Text::from(text))
+}
+
+fn is_shortest_whole(digits: &[u8]) -> bool
+    ensures { result ≡ is_shortest_whole digits.now }
+{
+    digits.len() <= 1 || digits[0] != b'0'
+}
+
+fn is_shortest_part(digits: &[u8]) -> bool
+    ensures { result ≡ is_shortest_part digits.now }
+{
+    digits.len() <= 1 || (digits.len() <= 6 && digits[digits.len() - 1] != b'0')
+}
+
+// Whether the digits on both sides of the point there are as few as can be.
+fn has_shortest_sides(digits: &[u8], at: usize) -> bool
+    requires { at < length digits.now }
+    ensures { result ≡ (is_shortest_whole (take at digits.now) && is_shortest_part (drop (at + 1) digits.now)) }
+{
+    is_shortest_whole(&digits[..at]) && is_shortest_part(&digits[at + 1..])
+}
+
+// Whether a minus leads the text exactly where the number is below zero.
+fn has_sign_of(text: &[u8], n: i64) -> bool
+    ensures { IsTrue result ↔ has_minus text.now ≡ is_negative n }
+{
+    has_minus(text) == n.is_negative()
+}
+
+/// Whether the text of a whole number is its canonical one: no needless zero, and no sign of zero. It takes no memory.
+pub fn is_printed_whole(text: &[u8], n: i64) -> bool
+    requires { whole_in text.now ≡ Some n }
+    ensures { IsTrue result ↔ text.now ≡ signed_decimal n }
+{
+    if !has_sign_of(text, n) {
+        return false;
+    }
+    is_shortest_whole(behind_minus(text))
+}
+
+/// Whether the text of a decimal is as `print_decimal` writes that. It takes no memory.
+pub fn is_printed_decimal(text: &[u8], n: i64) -> bool
+    requires { decimal_in text.now ≡ Some n }
+    ensures { IsTrue result ↔ text.now ≡ decimal_text n }
+{
+    if !has_sign_of(text, n) {
+        return false;
+    }
+    let digits = behind_minus(text);
+    let Some(at) = point_in(digits) else {
+        return false;
+    };
+    has_shortest_sides(digits, at)
 }
 
 /// What `print_decimal` writes is read as the same number, where that has at most 12 digits before the point.

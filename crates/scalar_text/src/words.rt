@@ -1,8 +1,8 @@
-ghost use Rattle.std.specs.Prelude.{◌≡◌, ℕ, List, Some, map};
+ghost use Rattle.std.specs.Prelude.{◌≡◌, ◌<◌, ℕ, List, Some, map, option_and_then, slice_get};
 ghost use Rattle.std.specs.Option.{option_copied};
 ghost use Rattle.std.specs.Str.{str_eq_ignore_ascii_case};
 ghost use Rattle.base_types.specs.Scalar.{IsReadAs, IsReadPlainly};
-ghost use Rattle.scalar_text.specs.Words.{spelled, tlp_words, registry_words, flag_words, tlp_of, registry_of, registry_name, classes, class_in, taxonomy_word_in, taxonomy_in, flag_of};
+ghost use Rattle.scalar_text.specs.Words.{spelled, tlp_words, registry_words, flag_words, tlp_of, registry_of, registry_name, classes, class_in, if_word, taxonomy_word_in, taxonomy_in, flag_of};
 ghost use Rattle.scalar_text.specs.declared.words.TheConstants as table;
 
 use base_types::{Bad, ScalarFault, Text};
@@ -180,11 +180,54 @@ fn taxonomy_in(rows: &[Row], class: &[u8]) -> Option<&'static str>
     None
 }
 
+// Where the row of a type stands, by the hash of its word; behind the last row where no word has that hash.
+const CLASS_ROWS: [u8; 128] = [
+    44, 44, 19, 9, 11, 29, 43, 44, 13, 44, 44, 44, 44, 44, 44, 22, 44, 44, 17, 44, 31, 5, 44, 44,
+    44, 20, 44, 44, 44, 44, 33, 40, 44, 44, 44, 44, 44, 44, 44, 44, 21, 44, 23, 34, 4, 18, 44, 42,
+    44, 44, 44, 28, 44, 44, 41, 44, 44, 3, 44, 0, 44, 44, 10, 38, 44, 44, 44, 44, 44, 8, 44, 44,
+    44, 44, 36, 44, 15, 44, 44, 44, 44, 44, 39, 44, 44, 44, 44, 44, 44, 14, 44, 44, 44, 44, 44, 44,
+    44, 44, 44, 16, 25, 44, 44, 44, 44, 44, 35, 44, 7, 1, 44, 6, 37, 44, 26, 44, 44, 30, 44, 44,
+    12, 44, 24, 2, 27, 32, 44, 44,
+];
+
+const LONGEST_CLASS: usize = 37;
+
+// The words of the types differ in it. Only speed stands on that.
+fn class_hash(word: &[u8]) -> usize
+    ensures { result < 128 }
+{
+    let len = word.len();
+    if len == 0 || len > LONGEST_CLASS {
+        return 0;
+    }
+    let sum = len * 13
+        + usize::from(word[0]) * 2
+        + usize::from(word[len / 2]) * 25
+        + usize::from(word[len - 1]) * 2;
+    sum % 128
+}
+
+// The word of the row there, if it is the text as it stands.
+fn word_at(rows: &[Row], at: usize, text: &[u8]) -> Option<&'static str>
+    ensures { option_copied result ≡ option_and_then (if_word text.now) (slice_get (map (λ row. (row.0.now, row.1.now)) rows.now) at) }
+{
+    let row = rows.get(at)?;
+    if row.0.as_bytes() == text {
+        Some(row.0)
+    } else {
+        None
+    }
+}
+
 /// The word of a type of incidents, in lower case, which the text spells in any case. It takes no memory.
 pub fn class_word(text: &[u8]) -> Option<&'static str>
     ensures { option_copied result ≡ class_in classes text.now }
 {
-    class_in(&CLASSES, text)
+    let at = CLASS_ROWS[class_hash(text)];
+    match word_at(&CLASSES, usize::from(at), text) {
+        Some(word) => Some(word),
+        None => class_in(&CLASSES, text),
+    }
 }
 
 /// The type of an incident, in any case: its word in lower case.

@@ -1,11 +1,20 @@
 use crate::same::same;
 use base_types::{ScalarFault, Text};
-use scalar_net::{read_fqdn, read_url};
+use scalar_net::{is_plain_url, read_fqdn, read_url};
+use std::alloc::Global;
 use std::test::Fail;
 
 fn kept(answer: Result<Text, ScalarFault>) -> Result<Option<Text>, Fail> {
     match answer {
         Ok(text) => Ok(Some(text)),
+        Err(ScalarFault::Bad) => Ok(None),
+        Err(ScalarFault::OutOfMemory) => Err(Fail::from("memory")),
+    }
+}
+
+fn name_of(alloc: Global, text: &[u8]) -> Result<Option<Text>, Fail> {
+    match read_fqdn(alloc, text) {
+        Ok(name) => Ok(Some(Text::from(name.into_owned(alloc)?))),
         Err(ScalarFault::Bad) => Ok(None),
         Err(ScalarFault::OutOfMemory) => Err(Fail::from("memory")),
     }
@@ -57,14 +66,10 @@ fn domain_names_have_their_canonical_text(rt: HostRuntime) -> Result<(), Fail> {
         let want = Text::new(alloc, canonical.as_bytes())?;
         same(
             &rt,
-            kept(read_fqdn(alloc, text.as_bytes()))?,
+            name_of(alloc, text.as_bytes())?,
             Some(want.copy(alloc)?),
         );
-        same(
-            &rt,
-            kept(read_fqdn(alloc, canonical.as_bytes()))?,
-            Some(want),
-        );
+        same(&rt, name_of(alloc, canonical.as_bytes())?, Some(want));
     }
     Ok(())
 }
@@ -99,7 +104,7 @@ const NO_NAMES: [&[u8]; 23] = [
 fn other_texts_are_no_domain_names(rt: HostRuntime) -> Result<(), Fail> {
     let alloc = rt.alloc();
     for text in &NO_NAMES {
-        same(&rt, kept(read_fqdn(alloc, text))?, None);
+        same(&rt, name_of(alloc, text)?, None);
     }
     Ok(())
 }
@@ -164,6 +169,47 @@ fn other_texts_are_no_urls(rt: HostRuntime) -> Result<(), Fail> {
     let alloc = rt.alloc();
     for text in &NO_URLS {
         same(&rt, kept(read_url(alloc, text))?, None);
+    }
+    Ok(())
+}
+
+const PLAIN_URLS: [&str; 6] = [
+    "http://example.com",
+    "https://feeds.example.org/phishing?format=json",
+    "http://a_b.xn--bcher-kva.example#\u{fc}",
+    "http://localhost?a/b",
+    "https://192.0.2.host/",
+    "http://a..b/",
+];
+
+const OTHER_URLS: [&str; 12] = [
+    "hxxp://example.com/",
+    "ftp://example.com/",
+    "http://Example.com/",
+    "http://b\u{fc}cher.example/",
+    "http://192.0.2.1/",
+    "http://192.0.2.0x1/",
+    "http://example.com:8080/",
+    "http://user@example.com/",
+    "http://example.com\\a",
+    "http://example.com/a b",
+    "http:///a",
+    "http://",
+];
+
+#[test]
+fn plain_urls_are_seen_at_once(rt: HostRuntime) -> Result<(), Fail> {
+    let alloc = rt.alloc();
+    for text in &PLAIN_URLS {
+        same(&rt, is_plain_url(text), true);
+        same(
+            &rt,
+            kept(read_url(alloc, text.as_bytes()))?,
+            Some(Text::new(alloc, text.as_bytes())?),
+        );
+    }
+    for text in &OTHER_URLS {
+        same(&rt, is_plain_url(text), false);
     }
     Ok(())
 }

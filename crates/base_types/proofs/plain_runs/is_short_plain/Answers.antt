@@ -1,9 +1,9 @@
-use Rattle.std.proofs.Common.{length, sym, ◌∙◌, eqb-true, arith}
-use Rattle.base_types.proofs.PlainRuns.{whole_run, more_plain, last_plain}
+use Rattle.std.proofs.Common.{sym, ◌∙◌, eqb-true, arith}
+use Rattle.base_types.proofs.PlainRuns.{all_plain, more_plain, last_plain}
 use Rattle.base_types.proofs.plain_runs.is_short_plain.Goals as goal
 
 pub returns-then-len-lt8 : goal.returns-then-len-lt8
-returns-then-len-lt8 c whole = whole_run c.args.text.now (sym c.plain_len_by_one.ensures ∙ eqb-true c.plain_len_by_one.result (length c.args.text.now) whole)
+returns-then-len-lt8 c whole = all_plain c.args.text.now (sym c.are_plain.ensures ∙ whole)
 
 pub returns-then-specials_of_eight-eq0 : goal.returns-then-specials_of_eight-eq0
 returns-then-specials_of_eight-eq0 c none =

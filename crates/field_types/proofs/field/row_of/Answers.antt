@@ -1,25 +1,20 @@
-use Rattle.std.proofs.Common.{get_or, slice_get, option_and_then, sym, ap, ◌∙◌}
+use Rattle.std.proofs.Common.{get_or, slice_get, is_some, option_and_then, sym, ap, ◌∙◌}
 use Rattle.field_types.specs.Hash.{if_named}
-use Rattle.field_types.specs.Names.{rows}
+use Rattle.field_types.specs.Names.{bytes_in_row}
 use Rattle.field_types.specs.declared.field.TheConstants as table
-use Rattle.field_types.proofs.Tables.{hash_finds, named_row}
+use Rattle.field_types.proofs.Tables.{is_in_row, in_no_row}
 use Rattle.field_types.proofs.field.row_of.Goals as goal
 
-pub returns-in-Some-clause-kind : goal.returns-in-Some-clause-kind
-unfolding rows
-returns-in-Some-clause-kind c =
-    c.in-Some.ensures.kind
-    ∙ ap (λ n. option_and_then (if_named c.args.name.now) (slice_get rows n)) (c.from.ensures ∙ ap (λ h. get_or table.ROWS h 0) c.hash.ensures.value)
-    ∙ hash_finds c.args.name.now
+pub returns-then-is_named-clause-row : goal.returns-then-is_named-clause-row
+returns-then-is_named-clause-row c =
+    let name = c.args.name.now in
+    ap bytes_in_row (sym c.from.ensures)
+    ∙ (is_in_row name c.from.result (
+    ap (λ all. is_some (option_and_then (if_named name) (slice_get all c.from.result))) (sym c.fields.ensures) ∙ sym c.is_named.ensures.named ∙ c.if-is_named.true
+    )).1
 
-pub returns-in-Some-clause-row : goal.returns-in-Some-clause-row
-unfolding rows
-returns-in-Some-clause-row c =
-    ap (slice_get rows) (sym c.from.ensures) ∙ named_row c.args.name.now c.in-Some.kind (slice_get rows c.from.result) (sym c.in-Some.ensures.kind)
-
-pub returns-in-None-clause-kind : goal.returns-in-None-clause-kind
-unfolding rows
-returns-in-None-clause-kind c =
-    c.in-None.ensures.kind
-    ∙ ap (λ n. option_and_then (if_named c.args.name.now) (slice_get rows n)) (c.from.ensures ∙ ap (λ h. get_or table.ROWS h 0) c.hash.ensures.value)
-    ∙ hash_finds c.args.name.now
+pub returns-else-is_named-clause-row : goal.returns-else-is_named-clause-row
+returns-else-is_named-clause-row c =
+    let name = c.args.name.now in
+    in_no_row name c.from.result (c.from.ensures ∙ ap (λ h. get_or table.ROWS h 0) c.hash.ensures.value)
+    (ap (λ all. is_some (option_and_then (if_named name) (slice_get all c.from.result))) (sym c.fields.ensures) ∙ sym c.is_named.ensures.named ∙ c.if-is_named.false)

@@ -1,5 +1,4 @@
-use Rattle.std.proofs.Common.{◌≡◌, ◌∙◌, sym}
-use Rattle.scalar_text.specs.Time.{part, time_in, time_text}
+use Rattle.std.proofs.Common.{◌∙◌, sym}
 use Rattle.scalar_text.proofs.TimesAsPrinted.{time_stays}
 use Rattle.scalar_text.proofs.time.is_printed_time.Goals as goal
 

@@ -9,5 +9,4 @@ pub invariant_of-self-2 : goal.invariant_of-self-2
 invariant_of-self-2 c =
     subst (λ (es : Pairs). AreBuilt es c.goes_on-rises.result) (sym c.in_ok-push.ensures.items)
     (built_push c.args.key c.args.value c.self.inside.pairs.items c.self.inside.rises c.goes_on-rises.result c.self.invariant c.requires
-    (c.goes_on-rises.ensures ∙ ap (λ k. c.self.inside.rises && is_above_all k c.deref.result.now) c.as_key.ensures
-    ∙ ap (λ (es : Pairs). c.self.inside.rises && is_above_all c.args.key es) c.deref.ensures.value))
+    (c.goes_on-rises.ensures ∙ ap (λ (es : Pairs). c.self.inside.rises && is_above_all c.args.key es) c.deref.ensures.value))

@@ -1,4 +1,4 @@
-use Rattle.std.proofs.Common.{sym, ap, ◌∙◌, arith}
+use Rattle.std.proofs.Common.{ap, ◌∙◌, arith}
 use Rattle.std.specs.FinMap.{get}
 use Rattle.event_model.specs.Fields.{FieldMap}
 use Rattle.event_model.proofs.Pairs.{stands_in, stands_inside, found_value}
