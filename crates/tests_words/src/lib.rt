@@ -1,5 +1,0 @@
-//! Tests of what the words of a command line ask for.
-#![tactic(auto)]
-
-#[cfg(test)]
-mod rows;
