@@ -5,6 +5,8 @@
 
 mod escapes;
 mod hex;
+mod repeats;
 
 pub use escapes::{escaped, push_escaped, unescaped};
 pub use hex::bytes_of;
+pub use repeats::repeated;

@@ -1,0 +1,51 @@
+//! What is answered to a case.
+use crate::experts::{chosen, classified, enriched, found, found_among};
+use crate::sieves::{listed, refusal, tree};
+use crate::verdicts::{holders, verdict};
+use base_types::OutOfMemory;
+use std::alloc::{AllocError, Global};
+
+/// The lines of the answer to a case, `CALL: INPUT`. A heading has none.
+///
+/// | Call | Input | Answer |
+/// |---|---|---|
+/// | `tree` | a sieve | its items, or why it is none |
+/// | `reads` | a sieve | `a sieve`, or why it is none |
+/// | `lists` | a sieve | its patterns, and its paths with their offsets |
+/// | `run` | a sieve and an event | the paths or `dropped`, and the event that comes out; or the fault |
+/// | `holds` | what is tested and an event | the fields of which it holds, of the event's and of `extra.none` |
+/// | `taxonomy` | an event | the event with its taxonomy |
+/// | `enrich`, `overwrite` | an event and networks with what they set | the event with what its network sets |
+/// | `find` | an address and networks | which is the longest that holds it, from 0 |
+/// | `find among` | an address and a number of networks | the same of that many |
+/// | `allow`, `deny` | names and an event | the fields that tell it from others |
+pub fn answer(alloc: Global, line: &str) -> Result<String, AllocError> {
+    if line.is_empty() || line.starts_with('#') {
+        return Ok(String::new(alloc));
+    }
+    let Some((call, input)) = line.split_once(": ") else {
+        return "no case".to_string(alloc);
+    };
+    match answer_to(alloc, call, input) {
+        Ok(answer) => Ok(answer),
+        Err(OutOfMemory) => Err(AllocError),
+    }
+}
+
+fn answer_to(alloc: Global, call: &str, input: &str) -> Result<String, OutOfMemory> {
+    match call {
+        "tree" => tree(alloc, input),
+        "reads" => refusal(alloc, input),
+        "lists" => listed(alloc, input),
+        "run" => verdict(alloc, input),
+        "holds" => holders(alloc, input),
+        "taxonomy" => classified(alloc, input),
+        "enrich" => enriched(alloc, false, input),
+        "overwrite" => enriched(alloc, true, input),
+        "find" => found(alloc, input),
+        "find among" => found_among(alloc, input),
+        "allow" => chosen(alloc, true, input),
+        "deny" => chosen(alloc, false, input),
+        _ => Ok("no call".to_string(alloc)?),
+    }
+}
