@@ -1,7 +1,20 @@
-//! Tests of the program over a system in memory.
+//! Tests of the program over a system in memory; of the top calls over a shelf of its own, whose feed comes in short reads and is longer
+//! than memory; of the drill's shelf; and of bytes, numbers and names. Sessions of commands are lines of `table_pipelines`.
 #![tactic(auto)]
 
 #[cfg(test)]
+mod drills;
+#[cfg(test)]
+mod ground;
+#[cfg(test)]
+mod long;
+#[cfg(test)]
 mod machine;
 #[cfg(test)]
+mod made;
+#[cfg(test)]
 mod runs;
+#[cfg(test)]
+mod same;
+#[cfg(test)]
+mod system;

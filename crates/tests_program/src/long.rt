@@ -1,4 +1,4 @@
-// Feeds that are long, that come in short reads, and that have long lines.
+// Feeds that come in short reads, and that are longer than memory.
 use crate::made::{Lines, MadeShelf};
 use crate::system::{CONVERT, NOW, numbers, words_of};
 use base_types::Text;
@@ -20,7 +20,7 @@ struct Row {
 
 const MOST: usize = 1_048_576;
 
-const ROWS: [Row; 9] = [
+const ROWS: [Row; 4] = [
     // A byte at a time.
     Row {
         feed: &[Lines {
@@ -78,101 +78,6 @@ const ROWS: [Row; 9] = [
         status: "bad line 66561",
         events: 66_560,
     },
-    // A line of exactly 1,048,576 bytes, and one more.
-    Row {
-        feed: &[
-            Lines {
-                head: EVENT,
-                spaces: 0,
-                tail: b"}\n",
-                times: 1,
-            },
-            Lines {
-                head: EVENT,
-                spaces: 1_048_560,
-                tail: b"}\n",
-                times: 2,
-            },
-        ],
-        most: MOST,
-        status: "done",
-        events: 3,
-    },
-    Row {
-        feed: &[
-            Lines {
-                head: EVENT,
-                spaces: 0,
-                tail: b"}\n",
-                times: 1,
-            },
-            Lines {
-                head: EVENT,
-                spaces: 1_048_561,
-                tail: b"}\n",
-                times: 1,
-            },
-        ],
-        most: MOST,
-        status: "long line convert 16",
-        events: 1,
-    },
-    Row {
-        feed: &[Lines {
-            head: EVENT,
-            spaces: 1_048_561,
-            tail: b"}\n",
-            times: 1,
-        }],
-        most: MOST,
-        status: "long line convert 0",
-        events: 0,
-    },
-    // The first line that is refused decides, and a long one is that before it is bad.
-    Row {
-        feed: &[
-            Lines {
-                head: b"no",
-                spaces: 0,
-                tail: b"\n",
-                times: 1,
-            },
-            Lines {
-                head: EVENT,
-                spaces: 1_048_561,
-                tail: b"}\n",
-                times: 1,
-            },
-        ],
-        most: MOST,
-        status: "bad line 1",
-        events: 0,
-    },
-    Row {
-        feed: &[
-            Lines {
-                head: EVENT,
-                spaces: 0,
-                tail: b"}\n",
-                times: 1,
-            },
-            Lines {
-                head: b"no",
-                spaces: 1_048_574,
-                tail: b"\n",
-                times: 1,
-            },
-            Lines {
-                head: b"no",
-                spaces: 0,
-                tail: b"\n",
-                times: 1,
-            },
-        ],
-        most: MOST,
-        status: "long line convert 16",
-        events: 1,
-    },
     // A line that ends at offset 1,073,741,824 is converted; one behind it is no bad line.
     Row {
         feed: &[
@@ -196,7 +101,7 @@ const ROWS: [Row; 9] = [
 ];
 
 #[test]
-fn long_feeds_and_long_lines(rt: HostRuntime) -> Result<(), Fail> {
+fn feeds_in_short_reads_and_longer_than_memory(rt: HostRuntime) -> Result<(), Fail> {
     let alloc = rt.alloc();
     let words = words_of(alloc, &CONVERT)?;
     for (i, row) in ROWS.iter().enumerate() {
