@@ -42,57 +42,57 @@ stands_wider m first durable waiting fewer rest image same less stands =
     }
 
 -- the disk stays as it is
-waits : {D R : Type 0} {disk : D → DiskView} (may_leave : D → ℕ → List ℕ → Type 0) {left_since : D → ℕ → Image → Type 0} (old new : BookView D R) (passes : Image → Type 0) → new.disk ≡ old.disk
-    → ((image : Image) → left_since old.disk (disk old.disk).moment image → IsImage (may_leave old.disk) image) → ((image : Image) → IsImage (may_leave old.disk) image → passes image)
-    → Leaves disk left_since old.disk new.disk passes
-waits {disk = disk} may_leave {left_since = left_since} old new passes same only here = subst (λ d. Leaves disk left_since old.disk d passes) (sym same) (started (λ image left. here image (only image left)))
+waits : {D R : Type 0} (disk : D → DiskView) (old new : BookView D R) (passes : Image → Type 0) → new.disk ≡ old.disk
+    → ((image : Image) → (disk old.disk).left_since (disk old.disk).moment image → IsImage (disk old.disk).may_leave image) → ((image : Image) → IsImage (disk old.disk).may_leave image → passes image)
+    → Leaves (disk old.disk) (disk new.disk) passes
+waits disk old new passes same only here = subst (λ d. Leaves (disk old.disk) (disk d) passes) (sym same) (started (λ image left. here image (only image left)))
 
 -- what changes in a book without a step: its disk, how many steps are durable, and whether the disk has failed
 pub changes : {D R : Type 0} (old new : BookView D R) (kept : ℕ) (broken : Bool) → new ≡ record old { disk = new.disk; kept = kept; broken = broken } → new ≡ record old { disk = new.disk; kept = new.kept; broken = new.broken }
 changes old new kept broken is = subst (λ (b : BookView _ _). b ≡ record old { disk = b.disk; kept = b.kept; broken = b.broken }) (sym is) refl
 
-module _ {D R : Type 0} {disk : D → DiskView} {may_leave : D → ℕ → List ℕ → Type 0} {left_since : D → ℕ → Image → Type 0} {m : Meaning} where
+module _ {D R : Type 0} {disk : D → DiskView} {m : Meaning} where
   -- calls that make no step
   pub makes_none : (old new : BookView D R) → new ≡ record old { disk = new.disk; kept = new.kept; broken = new.broken }
-      → ((first : Base) (past : List Step) → IsKept disk may_leave m first past old → old.kept ≤ new.kept)
-      → ((first : Base) (past : List Step) → IsKept disk may_leave m first past old → IsKept disk may_leave m first past new)
-      → ((first : Base) (past : List Step) → IsKept disk may_leave m first past old → Leaves disk left_since old.disk new.disk (StandsFor m first (past ++ durable_steps old) (waiting_steps old)))
-      → GoesOn disk may_leave left_since m old new []
+      → ((first : Base) (past : List Step) → IsKept disk m first past old → old.kept ≤ new.kept)
+      → ((first : Base) (past : List Step) → IsKept disk m first past old → IsKept disk m first past new)
+      → ((first : Base) (past : List Step) → IsKept disk m first past old → Leaves (disk old.disk) (disk new.disk) (StandsFor m first (past ++ durable_steps old) (waiting_steps old)))
+      → GoesOn disk m old new []
   makes_none old new same durable kept leaves = record {
     book = same ∙ ap (λ (ss : List Step). record old { disk = new.disk; steps = ss; kept = new.kept; broken = new.broken }) (sym (append-nil old.steps));
     legal = tt;
     durable = durable;
     kept = kept;
-    any_moment = λ first past was. subst (λ (ss : List Step). Leaves disk left_since old.disk new.disk (StandsFor m first (past ++ durable_steps old) ss)) (sym (append-nil (waiting_steps old))) (leaves first past was);
+    any_moment = λ first past was. subst (λ (ss : List Step). Leaves (disk old.disk) (disk new.disk) (StandsFor m first (past ++ durable_steps old) ss)) (sym (append-nil (waiting_steps old))) (leaves first past was);
   }
 
   -- all steps are made durable
   pub makes_durable : (old new : BookView D R) → new ≡ record old { disk = new.disk; kept = length old.steps }
-      → ((first : Base) (past : List Step) → IsKept disk may_leave m first past old → IsKept disk may_leave m first past new)
-      → ((first : Base) (past : List Step) → IsKept disk may_leave m first past old → Leaves disk left_since old.disk new.disk (StandsFor m first (past ++ durable_steps old) (waiting_steps old)))
-      → GoesOn disk may_leave left_since m old new []
+      → ((first : Base) (past : List Step) → IsKept disk m first past old → IsKept disk m first past new)
+      → ((first : Base) (past : List Step) → IsKept disk m first past old → Leaves (disk old.disk) (disk new.disk) (StandsFor m first (past ++ durable_steps old) (waiting_steps old)))
+      → GoesOn disk m old new []
   makes_durable old new done kept leaves =
       makes_none old new (changes old new _ _ done) (λ first past was. omega (arith, was.within, ap (λ (b : BookView _ _). b.kept) done)) kept leaves
 
   -- no call at all
-  pub goes_nowhere : (book : BookView D R) → ((image : Image) → left_since book.disk (disk book.disk).moment image → IsImage (may_leave book.disk) image) → GoesOn disk may_leave left_since m book book []
-  goes_nowhere book only = makes_none book book refl (λ first past kept. omega arith) (λ first past kept. kept) (λ first past kept. waits may_leave book book _ refl only kept.each)
+  pub goes_nowhere : (book : BookView D R) → ((image : Image) → (disk book.disk).left_since (disk book.disk).moment image → IsImage (disk book.disk).may_leave image) → GoesOn disk m book book []
+  goes_nowhere book only = makes_none book book refl (λ first past kept. omega arith) (λ first past kept. kept) (λ first past kept. waits disk book book _ refl only kept.each)
 
   -- one step is committed
   pub makes_one : (old new : BookView D R) (step : Step) → new ≡ record old { state = after m old.state step; steps = old.steps ++ step ∷ [] } → May m old.state step
-      → ((image : Image) → left_since old.disk (disk old.disk).moment image → IsImage (may_leave old.disk) image)
-      → ((first : Base) (past : List Step) → IsKept disk may_leave m first past old → IsKept disk may_leave m first past new) → GoesOn disk may_leave left_since m old new (step ∷ [])
+      → ((image : Image) → (disk old.disk).left_since (disk old.disk).moment image → IsImage (disk old.disk).may_leave image)
+      → ((first : Base) (past : List Step) → IsKept disk m first past old → IsKept disk m first past new) → GoesOn disk m old new (step ∷ [])
   makes_one old new step same may only kept = record {
     book = subst (λ (b : BookView D R). b ≡ longer m old (step ∷ []) b) (sym same) refl;
     legal = (may, tt);
     durable = λ first past was. omega (arith, ap (λ (b : BookView D R). b.kept) same);
     kept = kept;
-    any_moment = λ first past was. waits may_leave old new _ (ap (λ (b : BookView D R). b.disk) same) only (λ image left. stands_longer m first (past ++ durable_steps old) (waiting_steps old) (step ∷ []) image (was.each image left));
+    any_moment = λ first past was. waits disk old new _ (ap (λ (b : BookView D R). b.disk) same) only (λ image left. stands_longer m first (past ++ durable_steps old) (waiting_steps old) (step ∷ []) image (was.each image left));
   }
 
   -- a run, and another from where it ends
-  pub goes_further : (old mid new : BookView D R) (made more : List Step) → GoesOn disk may_leave left_since m old mid made → GoesOn disk may_leave left_since m mid new more
-      → GoesOn disk may_leave left_since m old new (made ++ more)
+  pub goes_further : (old mid new : BookView D R) (made more : List Step) → GoesOn disk m old mid made → GoesOn disk m mid new more
+      → GoesOn disk m old new (made ++ more)
   goes_further old mid new made more front rest = record {
     book = rest.book ∙ ap (λ (b : BookView D R). longer m b more new) front.book ∙ joined;
     legal = legal-append m old.state made more front.legal (subst (λ (s : Base). Legal m s more) (ap (λ (b : BookView D R). b.state) front.book) rest.legal);
@@ -118,7 +118,7 @@ module _ {D R : Type 0} {disk : D → DiskView} {may_leave : D → ℕ → List 
       same_steps past =
           whole past mid more ∙ ap (λ (ss : List Step). past ++ (ss ++ more)) (ap (λ (b : BookView D R). b.steps) front.book) ∙ ap (λ (ss : List Step). past ++ ss) (append_assoc old.steps made more) ∙ sym (whole past old (made ++ more))
 
-      from_the_start : (first : Base) (past : List Step) → IsKept disk may_leave m first past mid → IsKept disk may_leave m first past old → (image : Image)
+      from_the_start : (first : Base) (past : List Step) → IsKept disk m first past mid → IsKept disk m first past old → (image : Image)
           → StandsFor m first (past ++ durable_steps mid) (waiting_steps mid ++ more) image → StandsFor m first (past ++ durable_steps old) (waiting_steps old ++ (made ++ more)) image
       from_the_start first past now was image stands =
           stands_wider m first (past ++ durable_steps mid) (waiting_steps mid ++ more) (past ++ durable_steps old) (waiting_steps old ++ (made ++ more)) image (same_steps past)

@@ -1,6 +1,6 @@
 -- How a book goes on: what a run of its calls makes of it.
-use Rattle.std.specs.Prelude.{◌≡◌, ◌≤◌, ℕ, List, ◌++◌}
-use Rattle.edge_traits.specs.Disk.{DiskView, Image, Leaves}
+use Rattle.std.specs.Prelude.{◌≡◌, ◌≤◌, List, ◌++◌}
+use Rattle.edge_traits.specs.Disk.{DiskView, Leaves}
 use Rattle.step_code.specs.declared.base.Base.{Base}
 use Rattle.step_code.specs.declared.step.Step.{Step}
 use Rattle.step_code.specs.History.{replay, Legal}
@@ -17,10 +17,10 @@ longer m old made new =
 -- the book made these steps, each of which might be taken where it stands. Whatever a crash left of it stood for a history:
 -- whatever a crash leaves of it now, or left at any moment in between, stands for that history's durable steps and a front
 -- of those that waited and of these
-pub record GoesOn {D R : Type 0} (disk : D → DiskView) (may_leave : D → ℕ → List ℕ → Type 0) (left_since : D → ℕ → Image → Type 0) (m : Meaning) (old new : BookView D R) (made : List Step) : Type 0 where
+pub record GoesOn {D R : Type 0} (disk : D → DiskView) (m : Meaning) (old new : BookView D R) (made : List Step) : Type 0 where
   pub book : new ≡ longer m old made new
   pub legal : Legal m old.state made
-  pub durable : (first : Base) (past : List Step) → IsKept disk may_leave m first past old → old.kept ≤ new.kept
-  pub kept : (first : Base) (past : List Step) → IsKept disk may_leave m first past old → IsKept disk may_leave m first past new
-  pub any_moment : (first : Base) (past : List Step) → IsKept disk may_leave m first past old
-      → Leaves disk left_since old.disk new.disk (StandsFor m first (past ++ durable_steps old) (waiting_steps old ++ made))
+  pub durable : (first : Base) (past : List Step) → IsKept disk m first past old → old.kept ≤ new.kept
+  pub kept : (first : Base) (past : List Step) → IsKept disk m first past old → IsKept disk m first past new
+  pub any_moment : (first : Base) (past : List Step) → IsKept disk m first past old
+      → Leaves (disk old.disk) (disk new.disk) (StandsFor m first (past ++ durable_steps old) (waiting_steps old ++ made))

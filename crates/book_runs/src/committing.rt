@@ -36,10 +36,10 @@ pub fn commit<D: Disk, R: Rules>(
     what: Move,
 ) -> Result<u64, CommitFault>
     requires content { book.old.broken ≡ false → Fits R.meaning book.old.state (staged R.meaning book.old.state now what) → IsMove R.meaning book.old.state (stamp book.old.state now).0 what }
-    ensures ok { OnOk result (GoesOn D.disk D.may_leave D.left_since R.meaning book.old book.new (staged R.meaning book.old.state now what ∷ [])) }
+    ensures ok { OnOk result (GoesOn D.disk R.meaning book.old book.new (staged R.meaning book.old.state now what ∷ [])) }
     ensures number { IfOk result (λ number. number ≡ book.new.state.steps) }
     ensures causes { OnOk result (cause_of book.old.broken (step_cause R.meaning book.old.state book.old.steps book.old.limit (staged R.meaning book.old.state now what)) ≡ None) }
-    ensures err { OnErr result (GoesOn D.disk D.may_leave D.left_since R.meaning book.old book.new []) }
+    ensures err { OnErr result (GoesOn D.disk R.meaning book.old book.new []) }
     ensures refused { IfErr result (IsCommitFault (cause_of book.old.broken (step_cause R.meaning book.old.state book.old.steps book.old.limit (staged R.meaning book.old.state now what)))) }
     ensures broken { IsErrOf result CommitFault.Disk → book.new.broken ≡ true }
     ensures whole { (result ≢ Err CommitFault.Disk) → book.new.broken ≡ book.old.broken }
@@ -63,7 +63,7 @@ fn make_room<D: Disk, R: Rules>(book: &mut Book<D, R>) -> Result<(), CommitFault
     ensures same { book.new ≡ record book.old { disk = book.new.disk; kept = book.new.kept; broken = book.new.broken } }
     ensures whole { OnOk result (book.new.broken ≡ book.old.broken) }
     ensures fault { IfErr result (IsRoomFault book.old.broken book.new.broken) }
-    ensures goes_on { GoesOn D.disk D.may_leave D.left_since R.meaning book.old book.new [] }
+    ensures goes_on { GoesOn D.disk R.meaning book.old book.new [] }
     ensures untold { (D.disk book.old.disk).told ≡ None → (D.disk book.new.disk).told ≡ None }
     ensures failed { IsErrOf result CommitFault.Disk → Rose (D.disk book.old.disk).faults (D.disk book.new.disk).faults }
     ensures count { (D.disk book.old.disk).faults ≤ (D.disk book.new.disk).faults }

@@ -48,17 +48,18 @@ module _ (heading : Heading) (bodies : List (List ℕ)) (at : ℕ) (file : List 
       record { bodies = bodies; first = read_bodies_of; second = cut_keeps c (subst (λ d. Cut (at + 1) d c) (only left.0 left.1) left.2) }
 
 -- up to the cut nothing but what might have been left before
-pub before_cut : {D : Type 0} {disk : D → DiskView} {may_leave : D → ℕ → List ℕ → Type 0} {left_since : D → ℕ → Image → Type 0} {old synced read : D} (file : ℕ) (same : List ℕ → Type 0)
-    → Elapses disk may_leave left_since old synced → OnlyReads disk may_leave left_since synced read → ((d : D) (image : Image) → left_since d (disk d).moment image → IsImage (may_leave d) image)
-    → Adds may_leave old synced (λ _. ⊤) → Leaves disk left_since old read (λ image. (may_leave old file (image file) ⊎ same (image file)) × LeavesOthers may_leave old file image)
-before_cut {may_leave = may_leave} {old = old} {synced = synced} file same time reads only_now adds =
-    let P : Image → Type 0 = λ image. (may_leave old file (image file) ⊎ same (image file)) × LeavesOthers may_leave old file image in
-    let still : (image : Image) → IsImage (may_leave synced) image → P image = λ image left. (inl (adds file tt (image file) (left file)), λ other ne. adds other tt (image other) (left other)) in
-    run_on (goes_on (started (λ image left. (inl (only_now old image left file), λ other ne. only_now old image left other))) time still)
-    (widened still (read_leaves reads (only_now synced)))
+pub before_cut : {old synced read : DiskView} (file : ℕ) (same : List ℕ → Type 0)
+    → Elapses old synced → OnlyReads synced read → ((image : Image) → old.left_since old.moment image → IsImage old.may_leave image)
+    → ((image : Image) → synced.left_since synced.moment image → IsImage synced.may_leave image)
+    → Adds old synced (λ _. ⊤) → Leaves old read (λ image. (old.may_leave file (image file) ⊎ same (image file)) × LeavesOthers old file image)
+before_cut {old = old} {synced = synced} file same time reads only_now synced_now adds =
+    let P : Image → Type 0 = λ image. (old.may_leave file (image file) ⊎ same (image file)) × LeavesOthers old file image in
+    let still : (image : Image) → IsImage synced.may_leave image → P image = λ image left. (inl (adds file tt (image file) (left file)), λ other ne. adds other tt (image other) (left other)) in
+    run_on (goes_on (started (λ image left. (inl (only_now image left file), λ other ne. only_now image left other))) time still)
+    (widened still (read_leaves reads synced_now))
   where
-    read_leaves : {D : Type 0} {disk : D → DiskView} {may_leave : D → ℕ → List ℕ → Type 0} {left_since : D → ℕ → Image → Type 0} {old new : D} → OnlyReads disk may_leave left_since old new → ((image : Image) → left_since old (disk old).moment image → IsImage (may_leave old) image)
-        → Leaves disk left_since old new (IsImage (may_leave old))
+    read_leaves : {old new : DiskView} → OnlyReads old new → ((image : Image) → old.left_since old.moment image → IsImage old.may_leave image)
+        → Leaves old new (IsImage old.may_leave)
     read_leaves reads only_now = record {
       later = reads.later;
       each = λ image left. ⊎_elim (only_now image) (λ now. now) (reads.nothing_else _ image (omega arith) left);

@@ -13,8 +13,7 @@ use Rattle.disk_journal.proofs.Resting.{length_open_record}
 use Rattle.disk_journal.specs.Reads.{OnlyReads, IsReadTo, IsCutShort, IsOpen}
 
 -- one run of reads after another
-pub reads_on : {D : Type 0} {disk : D → DiskView} {may_leave : D → ℕ → List ℕ → Type 0} {left_since : D → ℕ → Image → Type 0} {old mid new : D}
-    → OnlyReads disk may_leave left_since old mid → OnlyReads disk may_leave left_since mid new → OnlyReads disk may_leave left_since old new
+pub reads_on : {old mid new : DiskView} → OnlyReads old mid → OnlyReads mid new → OnlyReads old new
 reads_on first then = record {
   told = then.told ∙ first.told;
   crash = λ file passes c left. first.crash file passes c (then.crash file passes c left);
@@ -24,11 +23,11 @@ reads_on first then = record {
 }
 
 -- how far the loop is
-pub record HaveRead {D : Type 0} (disk : D → DiskView) (may_leave : D → ℕ → List ℕ → Type 0) (left_since : D → ℕ → Image → Type 0) (old now : D) (file end : ℕ) (bodies : List (List ℕ)) (at : ℕ) : Type 0 where
-  pub reads : OnlyReads disk may_leave left_since old now
+pub record HaveRead (old now : DiskView) (file end : ℕ) (bodies : List (List ℕ)) (at : ℕ) : Type 0 where
+  pub reads : OnlyReads old now
   pub place : at ≡ header_length + length (open_records bodies)
   pub within : at < end
-  pub to : (files : Image) (heading : Heading) → (disk old).told ≡ Some files → end ≡ length (files file) → take header_length (files file) ≡ header heading
+  pub to : (files : Image) (heading : Heading) → old.told ≡ Some files → end ≡ length (files file) → take header_length (files file) ≡ header heading
       → IsReadTo heading bodies at (drop at (files file)) (files file)
 
 pub pushed : {T E P : Type 0} (r : Result T E) → OnOk r P → is_err r ≡ false → P

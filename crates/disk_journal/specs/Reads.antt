@@ -5,12 +5,12 @@ use Rattle.edge_traits.specs.Disk.{DiskView, Image, IsImage, Adds}
 use Rattle.disk_journal.specs.GateFile.{Heading, header, open_records, HaveLengths, BeginsWithRecord}
 
 -- the disk only read: nothing changed, and a crash leaves what it might have left before
-pub record OnlyReads {D : Type 0} (disk : D → DiskView) (may_leave : D → ℕ → List ℕ → Type 0) (left_since : D → ℕ → Image → Type 0) (old new : D) : Type 0 where
-  pub told : (disk new).told ≡ (disk old).told
-  pub crash : Adds may_leave old new (λ _. ⊤)
-  pub later : (disk old).moment ≤ (disk new).moment
-  pub nothing_else : (t : ℕ) (image : Image) → t ≤ (disk old).moment → left_since new t image → left_since old t image ⊎ IsImage (may_leave old) image
-  pub count : (disk old).faults ≤ (disk new).faults
+pub record OnlyReads (old new : DiskView) : Type 0 where
+  pub told : new.told ≡ old.told
+  pub crash : Adds old new (λ _. ⊤)
+  pub later : old.moment ≤ new.moment
+  pub nothing_else : (t : ℕ) (image : Image) → t ≤ old.moment → new.left_since t image → old.left_since t image ⊎ IsImage old.may_leave image
+  pub count : old.faults ≤ new.faults
 
 -- the file has a header and whole records of these bodies up to the offset, and goes on with the rest
 pub record IsReadTo (heading : Heading) (bodies : List (List ℕ)) (at : ℕ) (rest file : List ℕ) : Type 0 where

@@ -16,14 +16,14 @@ pub(crate) fn write_durably<D: Disk>(
     requires small { at + length bytes.now ≤ longest_file }
     ensures written { (files after : Image) → (D.disk disk.old).told ≡ Some files → (D.disk disk.new).told ≡ Some after
         → OnOk result (after file ≡ overwritten (files file) at bytes.now) }
-    ensures durable { (after : Image) → (D.disk disk.new).told ≡ Some after → OnOk result (Only (after file) (D.may_leave disk.new file)) }
+    ensures durable { (after : Image) → (D.disk disk.new).told ≡ Some after → OnOk result (Only (after file) ((D.disk disk.new).may_leave file)) }
     ensures elsewhere { (files : Image) → (D.disk disk.old).told ≡ Some files → ChangesOnly files (D.disk disk.new).told file }
     ensures untold { (D.disk disk.old).told ≡ None → (D.disk disk.new).told ≡ None }
-    ensures crash_elsewhere { Adds D.may_leave disk.old disk.new (λ other. other ≢ file) }
+    ensures crash_elsewhere { Adds (D.disk disk.old) (D.disk disk.new) (λ other. other ≢ file) }
 
     // A crash at any moment leaves the file as it was, or torn by this write alone.
-    ensures any_moment { Leaves D.disk D.left_since disk.old disk.new
-        (IsStepped D.may_leave disk.old file (Torn at (length bytes.now))) }
+    ensures any_moment { Leaves (D.disk disk.old) (D.disk disk.new)
+        (IsStepped (D.disk disk.old) file (Torn at (length bytes.now))) }
     ensures failed { IsErr result → Rose (D.disk disk.old).faults (D.disk disk.new).faults }
     ensures count { (D.disk disk.old).faults ≤ (D.disk disk.new).faults }
 {
@@ -36,14 +36,14 @@ pub(crate) fn cut_durably<D: Disk>(disk: &mut D, file: u64, len: u64) -> Result<
     requires { (files : Image) → (D.disk disk.old).told ≡ Some files → len ≤ length (files file) }
     ensures shortened { (files after : Image) → (D.disk disk.old).told ≡ Some files → (D.disk disk.new).told ≡ Some after
         → OnOk result (after file ≡ take len (files file)) }
-    ensures durable { (after : Image) → (D.disk disk.new).told ≡ Some after → OnOk result (Only (after file) (D.may_leave disk.new file)) }
+    ensures durable { (after : Image) → (D.disk disk.new).told ≡ Some after → OnOk result (Only (after file) ((D.disk disk.new).may_leave file)) }
     ensures elsewhere { (files : Image) → (D.disk disk.old).told ≡ Some files → ChangesOnly files (D.disk disk.new).told file }
     ensures untold { (D.disk disk.old).told ≡ None → (D.disk disk.new).told ≡ None }
-    ensures crash_elsewhere { Adds D.may_leave disk.old disk.new (λ other. other ≢ file) }
+    ensures crash_elsewhere { Adds (D.disk disk.old) (D.disk disk.new) (λ other. other ≢ file) }
 
     // A crash at any moment leaves the file as it was, or cut by this call alone.
-    ensures any_moment { Leaves D.disk D.left_since disk.old disk.new
-        (IsStepped D.may_leave disk.old file (Cut len)) }
+    ensures any_moment { Leaves (D.disk disk.old) (D.disk disk.new)
+        (IsStepped (D.disk disk.old) file (Cut len)) }
     ensures failed { IsErr result → Rose (D.disk disk.old).faults (D.disk disk.new).faults }
     ensures count { (D.disk disk.old).faults ≤ (D.disk disk.new).faults }
 {

@@ -96,12 +96,12 @@ impl Journal {
         ensures created { (files after : Image) → (D.disk disk.old).told ≡ Some files → (D.disk disk.new).told ≡ Some after
             → OnOk result (after file ≡ gate_file (heading_of generation) (first.now ∷ []) 0) }
         ensures at_rest { (files after : Image) → (D.disk disk.old).told ≡ Some files → (D.disk disk.new).told ≡ Some after
-            → IfOk result (λ j. IsAtRest j (D.may_leave disk.new) (first.now ∷ []) after) }
+            → IfOk result (λ j. IsAtRest j (D.disk disk.new).may_leave (first.now ∷ []) after) }
         ensures elsewhere { (files : Image) → (D.disk disk.old).told ≡ Some files → ChangesOnly files (D.disk disk.new).told file }
         ensures untold { (D.disk disk.old).told ≡ None → (D.disk disk.new).told ≡ None }
-        ensures crash_elsewhere { Adds D.may_leave disk.old disk.new (λ other. other ≢ file) }
-        ensures any_moment { Leaves D.disk D.left_since disk.old disk.new
-            (LeavesOthers D.may_leave disk.old file) }
+        ensures crash_elsewhere { Adds (D.disk disk.old) (D.disk disk.new) (λ other. other ≢ file) }
+        ensures any_moment { Leaves (D.disk disk.old) (D.disk disk.new)
+            (LeavesOthers (D.disk disk.old) file) }
         ensures failed { IsErrOf result JournalFault.Disk → Rose (D.disk disk.old).faults (D.disk disk.new).faults }
         ensures count { (D.disk disk.old).faults ≤ (D.disk disk.new).faults }
 
@@ -139,7 +139,7 @@ impl Journal {
         ensures length { IfOk result (λ found. found.0.length ≡ length (gate_file (heading_of generation) found.1 0)) }
         ensures bodies { (files : Image) → (D.disk disk.old).told ≡ Some files → IfOk result (λ found. HasBodies (heading_of generation) found.1 (files file)) }
         ensures at_rest { (files after : Image) → (D.disk disk.old).told ≡ Some files → (D.disk disk.new).told ≡ Some after
-            → IfOk result (λ found. IsAtRest found.0 (D.may_leave disk.new) found.1 after) }
+            → IfOk result (λ found. IsAtRest found.0 (D.disk disk.new).may_leave found.1 after) }
         ensures front { (files after : Image) → (D.disk disk.old).told ≡ Some files → (D.disk disk.new).told ≡ Some after
             → IfOk result (λ found. after file ≡ take found.0.length (files file)) }
         ensures fault { (files : Image) → (D.disk disk.old).told ≡ Some files → IfErr result (IsFaultOf (heading_of generation) (files file)) }
@@ -147,13 +147,13 @@ impl Journal {
         ensures no_memory { IsErrOf result JournalFault.OutOfMemory → (D.disk disk.new).told ≡ (D.disk disk.old).told }
         ensures elsewhere { (files : Image) → (D.disk disk.old).told ≡ Some files → ChangesOnly files (D.disk disk.new).told file }
         ensures untold { (D.disk disk.old).told ≡ None → (D.disk disk.new).told ≡ None }
-        ensures crash_elsewhere { Adds D.may_leave disk.old disk.new (λ other. other ≢ file) }
+        ensures crash_elsewhere { Adds (D.disk disk.old) (D.disk disk.new) (λ other. other ≢ file) }
 
         // A crash at any moment leaves what it might have left before, or the same records.
         ensures any_moment { (files : Image) → (D.disk disk.old).told ≡ Some files
-            → Leaves D.disk D.left_since disk.old disk.new
-            (λ image. (D.may_leave disk.old file (image file) ⊎ HaveSameBodies (heading_of generation) (files file) (image file))
-            × LeavesOthers D.may_leave disk.old file image) }
+            → Leaves (D.disk disk.old) (D.disk disk.new)
+            (λ image. ((D.disk disk.old).may_leave file (image file) ⊎ HaveSameBodies (heading_of generation) (files file) (image file))
+            × LeavesOthers (D.disk disk.old) file image) }
         ensures failed { IsErrOf result JournalFault.Disk → Rose (D.disk disk.old).faults (D.disk disk.new).faults }
         ensures count { (D.disk disk.old).faults ≤ (D.disk disk.new).faults }
     {
@@ -195,26 +195,26 @@ impl Journal {
         requires room { length body.now ≤ self.old.room }
         requires small { self.old.length + length body.now + frame_length ≤ longest_journal }
         requires at_rest { self.old.broken ≡ false → (files : Image) → (D.disk disk.old).told ≡ Some files
-            → (bodies : List (List ℕ)) × IsAtRest self.old (D.may_leave disk.old) bodies files }
+            → (bodies : List (List ℕ)) × IsAtRest self.old (D.disk disk.old).may_leave bodies files }
         ensures ok { OnOk result (self.new ≡ record self.old { length = self.old.length + length body.now + frame_length }) }
         ensures at_rest { (files after : Image) (bodies : List (List ℕ)) → (D.disk disk.old).told ≡ Some files → (D.disk disk.new).told ≡ Some after
-            → IsAtRest self.old (D.may_leave disk.old) bodies files
-            → OnOk result (IsAtRest self.new (D.may_leave disk.new) (bodies ++ body.now ∷ []) after) }
+            → IsAtRest self.old (D.disk disk.old).may_leave bodies files
+            → OnOk result (IsAtRest self.new (D.disk disk.new).may_leave (bodies ++ body.now ∷ []) after) }
         ensures appended { (files after : Image) (bodies : List (List ℕ)) → (D.disk disk.old).told ≡ Some files → (D.disk disk.new).told ≡ Some after
-            → IsAtRest self.old (D.may_leave disk.old) bodies files
+            → IsAtRest self.old (D.disk disk.old).may_leave bodies files
             → OnOk result (after self.old.file ≡ gate_file self.old.heading (bodies ++ body.now ∷ []) 0) }
         ensures disk { IsErrOf result AppendFault.Disk → self.new ≡ record self.old { broken = true } }
         ensures broken { (result ≡ Err AppendFault.Broken) ↔ (self.old.broken ≡ true) }
         ensures nothing { self.old.broken ≡ true → (self.new ≡ self.old) × (disk.new ≡ disk.old) }
         ensures elsewhere { (files : Image) → (D.disk disk.old).told ≡ Some files → ChangesOnly files (D.disk disk.new).told self.old.file }
         ensures untold { (D.disk disk.old).told ≡ None → (D.disk disk.new).told ≡ None }
-        ensures crash_elsewhere { Adds D.may_leave disk.old disk.new (λ other. other ≢ self.old.file) }
+        ensures crash_elsewhere { Adds (D.disk disk.old) (D.disk disk.new) (λ other. other ≢ self.old.file) }
 
         // A crash at any moment leaves the records from before the call, with the new one or without.
         ensures any_moment { (files : Image) (bodies : List (List ℕ)) → (D.disk disk.old).told ≡ Some files
-            → IsAtRest self.old (D.may_leave disk.old) bodies files
-            → Leaves D.disk D.left_since disk.old disk.new
-            (λ image. HasOldOrNew self.old.heading bodies body.now (image self.old.file) × LeavesOthers D.may_leave disk.old self.old.file image) }
+            → IsAtRest self.old (D.disk disk.old).may_leave bodies files
+            → Leaves (D.disk disk.old) (D.disk disk.new)
+            (λ image. HasOldOrNew self.old.heading bodies body.now (image self.old.file) × LeavesOthers (D.disk disk.old) self.old.file image) }
         ensures failed { IsErrOf result AppendFault.Disk → Rose (D.disk disk.old).faults (D.disk disk.new).faults }
         ensures count { (D.disk disk.old).faults ≤ (D.disk disk.new).faults }
     {
@@ -279,16 +279,16 @@ fn write_record<D: Disk>(disk: &mut D, file: u64, end: u64, bytes: &[u8]) -> Res
     requires within { (files : Image) → (D.disk disk.old).told ≡ Some files → end ≤ length (files file) }
     ensures written { (files after : Image) (heading : Heading) (bodies : List (List ℕ)) (body : List ℕ)
         → (D.disk disk.old).told ≡ Some files → (D.disk disk.new).told ≡ Some after
-        → IsAtEnd heading bodies end (D.may_leave disk.old file) (files file) → IsRecordOf body bytes.now
+        → IsAtEnd heading bodies end ((D.disk disk.old).may_leave file) (files file) → IsRecordOf body bytes.now
         → OnOk result (after file ≡ gate_file heading (bodies ++ body ∷ []) 0) }
-    ensures durable { (after : Image) → (D.disk disk.new).told ≡ Some after → OnOk result (Only (after file) (D.may_leave disk.new file)) }
+    ensures durable { (after : Image) → (D.disk disk.new).told ≡ Some after → OnOk result (Only (after file) ((D.disk disk.new).may_leave file)) }
     ensures elsewhere { (files : Image) → (D.disk disk.old).told ≡ Some files → ChangesOnly files (D.disk disk.new).told file }
     ensures untold { (D.disk disk.old).told ≡ None → (D.disk disk.new).told ≡ None }
-    ensures crash_elsewhere { Adds D.may_leave disk.old disk.new (λ other. other ≢ file) }
+    ensures crash_elsewhere { Adds (D.disk disk.old) (D.disk disk.new) (λ other. other ≢ file) }
     ensures any_moment { (files : Image) (heading : Heading) (bodies : List (List ℕ)) (body : List ℕ) → (D.disk disk.old).told ≡ Some files
-        → IsAtEnd heading bodies end (D.may_leave disk.old file) (files file) → IsRecordOf body bytes.now
-        → Leaves D.disk D.left_since disk.old disk.new
-        (λ image. HasOldOrNew heading bodies body (image file) × LeavesOthers D.may_leave disk.old file image) }
+        → IsAtEnd heading bodies end ((D.disk disk.old).may_leave file) (files file) → IsRecordOf body bytes.now
+        → Leaves (D.disk disk.old) (D.disk disk.new)
+        (λ image. HasOldOrNew heading bodies body (image file) × LeavesOthers (D.disk disk.old) file image) }
     ensures failed { IsErr result → Rose (D.disk disk.old).faults (D.disk disk.new).faults }
     ensures count { (D.disk disk.old).faults ≤ (D.disk disk.new).faults }
 {

@@ -24,7 +24,7 @@ pub(crate) fn read_bodies<D: Disk>(
     ensures bodies { (files : Image) → (D.disk disk.old).told ≡ Some files
         → IfOk result (λ found. IsReadTo (heading_of generation) found.0 found.1 (drop found.1 (files file)) (files file) × IsClosed (drop found.1 (files file))) }
     ensures fault { (files : Image) → (D.disk disk.old).told ≡ Some files → IfErr result (IsFaultOf (heading_of generation) (files file)) }
-    ensures reads { OnlyReads D.disk D.may_leave D.left_since disk.old disk.new }
+    ensures reads { OnlyReads (D.disk disk.old) (D.disk disk.new) }
     ensures failed { IsErrOf result JournalFault.Disk → Rose (D.disk disk.old).faults (D.disk disk.new).faults }
 {
     let end = disk.len(file)?;
@@ -49,7 +49,7 @@ fn read_records<D: Disk>(
         → IfOk result (λ found. IsReadTo heading found.0 found.1 (drop found.1 (files file)) (files file) × IsClosed (drop found.1 (files file))) }
     ensures damaged { (files : Image) (heading : Heading) → (D.disk disk.old).told ≡ Some files → end ≡ length (files file) → take header_length (files file) ≡ header heading
         → IfErr result (IsFaultOf heading (files file)) }
-    ensures reads { OnlyReads D.disk D.may_leave D.left_since disk.old disk.new }
+    ensures reads { OnlyReads (D.disk disk.old) (D.disk disk.new) }
     ensures failed { IsErrOf result JournalFault.Disk → Rose (D.disk disk.old).faults (D.disk disk.new).faults }
 {
     let mut bodies = BlobList::new(alloc);
@@ -69,7 +69,7 @@ fn read_records<D: Disk>(
 fn check_header<D: Disk>(disk: &mut D, file: u64, generation: u64) -> Result<(), JournalFault>
     ensures header { (files : Image) → (D.disk disk.old).told ≡ Some files → OnOk result (take header_length (files file) ≡ header (heading_of generation)) }
     ensures fault { (files : Image) → (D.disk disk.old).told ≡ Some files → IfErr result (IsFaultOf (heading_of generation) (files file)) }
-    ensures reads { OnlyReads D.disk D.may_leave D.left_since disk.old disk.new }
+    ensures reads { OnlyReads (D.disk disk.old) (D.disk disk.new) }
     ensures failed { IsErrOf result JournalFault.Disk → Rose (D.disk disk.old).faults (D.disk disk.new).faults }
 {
     let mut bytes = [0; HEADER];
@@ -93,7 +93,7 @@ fn read_gate<D: Disk>(
         → IfOk result (λ size. MatchOption size (IsClosed (drop at (files file))) (IsOpen (drop at (files file)))) }
     ensures damaged { (files : Image) (place : ℕ) → (D.disk disk.old).told ≡ Some files → end ≡ length (files file)
         → IsErrOf result (JournalFault.Damaged place) → (place ≡ at) × IsCutShort (drop at (files file)) }
-    ensures reads { OnlyReads D.disk D.may_leave D.left_since disk.old disk.new }
+    ensures reads { OnlyReads (D.disk disk.old) (D.disk disk.new) }
     ensures failed { IsErrOf result JournalFault.Disk → Rose (D.disk disk.old).faults (D.disk disk.new).faults }
 {
     let mut frame = [0; FRAME];
@@ -135,7 +135,7 @@ fn read_body<D: Disk>(
     ensures size { IfOk result (λ body. length body ≡ size) }
     ensures whole { (files : Image) (place : ℕ) → (D.disk disk.old).told ≡ Some files → at + 9 + size ≤ length (files file)
         → IsErrOf result (JournalFault.Damaged place) → ⊥ }
-    ensures reads { OnlyReads D.disk D.may_leave D.left_since disk.old disk.new }
+    ensures reads { OnlyReads (D.disk disk.old) (D.disk disk.new) }
     ensures failed { IsErrOf result JournalFault.Disk → Rose (D.disk disk.old).faults (D.disk disk.new).faults }
 {
     let mut bytes = vec![in alloc; 0; size as usize]?;

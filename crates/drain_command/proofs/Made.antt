@@ -30,11 +30,11 @@ use Rattle.drain_command.specs.declared.draining.Asked.{Asked}
 use Rattle.drain_command.specs.declared.end.DrainEnd.{DrainEnd}
 use Rattle.drain_command.specs.declared.end.DrainEnd.TheVariants as end
 
-module _ {D R : Type 0} {disk : D → DiskView} {may_leave : D → ℕ → List ℕ → Type 0} {left_since : D → ℕ → Image → Type 0} where
+module _ {D R : Type 0} {disk : D → DiskView} where
   -- the opening, and then the turns
   pub turned_on : (o : Outside) (asked : Asked) (old mid new : BookView D R) (left : Option ℕ) (why : TurnsEnd)
-      → IsOpened disk may_leave left_since o (place_with (opening_of o.meaning old.state asked.opening.bundle asked.opening.rounds) old asked.left) [] old mid (Ok left)
-      → IsDrained disk may_leave left_since o left mid new why → IsTurned disk may_leave left_since o asked old new why
+      → IsOpened disk o (place_with (opening_of o.meaning old.state asked.opening.bundle asked.opening.rounds) old asked.left) [] old mid (Ok left)
+      → IsDrained disk o left mid new why → IsTurned disk o asked old new why
   turned_on o asked old mid new left why opened drained = record {
     made = opened.made ++ drained.made;
     drains = opened.opens drained.made why drained.drains;
@@ -43,24 +43,24 @@ module _ {D R : Type 0} {disk : D → DiskView} {may_leave : D → ℕ → List 
 
   -- the opening alone
   pub turned_off : (o : Outside) (asked : Asked) (old new : BookView D R) (why : TurnsEnd)
-      → IsOpened disk may_leave left_since o (place_with (opening_of o.meaning old.state asked.opening.bundle asked.opening.rounds) old asked.left) [] old new (Err why)
-      → IsTurned disk may_leave left_since o asked old new why
+      → IsOpened disk o (place_with (opening_of o.meaning old.state asked.opening.bundle asked.opening.rounds) old asked.left) [] old new (Err why)
+      → IsTurned disk o asked old new why
   turned_off o asked old new why opened = record { made = opened.made; drains = opened.opens; run = opened.goes_on }
 
   -- a run that makes no more steps behind another
-  pub still_runs : (m : Meaning) (old mid new : BookView D R) (made : List Step) → GoesOn disk may_leave left_since m old mid made → GoesOn disk may_leave left_since m mid new [] → GoesOn disk may_leave left_since m old new made
-  still_runs m old mid new made front rest = subst (λ (ss : List Step). GoesOn disk may_leave left_since m old new ss) (append-nil made) (goes_further old mid new made [] front rest)
+  pub still_runs : (m : Meaning) (old mid new : BookView D R) (made : List Step) → GoesOn disk m old mid made → GoesOn disk m mid new [] → GoesOn disk m old new made
+  still_runs m old mid new made front rest = subst (λ (ss : List Step). GoesOn disk m old new ss) (append-nil made) (goes_further old mid new made [] front rest)
 
 -- what reopening a store tells, by which a call on it is known
-pub record Reopened {D R : Type 0} (disk : D → DiskView) (may_leave : D → ℕ → List ℕ → Type 0) (left_since : D → ℕ → Image → Type 0) (m : Meaning) (files : Image) (old : D) (book : BookView D R) : Type 0 where
+pub record Reopened {D R : Type 0} (disk : D → DiskView) (m : Meaning) (files : Image) (old : D) (book : BookView D R) : Type 0 where
   pub all : book.kept ≡ length book.steps
   pub state : book.state ≡ replay m book.base book.steps
   pub opens : Opens m files book.generation book.base book.steps
-  pub call : (first : Base) (steps more : List Step) → StandsNow disk may_leave m first steps more old → IsOpenedCall disk may_leave left_since m first steps more old book
+  pub call : (first : Base) (steps more : List Step) → StandsNow m first steps more (disk old) → IsOpenedCall disk m first steps more old book
 
-module _ {D R : Type 0} {disk : D → DiskView} {may_leave : D → ℕ → List ℕ → Type 0} {left_since : D → ℕ → Image → Type 0} (o : Outside) (files : Image) (asked : Asked) (old : D) (opened mid later : BookView D R)
-    (is : Reopened disk may_leave left_since o.meaning files old opened) (why : TurnsEnd) (turned : IsTurned disk may_leave left_since o asked opened mid why) (behind : GoesOn disk may_leave left_since o.meaning mid later []) where
-  run : GoesOn disk may_leave left_since o.meaning opened later turned.made
+module _ {D R : Type 0} {disk : D → DiskView} (o : Outside) (files : Image) (asked : Asked) (old : D) (opened mid later : BookView D R)
+    (is : Reopened disk o.meaning files old opened) (why : TurnsEnd) (turned : IsTurned disk o asked opened mid why) (behind : GoesOn disk o.meaning mid later []) where
+  run : GoesOn disk o.meaning opened later turned.made
   run = still_runs o.meaning opened mid later turned.made turned.run behind
 
   place_is : place_with (opening_of o.meaning opened.state asked.opening.bundle asked.opening.rounds) opened asked.left ≡ start o.meaning opened.base opened.steps asked
@@ -69,10 +69,10 @@ module _ {D R : Type 0} {disk : D → DiskView} {may_leave : D → ℕ → List 
   state_now : mid.state ≡ replay o.meaning (replay o.meaning opened.base opened.steps) turned.made
   state_now = ap (λ (b : BookView D R). b.state) turned.run.book ∙ ap (λ (s : Base). replay o.meaning s turned.made) is.state
 
-  call_in : (durable : ℕ) (first : Base) (steps more : List Step) → (was : IsOpenedCall disk may_leave left_since o.meaning first steps more old opened)
-      → later.kept - opened.kept ≡ durable → IsCallIn disk may_leave left_since o.meaning first steps more old later.disk (replay o.meaning opened.base opened.steps) turned.made durable
+  call_in : (durable : ℕ) (first : Base) (steps more : List Step) → (was : IsOpenedCall disk o.meaning first steps more old opened)
+      → later.kept - opened.kept ≡ durable → IsCallIn o.meaning first steps more (disk old) (disk later.disk) (replay o.meaning opened.base opened.steps) turned.made durable
   call_in durable first steps more was number =
-      subst (λ (n : ℕ). IsCallIn disk may_leave left_since o.meaning first steps more old later.disk (replay o.meaning opened.base opened.steps) turned.made n) number
+      subst (λ (n : ℕ). IsCallIn o.meaning first steps more (disk old) (disk later.disk) (replay o.meaning opened.base opened.steps) turned.made n) number
       (record { call = called first steps more turned.made old opened later was run; reads = seals_read })
     where
       seals_read : IsSealOf (replay o.meaning first (steps ++ take (called first steps more turned.made old opened later was run).count more)) (replay o.meaning opened.base opened.steps)
@@ -81,7 +81,7 @@ module _ {D R : Type 0} {disk : D → DiskView} {may_leave : D → ℕ → List 
           (subst (λ (s : Base). IsSealOf (replay o.meaning first (steps ++ take was.reopened.count more)) s) is.state (sealed_state first steps more turned.made old opened later was run))
 
   -- what the call drained
-  pub drained : (durable : ℕ) → later.kept - opened.kept ≡ durable → Drained disk may_leave left_since o files asked old later.disk why
+  pub drained : (durable : ℕ) → later.kept - opened.kept ≡ durable → Drained o files asked (disk old) (disk later.disk) why
   drained durable number = record {
     generation = opened.generation;
     base = opened.base;
@@ -112,13 +112,13 @@ module _ {D R : Type 0} {disk : D → DiskView} {may_leave : D → ℕ → List 
 
   -- by how it ended
   pub drain_called : (e : DrainEnd) (a b : SinkView) → IsFinished mid.state why e a b → (e ≢ end.Disk → later.kept ≡ length later.steps)
-      → ((before after : Image) → (disk mid.disk).told ≡ Some before → (disk later.disk).told ≡ Some after → AreCompletedAt e (may_leave later.disk) mid.state.outs before after)
-      → ((first : Base) (history : List Step) → StandsNow disk may_leave o.meaning first history [] later.disk → HaveNoneSealed first.outs → AreWrittenAt e (AreWritten disk may_leave o.meaning first history later.disk))
-      → ((first : Base) (past : List Step) (file at : ℕ) → IsKept disk may_leave o.meaning first past mid → e ≢ end.Damaged file at)
-      → ((disk mid.disk).told ≡ None → (disk later.disk).told ≡ None) → IsDrainCall disk may_leave left_since o files asked old later.disk e a b
+      → ((before after : Image) → (disk mid.disk).told ≡ Some before → (disk later.disk).told ≡ Some after → AreCompletedAt e (disk later.disk).may_leave mid.state.outs before after)
+      → ((first : Base) (history : List Step) → StandsNow o.meaning first history [] (disk later.disk) → HaveNoneSealed first.outs → AreWrittenAt e (AreWritten o.meaning first history (disk later.disk)))
+      → ((first : Base) (past : List Step) (file at : ℕ) → IsKept disk o.meaning first past mid → e ≢ end.Damaged file at)
+      → ((disk mid.disk).told ≡ None → (disk later.disk).told ≡ None) → IsDrainCall o files asked (disk old) (disk later.disk) e a b
   unfolding drained
   drain_called (end.Turns told) a b finished all completed written sound untold =
-      subst (λ (w : TurnsEnd). IsDrainCall disk may_leave left_since o files asked old later.disk (end.Turns w) a b) (sym finished.0)
+      subst (λ (w : TurnsEnd). IsDrainCall o files asked (disk old) (disk later.disk) (end.Turns w) a b) (sym finished.0)
       (finished.1, drained (length turned.made) (all_number (all (λ same. cc (same)))), refl, record { completed = λ after tells. whole (disk mid.disk).told after _ untold tells (λ before was. completed before after was tells); written = written }, finished.2)
   drain_called end.Sink a b finished all completed written sound untold =
       (why, finished.0, drained (length turned.made) (all_number (all (λ same. cc (same)))), refl, record { completed = λ after tells. whole (disk mid.disk).told after _ untold tells (λ before was. completed before after was tells); written = written }, finished.1)
@@ -162,8 +162,8 @@ ends_undamaged fault.Refused file at none = λ same. cc (same)
 ends_undamaged fault.OutOfMemory file at none = λ same. cc (same)
 
 -- a store that couldn't be opened
-pub drain_closed : {D : Type 0} {disk : D → DiskView} {may_leave : D → ℕ → List ℕ → Type 0} {left_since : D → ℕ → Image → Type 0} (o : Outside) (files : Image) (asked : Asked) (old new : D) (told : Option Image) (f : BookFault) (sink : SinkView)
-    → told ≡ Some files → IsReopenFault o.meaning told f → IsStill disk may_leave left_since o.meaning old new → IsDrainCall disk may_leave left_since o files asked old new (end_of f) sink sink
+pub drain_closed : (o : Outside) (files : Image) (asked : Asked) (old new : DiskView) (told : Option Image) (f : BookFault) (sink : SinkView)
+    → told ≡ Some files → IsReopenFault o.meaning told f → IsStill o.meaning old new → IsDrainCall o files asked old new (end_of f) sink sink
 drain_closed o files asked old new told fault.Disk sink tells bad still = (Took-nothing sink, inl still)
 drain_closed o files asked old new told (fault.Damaged file at) sink tells bad still = (Took-nothing sink, inl ((bad files tells).0, (bad files tells).1, still))
 drain_closed o files asked old new told (fault.Store have) sink tells bad still = (bad.0, bad.1 files tells, Took-nothing sink, still)

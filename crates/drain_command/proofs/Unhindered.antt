@@ -44,26 +44,26 @@ opens_so m s asked = (tt, reloads asked.opening.bundle (rounds_of m (with_bundle
     rounds true = rounds_open _
     rounds false = tt
 
-module _ {D : Type 0} {disk : D → DiskView} {may_leave : D → ℕ → List ℕ → Type 0} {left_since : D → ℕ → Image → Type 0} (o : Outside) (feeds : List (List ℕ × List ℕ)) (files : Image) (asked : Asked) (old new : D)
-    (is : IsUnhindered disk may_leave left_since o feeds files asked old new) where
+module _ (o : Outside) (feeds : List (List ℕ × List ℕ)) (files : Image) (asked : Asked) (old new : DiskView)
+    (is : IsUnhindered o feeds files asked old new) where
   -- the store opens as it stands
-  same_start : (why : TurnsEnd) (d : Drained disk may_leave left_since o files asked old new why) → opened_state o.meaning is.base is.read asked ≡ opened_state o.meaning d.base d.read asked
+  same_start : (why : TurnsEnd) (d : Drained o files asked old new why) → opened_state o.meaning is.base is.read asked ≡ opened_state o.meaning d.base d.read asked
   same_start why d =
       let one = stored_is_one files is.generation d.generation is.base d.base is.read d.read is.opens.stored d.opens.stored in
       ap (λ (b : Base). opened_state o.meaning b is.read asked) one.1 ∙ ap (λ (steps : List Step). opened_state o.meaning d.base steps asked) one.2
 
   -- wherever it comes to, nothing hinders it
-  free : (why : TurnsEnd) (d : Drained disk may_leave left_since o files asked old new why) → IsFree o feeds (behind_all o.meaning (start o.meaning d.base d.read asked) d.made)
+  free : (why : TurnsEnd) (d : Drained o files asked old new why) → IsFree o feeds (behind_all o.meaning (start o.meaning d.base d.read asked) d.made)
   free why d = record {
     feeds = opened_feeds_are_readable o (start o.meaning d.base d.read asked) feeds d.made why is.shelf (opens_so o.meaning (replay o.meaning d.base d.read) asked)
         (subst (λ (s : Base). AreSound (bots_in_force o.meaning s)) (same_start why d) is.sound) (subst (HasFeeds feeds o.meaning) (same_start why d) is.readable) d.drains;
     room = is.room why d;
   }
 
-  idle_of : (why : TurnsEnd) → Drained disk may_leave left_since o files asked old new why → IsShown why → why ≡ last.Idle
+  idle_of : (why : TurnsEnd) → Drained o files asked old new why → IsShown why → why ≡ last.Idle
   idle_of why d shown = free_calls_end_idle o (start o.meaning d.base d.read asked) feeds d.made why is.shelf is.unbound (free why d) shown d.drains
 
-  turns_end : (why : TurnsEnd) → IsToldEnd why → Drained disk may_leave left_since o files asked old new why → EndIdly why
+  turns_end : (why : TurnsEnd) → IsToldEnd why → Drained o files asked old new why → EndIdly why
   turns_end last.Idle told d = tt
   turns_end (last.Failed name) told d = tt
   turns_end last.Left told d = absurd (cc (idle_of last.Left d tt))
@@ -78,17 +78,17 @@ module _ {D : Type 0} {disk : D → DiskView} {may_leave : D → ℕ → List �
   turns_end last.Memory told d = absurd (told.1 refl)
 
   -- the root isn't empty
-  has_root : ((image : Image) → (disk old).told ≡ Some image → IsImage (may_leave old) image) → files root_file ≡ [] → ⊥
+  has_root : ((image : Image) → old.told ≡ Some image → IsImage old.may_leave image) → files root_file ≡ [] → ⊥
   has_root honest none =
       let some = some_root o.meaning is.first is.steps is.more files (is.stands.each files (honest files is.disk_tells)) in omega (arith, some, ap length none)
 
-pub drains_end_idle : {D : Type 0} {disk : D → DiskView} {may_leave : D → ℕ → List ℕ → Type 0} {left_since : D → ℕ → Image → Type 0} {old : D} → ((image : Image) → (disk old).told ≡ Some image → IsImage (may_leave old) image)
-    → (o : Outside) (feeds : List (List ℕ × List ℕ)) (files : Image) (asked : Asked) (new : D) → IsUnhindered disk may_leave left_since o feeds files asked old new → (e : DrainEnd) (before after : SinkView)
-    → IsDrainCall disk may_leave left_since o files asked old new e before after → EndsIdly e
-drains_end_idle {old = old} honest o feeds files asked new is (end.Turns why) before after call = turns_end o feeds files asked old new is why call.0 call.1
-drains_end_idle honest o feeds files asked new is end.Memory before after call = tt
-drains_end_idle honest o feeds files asked new is end.Disk before after call = tt
-drains_end_idle honest o feeds files asked new is end.Sink before after call = tt
-drains_end_idle {old = old} honest o feeds files asked new is (end.Store have) before after call = has_root o feeds files asked old new is honest call.1
-drains_end_idle honest o feeds files asked new is (end.Damaged file at) before after call =
+pub drains_end_idle : (old new : DiskView) → ((image : Image) → old.told ≡ Some image → IsImage old.may_leave image)
+    → (o : Outside) (feeds : List (List ℕ × List ℕ)) (files : Image) (asked : Asked) → IsUnhindered o feeds files asked old new → (e : DrainEnd) (before after : SinkView)
+    → IsDrainCall o files asked old new e before after → EndsIdly e
+drains_end_idle old new honest o feeds files asked is (end.Turns why) before after call = turns_end o feeds files asked old new is why call.0 call.1
+drains_end_idle old new honest o feeds files asked is end.Memory before after call = tt
+drains_end_idle old new honest o feeds files asked is end.Disk before after call = tt
+drains_end_idle old new honest o feeds files asked is end.Sink before after call = tt
+drains_end_idle old new honest o feeds files asked is (end.Store have) before after call = has_root o feeds files asked old new is honest call.1
+drains_end_idle old new honest o feeds files asked is (end.Damaged file at) before after call =
     ⊎_elim (λ found. opens_whole o.meaning files is.generation is.base is.read file at is.opens found.1) (λ late. late.3 is.first is.steps is.more is.stands) call.1

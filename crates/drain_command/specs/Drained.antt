@@ -35,13 +35,13 @@ start m base read asked = record { opening = opening_of m (replay m base read) a
 
 -- a call on a disk that stood for these steps of the store whose first state is `first`, and a front of those behind them, read
 -- this state of it, up to lines that are sealed, and made these steps, of which so many are durable
-pub record IsCallIn {D : Type 0} (disk : D → DiskView) (may_leave : D → ℕ → List ℕ → Type 0) (left_since : D → ℕ → Image → Type 0) (m : Meaning) (first : Base) (steps more : List Step) (old new : D) (state : Base) (made : List Step) (durable : ℕ) : Type 0 where
-  pub call : IsCall disk may_leave left_since m first steps more old new made durable
+pub record IsCallIn (m : Meaning) (first : Base) (steps more : List Step) (old new : DiskView) (state : Base) (made : List Step) (durable : ℕ) : Type 0 where
+  pub call : IsCall m first steps more old new made durable
   pub reads : IsSealOf (replay m first (steps ++ take call.count more)) state
 
 -- the store opens; the steps that were made, one by one as they were due, and why there are no more; the state behind them; and
 -- what the disk stands for, at any moment of the call and behind it
-pub record Drained {D : Type 0} (disk : D → DiskView) (may_leave : D → ℕ → List ℕ → Type 0) (left_since : D → ℕ → Image → Type 0) (o : Outside) (files : Image) (asked : Asked) (old new : D) (why : TurnsEnd) : Type 0 where
+pub record Drained (o : Outside) (files : Image) (asked : Asked) (old new : DiskView) (why : TurnsEnd) : Type 0 where
   pub generation : ℕ
   pub base : Base
   pub read : List Step
@@ -51,22 +51,22 @@ pub record Drained {D : Type 0} (disk : D → DiskView) (may_leave : D → ℕ �
   pub state : Base
   pub state_is : state ≡ replay o.meaning (replay o.meaning base read) made
   pub durable : ℕ
-  pub call : (first : Base) (steps more : List Step) → StandsNow disk may_leave o.meaning first steps more old → IsCallIn disk may_leave left_since o.meaning first steps more old new (replay o.meaning base read) made durable
+  pub call : (first : Base) (steps more : List Step) → StandsNow o.meaning first steps more old → IsCallIn o.meaning first steps more old new (replay o.meaning base read) made durable
 
 -- all steps that were made are durable
-abbrev pub IsDurable : {D : Type 0} {disk : D → DiskView} {may_leave : D → ℕ → List ℕ → Type 0} {left_since : D → ℕ → Image → Type 0} {o : Outside} {files : Image} {asked : Asked} {old new : D} {why : TurnsEnd}
-    → Drained disk may_leave left_since o files asked old new why → Type 0
+abbrev pub IsDurable : {o : Outside} {files : Image} {asked : Asked} {old new : DiskView} {why : TurnsEnd}
+    → Drained o files asked old new why → Type 0
 IsDurable d = d.durable ≡ length d.made
 
 -- the file of each output is its sealed front and each line behind it; and it is all lines of each history that the disk stands
 -- for, of a store that began with nothing sealed
-pub record HasOutputs {D : Type 0} (disk : D → DiskView) (may_leave : D → ℕ → List ℕ → Type 0) (m : Meaning) (new : D) (outs : List Output) : Type 0 where
-  pub completed : (after : Image) → (disk new).told ≡ Some after → (before : Image) × AreCompleted (may_leave new) outs before after
-  pub written : (first : Base) (history : List Step) → StandsNow disk may_leave m first history [] new → HaveNoneSealed first.outs → AreWritten disk may_leave m first history new
+pub record HasOutputs (m : Meaning) (new : DiskView) (outs : List Output) : Type 0 where
+  pub completed : (after : Image) → new.told ≡ Some after → (before : Image) × AreCompleted new.may_leave outs before after
+  pub written : (first : Base) (history : List Step) → StandsNow m first history [] new → HaveNoneSealed first.outs → AreWritten m first history new
 
 -- no step was made: at any moment of the call and behind it the disk stands for the same history
-abbrev pub IsStill : {D : Type 0} → (D → DiskView) → (D → ℕ → List ℕ → Type 0) → (D → ℕ → Image → Type 0) → Meaning → D → D → Type 0
-IsStill disk may_leave left_since m old new = (first : Base) (steps more : List Step) → StandsNow disk may_leave m first steps more old → StandsOn disk may_leave left_since m first steps more old new
+abbrev pub IsStill : Meaning → DiskView → DiskView → Type 0
+IsStill m old new = (first : Base) (steps more : List Step) → StandsNow m first steps more old → StandsOn m first steps more old new
 
 -- an end that is told: neither the disk nor memory ended the turns
 abbrev pub IsToldEnd : TurnsEnd → Type 0
@@ -76,19 +76,19 @@ IsToldEnd why = (why ≢ last.Disk) × (why ≢ last.Memory)
 -- it where the sink failed. Where memory ran out or the disk failed nothing is printed; behind want of memory the steps are
 -- durable. Or there is no store, or it is damaged; that an output is too short when it is completed never
 -- comes on a disk that stands for a history
-abbrev pub IsDrainCall : {D : Type 0} → (D → DiskView) → (D → ℕ → List ℕ → Type 0) → (D → ℕ → Image → Type 0) → Outside → Image → Asked → D → D → DrainEnd → SinkView → SinkView → Type 0
-IsDrainCall disk may_leave left_since o files asked old new (end.Turns why) before after =
-    IsToldEnd why × (d : Drained disk may_leave left_since o files asked old new why) × IsDurable d × HasOutputs disk may_leave o.meaning new d.state.outs × Took before after (summary d.state)
-IsDrainCall disk may_leave left_since o files asked old new end.Sink before after =
-    (why : TurnsEnd) × IsToldEnd why × (d : Drained disk may_leave left_since o files asked old new why) × IsDurable d × HasOutputs disk may_leave o.meaning new d.state.outs × TookFront before after (summary d.state)
-IsDrainCall disk may_leave left_since o files asked old new end.Memory before after =
-    Took before after [] × (IsStill disk may_leave left_since o.meaning old new ⊎ ((why : TurnsEnd) × (d : Drained disk may_leave left_since o files asked old new why) × IsDurable d))
-IsDrainCall disk may_leave left_since o files asked old new end.Disk before after =
-    Took before after [] × (IsStill disk may_leave left_since o.meaning old new ⊎ ((why : TurnsEnd) × Drained disk may_leave left_since o files asked old new why))
-IsDrainCall disk may_leave left_since o files asked old new (end.Store have) before after =
-    (have ≡ 0) × (files root_file ≡ []) × Took before after [] × IsStill disk may_leave left_since o.meaning old new
-IsDrainCall disk may_leave left_since o files asked old new (end.Damaged file at) before after =
+abbrev pub IsDrainCall : Outside → Image → Asked → DiskView → DiskView → DrainEnd → SinkView → SinkView → Type 0
+IsDrainCall o files asked old new (end.Turns why) before after =
+    IsToldEnd why × (d : Drained o files asked old new why) × IsDurable d × HasOutputs o.meaning new d.state.outs × Took before after (summary d.state)
+IsDrainCall o files asked old new end.Sink before after =
+    (why : TurnsEnd) × IsToldEnd why × (d : Drained o files asked old new why) × IsDurable d × HasOutputs o.meaning new d.state.outs × TookFront before after (summary d.state)
+IsDrainCall o files asked old new end.Memory before after =
+    Took before after [] × (IsStill o.meaning old new ⊎ ((why : TurnsEnd) × (d : Drained o files asked old new why) × IsDurable d))
+IsDrainCall o files asked old new end.Disk before after =
+    Took before after [] × (IsStill o.meaning old new ⊎ ((why : TurnsEnd) × Drained o files asked old new why))
+IsDrainCall o files asked old new (end.Store have) before after =
+    (have ≡ 0) × (files root_file ≡ []) × Took before after [] × IsStill o.meaning old new
+IsDrainCall o files asked old new (end.Damaged file at) before after =
     Took before after []
-    × (((0 < length (files root_file)) × IsDamagedStore o.meaning files file at × IsStill disk may_leave left_since o.meaning old new)
-    ⊎ ((why : TurnsEnd) × (d : Drained disk may_leave left_since o files asked old new why) × IsDurable d
-    × ((first : Base) (steps more : List Step) → StandsNow disk may_leave o.meaning first steps more old → ⊥)))
+    × (((0 < length (files root_file)) × IsDamagedStore o.meaning files file at × IsStill o.meaning old new)
+    ⊎ ((why : TurnsEnd) × (d : Drained o files asked old new why) × IsDurable d
+    × ((first : Base) (steps more : List Step) → StandsNow o.meaning first steps more old → ⊥)))

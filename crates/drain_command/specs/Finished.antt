@@ -30,10 +30,10 @@ end_of fault.Refused = end.Memory
 end_of fault.OutOfMemory = end.Memory
 
 -- a run of a book's calls makes the steps of the opening and of turns, and they end so
-pub record IsTurned {D R : Type 0} (disk : D → DiskView) (may_leave : D → ℕ → List ℕ → Type 0) (left_since : D → ℕ → Image → Type 0) (o : Outside) (asked : Asked) (old new : BookView D R) (why : TurnsEnd) : Type 0 where
+pub record IsTurned {D R : Type 0} (disk : D → DiskView) (o : Outside) (asked : Asked) (old new : BookView D R) (why : TurnsEnd) : Type 0 where
   pub made : List Step
   pub drains : Drains o (place_with (opening_of o.meaning old.state asked.opening.bundle asked.opening.rounds) old asked.left) made why
-  pub run : GoesOn disk may_leave left_since o.meaning old new made
+  pub run : GoesOn disk o.meaning old new made
 
 -- the summary of a state is printed, or a front of it where the sink failed, or nothing where memory ran out
 abbrev pub IsReported : Base → TurnsEnd → DrainEnd → SinkView → SinkView → Type 0

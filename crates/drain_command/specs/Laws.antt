@@ -49,10 +49,10 @@ opened_state m base read asked = opened m (start m base read asked).state (start
 -- nothing hinders a drain: it may make any number of steps, the shelf and the disk tell what they have, the store opens and stands
 -- for a history; the shelf has the feeds of the collectors as they stand behind the opening; and where the drain comes to there is
 -- room for what is due
-pub record IsUnhindered {D : Type 0} (disk : D → DiskView) (may_leave : D → ℕ → List ℕ → Type 0) (left_since : D → ℕ → Image → Type 0) (o : Outside) (feeds : List (List ℕ × List ℕ)) (files : Image) (asked : Asked) (old new : D) : Type 0 where
+pub record IsUnhindered (o : Outside) (feeds : List (List ℕ × List ℕ)) (files : Image) (asked : Asked) (old new : DiskView) : Type 0 where
   pub unbound : asked.left ≡ None
   pub shelf : o.shelf.told ≡ Some feeds
-  pub disk_tells : (disk old).told ≡ Some files
+  pub disk_tells : old.told ≡ Some files
   pub generation : ℕ
   pub base : Base
   pub read : List Step
@@ -60,13 +60,13 @@ pub record IsUnhindered {D : Type 0} (disk : D → DiskView) (may_leave : D → 
   pub first : Base
   pub steps : List Step
   pub more : List Step
-  pub stands : StandsNow disk may_leave o.meaning first steps more old
+  pub stands : StandsNow o.meaning first steps more old
   pub sound : AreSound (bots_in_force o.meaning (opened_state o.meaning base read asked))
   pub readable : HasFeeds feeds o.meaning (opened_state o.meaning base read asked)
-  pub room : (why : TurnsEnd) (d : Drained disk may_leave left_since o files asked old new why) → HasRoom o (behind_all o.meaning (start o.meaning d.base d.read asked) d.made)
+  pub room : (why : TurnsEnd) (d : Drained o files asked old new why) → HasRoom o (behind_all o.meaning (start o.meaning d.base d.read asked) d.made)
 
 -- such a drain does all that there is to do
-abbrev pub FreeDrainsEndIdle : {D : Type 0} → (D → DiskView) → (D → ℕ → List ℕ → Type 0) → (D → ℕ → Image → Type 0) → Type 0
-FreeDrainsEndIdle {D} disk may_leave left_since =
-    (o : Outside) (feeds : List (List ℕ × List ℕ)) (files : Image) (asked : Asked) (old new : D) (e : DrainEnd) (before after : SinkView) → IsUnhindered disk may_leave left_since o feeds files asked old new
-    → IsDrainCall disk may_leave left_since o files asked old new e before after → EndsIdly e
+abbrev pub FreeDrainsEndIdle : {D : Type 0} → (D → DiskView) → Type 0
+FreeDrainsEndIdle {D} disk =
+    (o : Outside) (feeds : List (List ℕ × List ℕ)) (files : Image) (asked : Asked) (old new : D) (e : DrainEnd) (before after : SinkView) → IsUnhindered o feeds files asked (disk old) (disk new)
+    → IsDrainCall o files asked (disk old) (disk new) e before after → EndsIdly e

@@ -45,7 +45,7 @@ pub fn drain<D: Disk, R: Rules, H: Shelf, C: Clock, S: Sink>(
     // Where the disk tells what it holds: the steps that were made, one by one as they were due, and why there are no more; what a
     // crash leaves of the store's history at any moment; and what is printed. Or what the store is refused for.
     ensures drained { (files : Image) → (D.disk disk).told ≡ Some files
-        → IsDrainCall D.disk D.may_leave D.left_since (outside R.meaning (H.shelf shelf.old) (C.told clock.now) most_step_bytes) files asked disk result.1 result.0 (S.sink out.old) (S.sink out.new) }
+        → IsDrainCall (outside R.meaning (H.shelf shelf.old) (C.told clock.now) most_step_bytes) files asked (D.disk disk) (D.disk result.1) result.0 (S.sink out.old) (S.sink out.new) }
 
     // The turns that are told ended by a cause of theirs.
     ensures plain { (why : Last) → result.0 ≡ DrainEnd.Turns why → IsToldEnd why }

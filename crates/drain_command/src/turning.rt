@@ -25,7 +25,7 @@ pub(crate) fn make_turns<D: Disk, R: Rules, H: Shelf, C: Clock>(
 ) -> TurnsEnd
     requires whole { book.old.broken ≡ false }
     requires loads { (bundle : List ℕ) → asked.opening.bundle ≡ Some bundle → IsSome (R.meaning.facts bundle) }
-    ensures turned { IsTurned D.disk D.may_leave D.left_since (outside R.meaning (H.shelf shelf.old) (C.told clock.now) book.old.limit) asked book.old book.new result }
+    ensures turned { IsTurned D.disk (outside R.meaning (H.shelf shelf.old) (C.told clock.now) book.old.limit) asked book.old book.new result }
     ensures broken { (result ≡ TurnsEnd.Disk) ↔ (book.new.broken ≡ true) }
     ensures disk { result ≡ TurnsEnd.Disk → Rose (D.disk book.old.disk).faults (D.disk book.new.disk).faults }
     ensures failed { (name : List ℕ) → result ≡ TurnsEnd.Failed name → (s : Base) × FailedBeyond (collectors R.meaning s) (H.shelf shelf.old) (H.shelf shelf.new) name }

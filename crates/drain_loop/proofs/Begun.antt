@@ -79,23 +79,23 @@ opening_due o p what later now opening left latest plain fits shows = record {
 
 -- ---- steps one behind the other
 
-module _ {D R : Type 0} {disk : D → DiskView} {may_leave : D → ℕ → List ℕ → Type 0} {left_since : D → ℕ → Image → Type 0} where
+module _ {D R : Type 0} {disk : D → DiskView} where
   -- none is made
-  pub opens_none : (o : Outside) (later : List StepKind) (left : Option ℕ) (book : BookView D R) → ((image : Image) → left_since book.disk (disk book.disk).moment image → IsImage (may_leave book.disk) image)
-      → IsOpened disk may_leave left_since o (place_with later book left) later book book (Ok left)
+  pub opens_none : (o : Outside) (later : List StepKind) (left : Option ℕ) (book : BookView D R) → ((image : Image) → (disk book.disk).left_since (disk book.disk).moment image → IsImage (disk book.disk).may_leave image)
+      → IsOpened disk o (place_with later book left) later book book (Ok left)
   opens_none o later left book only = record { made = []; goes_on = goes_nowhere book only; opens = λ more last rest. rest }
 
   -- the call ends at once
-  pub ends_opening : (o : Outside) (start : Place) (later : List StepKind) (old new : BookView D R) (last : TurnsEnd) → Ends o start last → GoesOn disk may_leave left_since o.meaning old new [] → IsOpened disk may_leave left_since o start later old new (Err last)
+  pub ends_opening : (o : Outside) (start : Place) (later : List StepKind) (old new : BookView D R) (last : TurnsEnd) → Ends o start last → GoesOn disk o.meaning old new [] → IsOpened disk o start later old new (Err last)
   ends_opening o start later old new last ends still = record { made = []; goes_on = still; opens = ends }
 
   -- where it ends, no steps to come matter
-  pub ends_anyhow : (o : Outside) (start : Place) (later other : List StepKind) (old new : BookView D R) (last : TurnsEnd) → IsOpened disk may_leave left_since o start later old new (Err last) → IsOpened disk may_leave left_since o start other old new (Err last)
+  pub ends_anyhow : (o : Outside) (start : Place) (later other : List StepKind) (old new : BookView D R) (last : TurnsEnd) → IsOpened disk o start later old new (Err last) → IsOpened disk o start other old new (Err last)
   ends_anyhow o start later other old new last is = record { made = is.made; goes_on = is.goes_on; opens = is.opens }
 
   -- one is made
-  pub opens_one : (o : Outside) (what : StepKind) (later : List StepKind) (left fewer : Option ℕ) (old new : BookView D R) (step : Step) → IsMade o (place_with (what ∷ later) old left) step → GoesOn disk may_leave left_since o.meaning old new (step ∷ [])
-      → fewer ≡ option_map (λ n. n - 1) left → IsOpened disk may_leave left_since o (place_with (what ∷ later) old left) later old new (Ok fewer)
+  pub opens_one : (o : Outside) (what : StepKind) (later : List StepKind) (left fewer : Option ℕ) (old new : BookView D R) (step : Step) → IsMade o (place_with (what ∷ later) old left) step → GoesOn disk o.meaning old new (step ∷ [])
+      → fewer ≡ option_map (λ n. n - 1) left → IsOpened disk o (place_with (what ∷ later) old left) later old new (Ok fewer)
   opens_one o what later left fewer old new step made goes_on is = record {
     made = step ∷ [];
     goes_on = goes_on;
@@ -106,8 +106,8 @@ module _ {D R : Type 0} {disk : D → DiskView} {may_leave : D → ℕ → List 
   }
 
   -- and others behind
-  pub opens_more : (o : Outside) (start : Place) (between later : List StepKind) (left : Option ℕ) (old mid new : BookView D R) (r : Result (Option ℕ) TurnsEnd) → IsOpened disk may_leave left_since o start between old mid (Ok left)
-      → IsOpened disk may_leave left_since o (place_with between mid left) later mid new r → IsOpened disk may_leave left_since o start later old new r
+  pub opens_more : (o : Outside) (start : Place) (between later : List StepKind) (left : Option ℕ) (old mid new : BookView D R) (r : Result (Option ℕ) TurnsEnd) → IsOpened disk o start between old mid (Ok left)
+      → IsOpened disk o (place_with between mid left) later mid new r → IsOpened disk o start later old new r
   opens_more o start between later left old mid new (Ok fewer) front rest = record {
     made = front.made ++ rest.made;
     goes_on = goes_further old mid new front.made rest.made front.goes_on rest.goes_on;

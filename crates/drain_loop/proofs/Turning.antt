@@ -267,14 +267,14 @@ number_small m s step small = go (is_past (min (after m s step).steps last_u64))
 
 -- ---- the steps so far
 
-module _ {D R : Type 0} {disk : D → DiskView} {may_leave : D → ℕ → List ℕ → Type 0} {left_since : D → ℕ → Image → Type 0} where
+module _ {D R : Type 0} {disk : D → DiskView} where
   -- no step yet
-  pub run_none : (o : Outside) (start : Place) (book : BookView D R) → ((image : Image) → left_since book.disk (disk book.disk).moment image → IsImage (may_leave book.disk) image) → Running disk may_leave left_since o start start book book
+  pub run_none : (o : Outside) (start : Place) (book : BookView D R) → ((image : Image) → (disk book.disk).left_since (disk book.disk).moment image → IsImage (disk book.disk).may_leave image) → Running disk o start start book book
   run_none o start book only = record { made = []; goes_on = goes_nowhere book only; leads = λ more last rest. rest }
 
   -- one step more
-  pub run_more : (o : Outside) (start here : Place) (old now new : BookView D R) (step : Step) → Running disk may_leave left_since o start here old now → IsMade o here step
-      → GoesOn disk may_leave left_since o.meaning now new (step ∷ []) → Running disk may_leave left_since o start (behind o.meaning here step) old new
+  pub run_more : (o : Outside) (start here : Place) (old now new : BookView D R) (step : Step) → Running disk o start here old now → IsMade o here step
+      → GoesOn disk o.meaning now new (step ∷ []) → Running disk o start (behind o.meaning here step) old new
   run_more o start here old now new step run made goes_on = record {
     made = run.made ++ step ∷ [];
     goes_on = goes_further old now new run.made (step ∷ []) run.goes_on goes_on;
@@ -282,18 +282,18 @@ module _ {D R : Type 0} {disk : D → DiskView} {may_leave : D → ℕ → List 
   }
 
   -- a book behind a turn's step stands where the call does
-  pub behind_is : (o : Outside) (left : Option ℕ) (now new : BookView D R) (step : Step) → GoesOn disk may_leave left_since o.meaning now new (step ∷ []) → behind o.meaning (place_of now left) step ≡ place_of new (option_map (λ n. n - 1) left)
+  pub behind_is : (o : Outside) (left : Option ℕ) (now new : BookView D R) (step : Step) → GoesOn disk o.meaning now new (step ∷ []) → behind o.meaning (place_of now left) step ≡ place_of new (option_map (λ n. n - 1) left)
   behind_is o left now new step goes_on = sym (ap (λ (b : BookView D R). place_of b (option_map (λ n. n - 1) left)) goes_on.book)
 
   -- a turn's step more
-  pub turn_more : (o : Outside) (start : Place) (left fewer : Option ℕ) (old now new : BookView D R) → Running disk may_leave left_since o start (place_of now left) old now → OneStep disk may_leave left_since o left now new
-      → fewer ≡ option_map (λ n. n - 1) left → Running disk may_leave left_since o start (place_of new fewer) old new
+  pub turn_more : (o : Outside) (start : Place) (left fewer : Option ℕ) (old now new : BookView D R) → Running disk o start (place_of now left) old now → OneStep disk o left now new
+      → fewer ≡ option_map (λ n. n - 1) left → Running disk o start (place_of new fewer) old new
   turn_more o start left fewer old now new run one is =
-      subst (λ (p : Place). Running disk may_leave left_since o start p old new) (behind_is o left now new one.step one.goes_on ∙ ap (place_of new) (sym is)) (run_more o start (place_of now left) old now new one.step run one.is_made one.goes_on)
+      subst (λ (p : Place). Running disk o start p old new) (behind_is o left now new one.step one.goes_on ∙ ap (place_of new) (sym is)) (run_more o start (place_of now left) old now new one.step run one.is_made one.goes_on)
 
   -- the turns end here
-  pub run_ends : (o : Outside) (left left_now : Option ℕ) (old now new : BookView D R) (last : TurnsEnd) → Running disk may_leave left_since o (place_of old left) (place_of now left_now) old now → Ends o (place_of now left_now) last
-      → GoesOn disk may_leave left_since o.meaning now new [] → IsDrained disk may_leave left_since o left old new last
+  pub run_ends : (o : Outside) (left left_now : Option ℕ) (old now new : BookView D R) (last : TurnsEnd) → Running disk o (place_of old left) (place_of now left_now) old now → Ends o (place_of now left_now) last
+      → GoesOn disk o.meaning now new [] → IsDrained disk o left old new last
   run_ends o left left_now old now new last run ends still = record {
     made = run.made ++ [];
     drains = run.leads [] last ends;
@@ -301,15 +301,15 @@ module _ {D R : Type 0} {disk : D → DiskView} {may_leave : D → ℕ → List 
   }
 
   -- so behind a call that makes none
-  pub still_drained : (o : Outside) (left : Option ℕ) (old now new : BookView D R) (last : TurnsEnd) → IsDrained disk may_leave left_since o left old now last → GoesOn disk may_leave left_since o.meaning now new [] → IsDrained disk may_leave left_since o left old new last
+  pub still_drained : (o : Outside) (left : Option ℕ) (old now new : BookView D R) (last : TurnsEnd) → IsDrained disk o left old now last → GoesOn disk o.meaning now new [] → IsDrained disk o left old new last
   still_drained o left old now new last is still = record {
     made = is.made;
     drains = is.drains;
-    goes_on = subst (λ (ss : List Step). GoesOn disk may_leave left_since o.meaning old new ss) (append-nil is.made) (goes_further old now new is.made [] is.goes_on still);
+    goes_on = subst (λ (ss : List Step). GoesOn disk o.meaning old new ss) (append-nil is.made) (goes_further old now new is.made [] is.goes_on still);
   }
 
   -- a disk that fails, or want of memory, may end the turns anywhere
-  pub cut_short : (o : Outside) (left : Option ℕ) (old new : BookView D R) (last : TurnsEnd) → IsDrained disk may_leave left_since o left old new last → IsDrained disk may_leave left_since o left old new end.Disk
+  pub cut_short : (o : Outside) (left : Option ℕ) (old new : BookView D R) (last : TurnsEnd) → IsDrained disk o left old new last → IsDrained disk o left old new end.Disk
   cut_short o left old new last is = record { made = is.made; drains = cut o (place_of old left) is.made last is.drains; goes_on = is.goes_on }
     where
       cut : (o : Outside) (p : Place) (steps : List Step) (last : TurnsEnd) → Drains o p steps last → Drains o p steps end.Disk

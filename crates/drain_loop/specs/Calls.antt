@@ -1,6 +1,6 @@
 -- What a call that drains a book makes of it.
 use Rattle.std.specs.Prelude.{ℕ, Bool, List, [], ◌∷◌, ◌++◌, map, filter, Option, Some, None, Result, MatchResult, if◌then◌else◌}
-use Rattle.edge_traits.specs.Disk.{DiskView, Image}
+use Rattle.edge_traits.specs.Disk.{DiskView}
 use Rattle.edge_traits.specs.Shelf.{ShelfView}
 use Rattle.step_code.specs.declared.base.Base.{Base}
 use Rattle.step_code.specs.declared.step.Step.{Step}
@@ -30,10 +30,10 @@ abbrev pub place_of : {D R : Type 0} → BookView D R → Option ℕ → Place
 place_of book left = place_with [] book left
 
 -- the call made these steps of turns, and ends as they do; its book goes on by them
-pub record IsDrained {D R : Type 0} (disk : D → DiskView) (may_leave : D → ℕ → List ℕ → Type 0) (left_since : D → ℕ → Image → Type 0) (o : Outside) (left : Option ℕ) (old new : BookView D R) (last : TurnsEnd) : Type 0 where
+pub record IsDrained {D R : Type 0} (disk : D → DiskView) (o : Outside) (left : Option ℕ) (old new : BookView D R) (last : TurnsEnd) : Type 0 where
   pub made : List Step
   pub drains : Drains o (place_of old left) made last
-  pub goes_on : GoesOn disk may_leave left_since o.meaning old new made
+  pub goes_on : GoesOn disk o.meaning old new made
 
 -- ---- what a call opens with
 
@@ -59,9 +59,9 @@ opening_of m s bundle asked = kind.Start ∷ (reload_of bundle ++ rounds_of m (w
 
 -- steps were made from this place on. Where they are all that were to be made, whatever a call drains from where they end, with
 -- those steps still to open with, it drains from the place, behind them; else the call ends so
-pub record IsOpened {D R : Type 0} (disk : D → DiskView) (may_leave : D → ℕ → List ℕ → Type 0) (left_since : D → ℕ → Image → Type 0) (o : Outside) (start : Place) (later : List StepKind) (old new : BookView D R) (result : Result (Option ℕ) TurnsEnd) : Type 0 where
+pub record IsOpened {D R : Type 0} (disk : D → DiskView) (o : Outside) (start : Place) (later : List StepKind) (old new : BookView D R) (result : Result (Option ℕ) TurnsEnd) : Type 0 where
   pub made : List Step
-  pub goes_on : GoesOn disk may_leave left_since o.meaning old new made
+  pub goes_on : GoesOn disk o.meaning old new made
   pub opens : MatchResult result (λ left. (more : List Step) (last : TurnsEnd) → Drains o (place_with later new left) more last → Drains o start (made ++ more) last) (λ last. Drains o start made last)
 
 -- an end ahead of the turns, at which no feed was looked at

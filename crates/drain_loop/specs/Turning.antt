@@ -1,6 +1,6 @@
 -- One turn of a loop, and the loop so far.
 use Rattle.std.specs.Prelude.{◌≡◌, ◌++◌, [], ◌∷◌, ℕ, List, Option, Some, slice_get}
-use Rattle.edge_traits.specs.Disk.{DiskView, Image}
+use Rattle.edge_traits.specs.Disk.{DiskView}
 use Rattle.step_code.specs.declared.base.Base.{Base}
 use Rattle.step_code.specs.declared.step.Step.{Step}
 use Rattle.step_code.specs.declared.step.StepKind.{StepKind}
@@ -61,13 +61,13 @@ end_of (fault.Refused (refusal.Full bytes)) = end.Full bytes
 end_of (fault.Refused other) = end.Memory
 
 -- a turn's step was made, and the book goes on by it
-pub record OneStep {D R : Type 0} (disk : D → DiskView) (may_leave : D → ℕ → List ℕ → Type 0) (left_since : D → ℕ → Image → Type 0) (o : Outside) (left : Option ℕ) (old new : BookView D R) : Type 0 where
+pub record OneStep {D R : Type 0} (disk : D → DiskView) (o : Outside) (left : Option ℕ) (old new : BookView D R) : Type 0 where
   pub step : Step
   pub is_made : IsMade o (place_of old left) step
-  pub goes_on : GoesOn disk may_leave left_since o.meaning old new (step ∷ [])
+  pub goes_on : GoesOn disk o.meaning old new (step ∷ [])
 
 -- the steps so far: whatever is drained from here on is drained from the start, behind them
-pub record Running {D R : Type 0} (disk : D → DiskView) (may_leave : D → ℕ → List ℕ → Type 0) (left_since : D → ℕ → Image → Type 0) (o : Outside) (start here : Place) (old now : BookView D R) : Type 0 where
+pub record Running {D R : Type 0} (disk : D → DiskView) (o : Outside) (start here : Place) (old now : BookView D R) : Type 0 where
   pub made : List Step
-  pub goes_on : GoesOn disk may_leave left_since o.meaning old now made
+  pub goes_on : GoesOn disk o.meaning old now made
   pub leads : (more : List Step) (last : TurnsEnd) → Drains o here more last → Drains o start (made ++ more) last

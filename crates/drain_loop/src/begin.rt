@@ -51,7 +51,7 @@ pub fn open_turns<D: Disk, R: Rules, C: Clock>(
     requires loads { (bundle : List ℕ) → opening.bundle ≡ Some bundle → IsSome (R.meaning.facts bundle) }
 
     // The steps that were made, one by one as they were due, and why there are no more of them.
-    ensures opened { (first : ShelfView) → IsOpened D.disk D.may_leave D.left_since (outside R.meaning first (C.told clock.now) book.old.limit)
+    ensures opened { (first : ShelfView) → IsOpened D.disk (outside R.meaning first (C.told clock.now) book.old.limit)
         (place_with (opening_of R.meaning book.old.state opening.bundle opening.rounds) book.old left) [] book.old book.new result }
     ensures early { IfErr result IsEarlyEnd }
     ensures whole { OnOk result (book.new.broken ≡ false) }
@@ -85,7 +85,7 @@ fn reload<D: Disk, R: Rules, C: Clock>(
 ) -> Result<Option<u64>, TurnsEnd>
     requires whole { book.old.broken ≡ false }
     requires loads { (code : List ℕ) → bundle ≡ Some code → IsSome (R.meaning.facts code) }
-    ensures opened { (first : ShelfView) (later : List Kind) → IsOpened D.disk D.may_leave D.left_since (outside R.meaning first (C.told clock.now) book.old.limit)
+    ensures opened { (first : ShelfView) (later : List Kind) → IsOpened D.disk (outside R.meaning first (C.told clock.now) book.old.limit)
         (place_with (reload_of bundle ++ later) book.old left) later book.old book.new result }
     ensures rounds { (asked : Bool) → OnOk result (rounds_of R.meaning book.new.state asked ≡ rounds_of R.meaning (with_bundle R.meaning book.old.state bundle) asked) }
     ensures limit { book.new.limit ≡ book.old.limit }
@@ -110,7 +110,7 @@ fn open_rounds<D: Disk, R: Rules, C: Clock>(
     left: Option<u64>,
 ) -> Result<Option<u64>, TurnsEnd>
     requires whole { book.old.broken ≡ false }
-    ensures opened { (first : ShelfView) → IsOpened D.disk D.may_leave D.left_since (outside R.meaning first (C.told clock.now) book.old.limit)
+    ensures opened { (first : ShelfView) → IsOpened D.disk (outside R.meaning first (C.told clock.now) book.old.limit)
         (place_with (rounds_of R.meaning book.old.state true) book.old left) [] book.old book.new result }
     ensures early { IfErr result IsEarlyEnd }
     ensures whole { OnOk result (book.new.broken ≡ false) }
@@ -166,7 +166,7 @@ fn open_each<D: Disk, R: Rules, C: Clock>(
     requires whole { book.old.broken ≡ false }
     requires finished { HaveFinished R.meaning book.old.state names.now }
     requires distinct { IsDistinct bytes_eq names.now }
-    ensures opened { (first : ShelfView) (limit : ℕ) → limit ≡ book.old.limit → IsOpened D.disk D.may_leave D.left_since (outside R.meaning first (C.told clock.now) limit)
+    ensures opened { (first : ShelfView) (limit : ℕ) → limit ≡ book.old.limit → IsOpened D.disk (outside R.meaning first (C.told clock.now) limit)
         (place_with (map round_of names.now) book.old left) [] book.old book.new result }
     ensures early { IfErr result IsEarlyEnd }
     ensures whole { OnOk result (book.new.broken ≡ false) }
@@ -196,7 +196,7 @@ fn open_by<D: Disk, R: Rules, C: Clock>(
     requires whole { book.old.broken ≡ false }
     requires plain { IsPlain what }
     requires fits { first_failing (parts R.meaning book.old.state what) ≡ None }
-    ensures opened { (first : ShelfView) (later : List Kind) → IsOpened D.disk D.may_leave D.left_since (outside R.meaning first (C.told clock.now) book.old.limit)
+    ensures opened { (first : ShelfView) (later : List Kind) → IsOpened D.disk (outside R.meaning first (C.told clock.now) book.old.limit)
         (place_with (what ∷ later) book.old left) later book.old book.new result }
     ensures step { OnOk result ((step : Step) × (step.what ≡ what) × (book.new.state ≡ after R.meaning book.old.state step)) }
     ensures limit { book.new.limit ≡ book.old.limit }

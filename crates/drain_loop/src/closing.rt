@@ -12,7 +12,7 @@ use step_code::Rules;
 pub(crate) fn close<D: Disk, R: Rules>(book: &mut Book<D, R>, end: TurnsEnd) -> TurnsEnd
     requires broken { (end ≡ TurnsEnd.Disk) ↔ (book.old.broken ≡ true) }
     ensures same { result ≢ TurnsEnd.Disk → result ≡ end }
-    ensures goes_on { GoesOn D.disk D.may_leave D.left_since R.meaning book.old book.new [] }
+    ensures goes_on { GoesOn D.disk R.meaning book.old book.new [] }
     ensures durable { result ≢ TurnsEnd.Disk → book.new.kept ≡ length book.new.steps }
     ensures broken { (result ≡ TurnsEnd.Disk) ↔ (book.new.broken ≡ true) }
     ensures disk { result ≡ TurnsEnd.Disk → (end ≡ TurnsEnd.Disk) ⊎ Rose (D.disk book.old.disk).faults (D.disk book.new.disk).faults }

@@ -39,7 +39,7 @@ pub fn drain_book<D: Disk, R: Rules, H: Shelf, C: Clock>(
     requires whole { book.old.broken ≡ false }
 
     // The steps that were made, one by one as they were due, and why there are no more.
-    ensures drained { IsDrained D.disk D.may_leave D.left_since (outside R.meaning (H.shelf shelf.old) (C.told clock.now) book.old.limit) left book.old book.new result }
+    ensures drained { IsDrained D.disk (outside R.meaning (H.shelf shelf.old) (C.told clock.now) book.old.limit) left book.old book.new result }
 
     // All of them are durable, unless the disk failed.
     ensures durable { result ≢ TurnsEnd.Disk → book.new.kept ≡ length book.new.steps }
@@ -72,7 +72,7 @@ fn drain_feeds<D: Disk, R: Rules, H: Shelf, C: Clock>(
     requires whole { book.old.broken ≡ false }
     requires closed { AllByRecursion IsClosed feeds.old }
     requires of { OnOk made (AreOf (collectors R.meaning book.old.state) feeds.old) }
-    ensures drained { IsDrained D.disk D.may_leave D.left_since (outside R.meaning (H.shelf shelf.old) (C.told clock.now) book.old.limit) left book.old book.new result }
+    ensures drained { IsDrained D.disk (outside R.meaning (H.shelf shelf.old) (C.told clock.now) book.old.limit) left book.old book.new result }
     ensures end { IsFailedByOne feeds.new result }
     ensures looked { AreLookedAt feeds.old feeds.new (H.shelf shelf.old) (H.shelf shelf.new) }
     ensures broken { (result ≡ TurnsEnd.Disk) ↔ (book.new.broken ≡ true) }
@@ -99,7 +99,7 @@ fn turns<D: Disk, R: Rules, H: Shelf, C: Clock>(
     requires ready { AllByRecursion (IsReady (H.shelf shelf.old)) feeds.old }
     requires of { AreOf (collectors R.meaning book.old.state) feeds.old }
     ensures drained { (first : ShelfView) → first.told ≡ (H.shelf shelf.old).told
-        → IsDrained D.disk D.may_leave D.left_since (outside R.meaning first (C.told clock.now) book.old.limit) left book.old book.new result }
+        → IsDrained D.disk (outside R.meaning first (C.told clock.now) book.old.limit) left book.old book.new result }
     ensures end { IsFailedByOne feeds.new result }
     ensures looked { AreLookedAt feeds.old feeds.new (H.shelf shelf.old) (H.shelf shelf.new) }
     ensures broken { (result ≡ TurnsEnd.Disk) ↔ (book.new.broken ≡ true) }
@@ -132,10 +132,10 @@ fn turn<D: Disk, R: Rules, H: Shelf, C: Clock>(
     requires of { AreOf (collectors R.meaning book.old.state) feeds.old }
     requires works { AreReady R.task_of book.old.state.bundle works.old.items }
     ensures made { (first : ShelfView) → first.told ≡ (H.shelf shelf.old).told
-        → OnOk result (OneStep D.disk D.may_leave D.left_since (outside R.meaning first (C.told clock.now) book.old.limit) left book.old book.new) }
+        → OnOk result (OneStep D.disk (outside R.meaning first (C.told clock.now) book.old.limit) left book.old book.new) }
     ensures ends { (first : ShelfView) → first.told ≡ (H.shelf shelf.old).told
         → IfErr result (Ends (outside R.meaning first (C.told clock.now) book.old.limit) (place_of book.old left)) }
-    ensures still { OnErr result (GoesOn D.disk D.may_leave D.left_since R.meaning book.old book.new []) }
+    ensures still { OnErr result (GoesOn D.disk R.meaning book.old book.new []) }
     ensures end { IfErr result (IsFailedByOne feeds.new) }
     ensures looked { AreLookedAt feeds.old feeds.new (H.shelf shelf.old) (H.shelf shelf.new) }
     ensures works { AreReady R.task_of book.old.state.bundle works.new.items }

@@ -4,7 +4,6 @@ use Rattle.std.proofs.Common.{◌≡◌, ◌≤◌, ◌<◌, ◌+◌, ◌&&◌, 
 use Rattle.std.proofs.lemmas.List.{reverse-append}
 use Rattle.std.proofs.lemmas.Bool.{le-leb, lt-ltb}
 use Rattle.std.proofs.lemmas.Bool.Decides.{Decides-eqb}
-use Rattle.edge_traits.specs.Disk.{Adds}
 use Rattle.edge_traits.specs.declared.source.Failed.{Failed}
 use Rattle.edge_memory.specs.declared.change.Change.{Change}
 use Rattle.edge_memory.specs.declared.change.Change.TheVariants as did
@@ -25,7 +24,7 @@ synced false file earlier c is = is
 synced_by : (done : Change) → done ≡ did.Sync → (here : Bool) (file : ℕ) (earlier : List Entry) (c : List ℕ) → MatchBool here (left_by done (content file earlier) (left file earlier) c) (left file earlier c) → left file earlier c
 synced_by done is here file earlier c now = synced here file earlier c (subst (λ (d : Change). MatchBool here (left_by d (content file earlier) (left file earlier) c) (left file earlier c)) is now)
 
-pub sync_adds : (r : Result (Unit {0}) Failed) (file number : ℕ) (old new : List Entry) → OnOk r ((done : Change) × (Some did.Sync ≡ Some done) × (new ≡ old ++ record { number = number; file = file; change = done } ∷ [])) → OnErr r ((new ≡ old) ⊎ ((done : Change) × (None ≡ Some done) × (new ≡ old ++ record { number = number; file = file; change = done } ∷ []))) → Adds (λ (es : List Entry) other c. left other (reverse es) c) old new (λ _. ⊤)
+pub sync_adds : (r : Result (Unit {0}) Failed) (file number : ℕ) (old new : List Entry) → OnOk r ((done : Change) × (Some did.Sync ≡ Some done) × (new ≡ old ++ record { number = number; file = file; change = done } ∷ [])) → OnErr r ((new ≡ old) ⊎ ((done : Change) × (None ≡ Some done) × (new ≡ old ++ record { number = number; file = file; change = done } ∷ []))) → (other : ℕ) → ⊤ → (c : List ℕ) → left other (reverse new) c → left other (reverse old) c
 sync_adds (Ok u) file number old new (done, is, noted) err = λ other _ c now.
     synced_by done (cc) (file == other) other (reverse old) c (after other old new (record { number = number; file = file; change = done }) c noted now)
 sync_adds (Err e) file number old new ok (inl none) = λ other _ c now. subst (λ (es : List Entry). left other (reverse es) c) none now

@@ -8,14 +8,14 @@ use Rattle.edge_traits.specs.Disk.{Elapses}
 use Rattle.edge_memory.specs.declared.change.Change.{Change}
 use Rattle.edge_memory.specs.declared.change.Entry.{Entry}
 use Rattle.edge_memory.specs.declared.disk.MemDisk.{MemDisk}
-use Rattle.edge_memory.specs.Disk.{disk_view, may_leave, left_since, KeepsPast}
+use Rattle.edge_memory.specs.Disk.{disk_view, KeepsPast}
 use Rattle.edge_memory.specs.Crashed.{durable, is_pending}
 use Rattle.edge_memory.specs.Entries.{content, left, made}
 use Rattle.edge_memory.specs.Moments.{numbered_to, made_all, IsStep}
 use Rattle.edge_memory.proofs.Numbers.{both, numbered_up}
 
 -- a crash in the time of a step leaves what one before it might have left, or what one may leave now
-pub elapses : (old new : MemDisk) → IsStep old.log.entries.items old.log.calls new.log.entries.items new.log.calls → Elapses disk_view may_leave left_since old new
+pub elapses : (old new : MemDisk) → IsStep old.log.entries.items old.log.calls new.log.entries.items new.log.calls → Elapses (disk_view old) (disk_view new)
 elapses old new step = record {
   later = step.later;
   nothing_else = λ t image le since. ⊎_elim (λ late. inr (λ file. subst (λ (es : List Entry). left file es (image file)) (step.last since.0 late since.2) (since.3 file))) (λ early. inl (since.0, since.1, early, λ file. subst (λ (es : List Entry). left file es (image file)) (step.same since.0 early) (since.3 file))) (cases_lt old.log.calls since.0);

@@ -15,10 +15,6 @@ use Rattle.edge_memory.specs.FailPlan as plans
 abbrev pub files_of : MemDisk → Image
 files_of d = λ file. entries.content file (reverse d.log.entries.items)
 
--- the same; its faults; and its calls, each of which is a moment
-abbrev pub disk_view : MemDisk → DiskView
-disk_view d = record { told = Some (files_of d); faults = d.faults; moment = d.log.calls }
-
 -- what a crash now may leave in a file
 abbrev pub may_leave : MemDisk → ℕ → List ℕ → Type 0
 may_leave d file c = entries.left file (reverse d.log.entries.items) c
@@ -26,6 +22,10 @@ may_leave d file c = entries.left file (reverse d.log.entries.items) c
 -- what a crash since a moment might have left
 abbrev pub left_since : MemDisk → ℕ → Image → Type 0
 left_since d t image = moments.left_since d.log.entries.items d.log.calls t image
+
+-- all of this; its faults; and its calls, each of which is a moment
+abbrev pub disk_view : MemDisk → DiskView
+disk_view d = record { told = Some (files_of d); faults = d.faults; moment = d.log.calls; may_leave = may_leave d; left_since = left_since d }
 
 -- what a read of each file gave after so many calls
 abbrev pub files_after : MemDisk → ℕ → Image

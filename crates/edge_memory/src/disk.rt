@@ -49,7 +49,7 @@ impl MemDisk {
         ensures moment { (⟦<MemDisk as Disk>⟧.disk result).moment ≡ 0 }
         ensures faults { (⟦<MemDisk as Disk>⟧.disk result).faults ≡ 0 }
         ensures empty { (⟦<MemDisk as Disk>⟧.disk result).told ≡ Some (λ _. []) }
-        ensures nothing_pending { (file : ℕ) → Only [] (⟦<MemDisk as Disk>⟧.may_leave result file) }
+        ensures nothing_pending { (file : ℕ) → Only [] ((⟦<MemDisk as Disk>⟧.disk result).may_leave file) }
         ensures plan { plan_of result ≡ record { fail = []; stop = None } }
         ensures starved { is_starved result ≡ false }
         ensures unnoted { is_unnoted result ≡ false }
@@ -78,11 +78,13 @@ impl MemDisk {
     /// them.
     pub fn plan(&mut self, fail: NumberList, stop: Option<u64>)
         ensures plan { plan_of self.new ≡ record { fail = fail; stop = stop } }
-        ensures disk { ⟦<MemDisk as Disk>⟧.disk self.new ≡ ⟦<MemDisk as Disk>⟧.disk self.old }
-        ensures may_leave { (file : ℕ) (c : List ℕ) → ⟦<MemDisk as Disk>⟧.may_leave self.new file c
-            ↔ ⟦<MemDisk as Disk>⟧.may_leave self.old file c }
-        ensures left_since { (t : ℕ) (image : Image) → ⟦<MemDisk as Disk>⟧.left_since self.new t image
-            ↔ ⟦<MemDisk as Disk>⟧.left_since self.old t image }
+        ensures told { (⟦<MemDisk as Disk>⟧.disk self.new).told ≡ (⟦<MemDisk as Disk>⟧.disk self.old).told }
+        ensures faults { (⟦<MemDisk as Disk>⟧.disk self.new).faults ≡ (⟦<MemDisk as Disk>⟧.disk self.old).faults }
+        ensures moment { (⟦<MemDisk as Disk>⟧.disk self.new).moment ≡ (⟦<MemDisk as Disk>⟧.disk self.old).moment }
+        ensures may_leave { (file : ℕ) (c : List ℕ) → (⟦<MemDisk as Disk>⟧.disk self.new).may_leave file c
+            ↔ (⟦<MemDisk as Disk>⟧.disk self.old).may_leave file c }
+        ensures left_since { (t : ℕ) (image : Image) → (⟦<MemDisk as Disk>⟧.disk self.new).left_since t image
+            ↔ (⟦<MemDisk as Disk>⟧.disk self.old).left_since t image }
         ensures past { KeepsPast self.old self.new }
         ensures starved { is_starved self.new ≡ is_starved self.old }
         ensures unnoted { is_unnoted self.new ≡ is_unnoted self.old }
@@ -248,26 +250,22 @@ impl MemDisk {
 }
 
 impl Disk for MemDisk {
-    ghost use Rattle.edge_memory.specs.Disk.{disk_view, may_leave, left_since, is_pending_after, is_unnoted, fails_next, Counted, KeepsPast, honest};
+    ghost use Rattle.edge_memory.specs.Disk.{disk_view, may_leave, is_pending_after, is_unnoted, fails_next, Counted, KeepsPast, honest};
     ghost use Rattle.edge_memory.specs.Moments.{since_now, now_only, since_earlier};
 
     ghost disk = { disk_view };
-
-    ghost may_leave = { may_leave };
-
-    ghost left_since = { left_since };
 
     #[tactic(auto, using(crate::proofs::Steps::keeps_past))]
     fn len(&mut self, file: u64) -> Result<u64, Failed>
         ensures len { (files : Image) → (disk_view self.old).told ≡ Some files → IfOk result (λ n. n ≡ length (files file)) }
         ensures told { (disk_view self.new).told ≡ (disk_view self.old).told }
-        ensures crash { Adds may_leave self.old self.new (λ _. ⊤) }
-        ensures time { Elapses disk_view may_leave left_since self.old self.new }
+        ensures crash { Adds (disk_view self.old) (disk_view self.new) (λ _. ⊤) }
+        ensures time { Elapses (disk_view self.old) (disk_view self.new) }
         ensures failed { IsErr result → Rose (disk_view self.old).faults (disk_view self.new).faults }
         ensures count { (disk_view self.old).faults ≤ (disk_view self.new).faults }
         ensures counted { Counted self.old self.new (is_err result) }
         ensures past { KeepsPast self.old self.new }
-        ensures keeps { Adds may_leave self.new self.old (λ _. ⊤) }
+        ensures keeps { Adds (disk_view self.new) (disk_view self.old) (λ _. ⊤) }
 
         // A look takes no memory: it fails where it is to, and nowhere else.
         ensures as_told { is_err result ≡ fails_next self.old }
@@ -283,13 +281,13 @@ impl Disk for MemDisk {
         ensures bytes { (files : Image) → (disk_view self.old).told ≡ Some files
             → IfOk result (λ n. (n ≡ min (length buf.new) (length (files file) - at)) × (take n buf.new ≡ take n (drop at (files file)))) }
         ensures told { (disk_view self.new).told ≡ (disk_view self.old).told }
-        ensures crash { Adds may_leave self.old self.new (λ _. ⊤) }
-        ensures time { Elapses disk_view may_leave left_since self.old self.new }
+        ensures crash { Adds (disk_view self.old) (disk_view self.new) (λ _. ⊤) }
+        ensures time { Elapses (disk_view self.old) (disk_view self.new) }
         ensures failed { IsErr result → Rose (disk_view self.old).faults (disk_view self.new).faults }
         ensures count { (disk_view self.old).faults ≤ (disk_view self.new).faults }
         ensures counted { Counted self.old self.new (is_err result) }
         ensures past { KeepsPast self.old self.new }
-        ensures keeps { Adds may_leave self.new self.old (λ _. ⊤) }
+        ensures keeps { Adds (disk_view self.new) (disk_view self.old) (λ _. ⊤) }
 
         // A look takes no memory: it fails where it is to, and nowhere else.
         ensures as_told { is_err result ≡ fails_next self.old }
@@ -306,15 +304,15 @@ impl Disk for MemDisk {
             → OnOk result (after file ≡ overwritten (files file) at bytes.now) }
         ensures elsewhere { (files : Image) → (disk_view self.old).told ≡ Some files → ChangesOnly files (disk_view self.new).told file }
         ensures untold { (disk_view self.old).told ≡ None → (disk_view self.new).told ≡ None }
-        ensures crash { LeavesAfter may_leave self.old self.new file (Torn at (length bytes.now)) }
-        ensures crash_elsewhere { Adds may_leave self.old self.new (λ other. other ≢ file) }
-        ensures time { Elapses disk_view may_leave left_since self.old self.new }
+        ensures crash { LeavesAfter (disk_view self.old) (disk_view self.new) file (Torn at (length bytes.now)) }
+        ensures crash_elsewhere { Adds (disk_view self.old) (disk_view self.new) (λ other. other ≢ file) }
+        ensures time { Elapses (disk_view self.old) (disk_view self.new) }
         ensures failed { IsErr result → Rose (disk_view self.old).faults (disk_view self.new).faults }
         ensures count { (disk_view self.old).faults ≤ (disk_view self.new).faults }
         ensures refused { OnErr result ((disk_view self.new).told ≡ (disk_view self.old).told) }
         ensures counted { Counted self.old self.new (is_err result) }
         ensures past { KeepsPast self.old self.new }
-        ensures keeps_elsewhere { Adds may_leave self.new self.old (λ other. other ≢ file) }
+        ensures keeps_elsewhere { Adds (disk_view self.new) (disk_view self.old) (λ other. other ≢ file) }
 
         // Until a sync a crash may leave whatever a torn write leaves.
         ensures tears { OnOk result ((d c : List ℕ) → may_leave self.old file d → Torn at (length bytes.now) d c
@@ -346,15 +344,15 @@ impl Disk for MemDisk {
             → OnOk result (after file ≡ take len (files file)) }
         ensures elsewhere { (files : Image) → (disk_view self.old).told ≡ Some files → ChangesOnly files (disk_view self.new).told file }
         ensures untold { (disk_view self.old).told ≡ None → (disk_view self.new).told ≡ None }
-        ensures crash { LeavesAfter may_leave self.old self.new file (Cut len) }
-        ensures crash_elsewhere { Adds may_leave self.old self.new (λ other. other ≢ file) }
-        ensures time { Elapses disk_view may_leave left_since self.old self.new }
+        ensures crash { LeavesAfter (disk_view self.old) (disk_view self.new) file (Cut len) }
+        ensures crash_elsewhere { Adds (disk_view self.old) (disk_view self.new) (λ other. other ≢ file) }
+        ensures time { Elapses (disk_view self.old) (disk_view self.new) }
         ensures failed { IsErr result → Rose (disk_view self.old).faults (disk_view self.new).faults }
         ensures count { (disk_view self.old).faults ≤ (disk_view self.new).faults }
         ensures refused { OnErr result ((disk_view self.new).told ≡ (disk_view self.old).told) }
         ensures counted { Counted self.old self.new (is_err result) }
         ensures past { KeepsPast self.old self.new }
-        ensures keeps_elsewhere { Adds may_leave self.new self.old (λ other. other ≢ file) }
+        ensures keeps_elsewhere { Adds (disk_view self.new) (disk_view self.old) (λ other. other ≢ file) }
 
         // Until a sync a crash may undo it, or a part of it.
         ensures undone { OnOk result ((d c : List ℕ) → may_leave self.old file d → Cut len d c
@@ -376,14 +374,14 @@ impl Disk for MemDisk {
         ensures durable { (files : Image) → (disk_view self.old).told ≡ Some files
             → OnOk result (Only (files file) (may_leave self.new file)) }
         ensures told { (disk_view self.new).told ≡ (disk_view self.old).told }
-        ensures crash { Adds may_leave self.old self.new (λ _. ⊤) }
-        ensures time { Elapses disk_view may_leave left_since self.old self.new }
+        ensures crash { Adds (disk_view self.old) (disk_view self.new) (λ _. ⊤) }
+        ensures time { Elapses (disk_view self.old) (disk_view self.new) }
         ensures failed { IsErr result → Rose (disk_view self.old).faults (disk_view self.new).faults }
         ensures count { (disk_view self.old).faults ≤ (disk_view self.new).faults }
         ensures counted { Counted self.old self.new (is_err result) }
         ensures past { KeepsPast self.old self.new }
-        ensures keeps_elsewhere { Adds may_leave self.new self.old (λ other. other ≢ file) }
-        ensures keeps { OnErr result (Adds may_leave self.new self.old (λ _. ⊤)) }
+        ensures keeps_elsewhere { Adds (disk_view self.new) (disk_view self.old) (λ other. other ≢ file) }
+        ensures keeps { OnErr result (Adds (disk_view self.new) (disk_view self.old) (λ _. ⊤)) }
         ensures unnoted { is_unnoted self.new ≡ is_unnoted self.old }
     {
         self.change(file, Some(Change::Sync), None)

@@ -12,11 +12,14 @@ Image = ℕ → List ℕ
 abbrev pub longest_file : ℕ
 longest_file = 2 ^ 63
 
--- what a read gives, if it is told; the count of faults; and the moment, a number that doesn't fall
-pub record DiskView : Type 0 where
+-- what a read gives, if it is told; the count of faults; the moment, a number that doesn't fall; what a crash at this moment may
+-- leave in a file; and what one at some moment from an earlier one on might have left
+pub record DiskView : Type 1 where
   pub told : Option Image
   pub faults : ℕ
   pub moment : ℕ
+  pub may_leave : ℕ → List ℕ → Type 0
+  pub left_since : ℕ → Image → Type 0
 
 -- the bytes stand at this offset, and the others as before
 abbrev pub overwritten : List ℕ → ℕ → List ℕ → List ℕ
@@ -43,12 +46,12 @@ abbrev pub MayFollow : (List ℕ → List ℕ → Type 0) → (List ℕ → Type
 MayFollow step before c = (d : List ℕ) × before d × step d c
 
 -- whatever a crash may leave in the file now, it might have left there before, after a step
-abbrev pub LeavesAfter : {D : Type 0} → (D → ℕ → List ℕ → Type 0) → D → D → ℕ → (List ℕ → List ℕ → Type 0) → Type 0
-LeavesAfter may_leave old new file step = (c : List ℕ) → may_leave new file c → MayFollow step (may_leave old file) c
+abbrev pub LeavesAfter : DiskView → DiskView → ℕ → (List ℕ → List ℕ → Type 0) → Type 0
+LeavesAfter old new file step = (c : List ℕ) → new.may_leave file c → MayFollow step (old.may_leave file) c
 
 -- whatever a crash may leave now in a file that passes, it might have left there before
-abbrev pub Adds : {D : Type 0} → (D → ℕ → List ℕ → Type 0) → D → D → (ℕ → Type 0) → Type 0
-Adds may_leave old new passes = (file : ℕ) → passes file → (c : List ℕ) → may_leave new file c → may_leave old file c
+abbrev pub Adds : DiskView → DiskView → (ℕ → Type 0) → Type 0
+Adds old new passes = (file : ℕ) → passes file → (c : List ℕ) → new.may_leave file c → old.may_leave file c
 
 -- a crash leaves this content and no other
 abbrev pub Only : List ℕ → (List ℕ → Type 0) → Type 0
@@ -59,18 +62,18 @@ abbrev pub IsImage : (ℕ → List ℕ → Type 0) → Image → Type 0
 IsImage may_leave image = (file : ℕ) → may_leave file (image file)
 
 -- in each other file a crash leaves what it might have left there before
-abbrev pub LeavesOthers : {D : Type 0} → (D → ℕ → List ℕ → Type 0) → D → ℕ → Image → Type 0
-LeavesOthers may_leave old file image = (other : ℕ) → other ≢ file → may_leave old other (image other)
+abbrev pub LeavesOthers : DiskView → ℕ → Image → Type 0
+LeavesOthers old file image = (other : ℕ) → other ≢ file → old.may_leave other (image other)
 
 -- time goes on: a crash since t might have left what it might have left before, or what it may leave now
-pub record Elapses {D : Type 0} (disk : D → DiskView) (may_leave : D → ℕ → List ℕ → Type 0) (left_since : D → ℕ → Image → Type 0) (old new : D) : Type 0 where
-  pub later : (disk old).moment ≤ (disk new).moment
-  pub nothing_else : (t : ℕ) (image : Image) → t ≤ (disk old).moment → left_since new t image → left_since old t image ⊎ IsImage (may_leave new) image
-  pub keeps : (t : ℕ) (image : Image) → t ≤ (disk old).moment → left_since old t image → left_since new t image
+pub record Elapses (old new : DiskView) : Type 0 where
+  pub later : old.moment ≤ new.moment
+  pub nothing_else : (t : ℕ) (image : Image) → t ≤ old.moment → new.left_since t image → old.left_since t image ⊎ IsImage new.may_leave image
+  pub keeps : (t : ℕ) (image : Image) → t ≤ old.moment → old.left_since t image → new.left_since t image
 
 -- a crash at any moment from one on leaves files that pass; one since an earlier moment leaves such files, or what it
 -- might have left before
-pub record Leaves {D : Type 0} (disk : D → DiskView) (left_since : D → ℕ → Image → Type 0) (old new : D) (passes : Image → Type 0) : Type 0 where
-  pub later : (disk old).moment ≤ (disk new).moment
-  pub each : (image : Image) → left_since new (disk old).moment image → passes image
-  pub earlier : (t : ℕ) (image : Image) → t ≤ (disk old).moment → left_since new t image → left_since old t image ⊎ passes image
+pub record Leaves (old new : DiskView) (passes : Image → Type 0) : Type 0 where
+  pub later : old.moment ≤ new.moment
+  pub each : (image : Image) → new.left_since old.moment image → passes image
+  pub earlier : (t : ℕ) (image : Image) → t ≤ old.moment → new.left_since t image → old.left_since t image ⊎ passes image

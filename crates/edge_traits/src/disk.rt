@@ -1,4 +1,4 @@
-ghost use Rattle.std.specs.Prelude.{◌≡◌, ◌≢◌, ◌≤◌, ◌+◌, ◌-◌, List, ℕ, min, length, take, drop, Some, None, IfOk, OnOk, IsErr, ⊤};
+ghost use Rattle.std.specs.Prelude.{◌≡◌, ◌≢◌, ◌≤◌, ◌+◌, ◌-◌, ℕ, min, length, take, drop, Some, None, IfOk, OnOk, IsErr, ⊤};
 ghost use Rattle.edge_traits.specs.Count.{Rose};
 ghost use Rattle.edge_traits.specs.Disk.{DiskView, Image, longest_file, overwritten, ChangesOnly, Torn, Cut, LeavesAfter, Adds, Only, IsImage, Elapses};
 
@@ -11,18 +11,12 @@ use crate::Failed;
 pub trait Disk {
     ghost disk: { Self → DiskView };
 
-    /// What a crash at this moment may leave in a file.
-    ghost may_leave: { Self → ℕ → List ℕ → Type 0 };
-
-    /// What a crash at some moment from that one on might have left, during a call or between two.
-    ghost left_since: { Self → ℕ → Image → Type 0 };
-
     /// The length of a file in bytes.
     fn len(&mut self, file: u64) -> Result<u64, Failed>
         ensures len { (files : Image) → (disk self.old).told ≡ Some files → IfOk result (λ n. n ≡ length (files file)) }
         ensures told { (disk self.new).told ≡ (disk self.old).told }
-        ensures crash { Adds may_leave self.old self.new (λ _. ⊤) }
-        ensures time { Elapses disk may_leave left_since self.old self.new }
+        ensures crash { Adds (disk self.old) (disk self.new) (λ _. ⊤) }
+        ensures time { Elapses (disk self.old) (disk self.new) }
         ensures failed { IsErr result → Rose (disk self.old).faults (disk self.new).faults }
         ensures count { (disk self.old).faults ≤ (disk self.new).faults };
 
@@ -32,8 +26,8 @@ pub trait Disk {
         ensures bytes { (files : Image) → (disk self.old).told ≡ Some files
             → IfOk result (λ n. (n ≡ min (length buf.new) (length (files file) - at)) × (take n buf.new ≡ take n (drop at (files file)))) }
         ensures told { (disk self.new).told ≡ (disk self.old).told }
-        ensures crash { Adds may_leave self.old self.new (λ _. ⊤) }
-        ensures time { Elapses disk may_leave left_since self.old self.new }
+        ensures crash { Adds (disk self.old) (disk self.new) (λ _. ⊤) }
+        ensures time { Elapses (disk self.old) (disk self.new) }
         ensures failed { IsErr result → Rose (disk self.old).faults (disk self.new).faults }
         ensures count { (disk self.old).faults ≤ (disk self.new).faults };
 
@@ -45,9 +39,9 @@ pub trait Disk {
             → OnOk result (after file ≡ overwritten (files file) at bytes.now) }
         ensures elsewhere { (files : Image) → (disk self.old).told ≡ Some files → ChangesOnly files (disk self.new).told file }
         ensures untold { (disk self.old).told ≡ None → (disk self.new).told ≡ None }
-        ensures crash { LeavesAfter may_leave self.old self.new file (Torn at (length bytes.now)) }
-        ensures crash_elsewhere { Adds may_leave self.old self.new (λ other. other ≢ file) }
-        ensures time { Elapses disk may_leave left_since self.old self.new }
+        ensures crash { LeavesAfter (disk self.old) (disk self.new) file (Torn at (length bytes.now)) }
+        ensures crash_elsewhere { Adds (disk self.old) (disk self.new) (λ other. other ≢ file) }
+        ensures time { Elapses (disk self.old) (disk self.new) }
         ensures failed { IsErr result → Rose (disk self.old).faults (disk self.new).faults }
         ensures count { (disk self.old).faults ≤ (disk self.new).faults };
 
@@ -58,31 +52,31 @@ pub trait Disk {
             → OnOk result (after file ≡ take len (files file)) }
         ensures elsewhere { (files : Image) → (disk self.old).told ≡ Some files → ChangesOnly files (disk self.new).told file }
         ensures untold { (disk self.old).told ≡ None → (disk self.new).told ≡ None }
-        ensures crash { LeavesAfter may_leave self.old self.new file (Cut len) }
-        ensures crash_elsewhere { Adds may_leave self.old self.new (λ other. other ≢ file) }
-        ensures time { Elapses disk may_leave left_since self.old self.new }
+        ensures crash { LeavesAfter (disk self.old) (disk self.new) file (Cut len) }
+        ensures crash_elsewhere { Adds (disk self.old) (disk self.new) (λ other. other ≢ file) }
+        ensures time { Elapses (disk self.old) (disk self.new) }
         ensures failed { IsErr result → Rose (disk self.old).faults (disk self.new).faults }
         ensures count { (disk self.old).faults ≤ (disk self.new).faults };
 
     /// Makes a file durable: from then on a crash leaves in it what a read gives.
     fn sync(&mut self, file: u64) -> Result<(), Failed>
         ensures durable { (files : Image) → (disk self.old).told ≡ Some files
-            → OnOk result (Only (files file) (may_leave self.new file)) }
+            → OnOk result (Only (files file) ((disk self.new).may_leave file)) }
         ensures told { (disk self.new).told ≡ (disk self.old).told }
-        ensures crash { Adds may_leave self.old self.new (λ _. ⊤) }
-        ensures time { Elapses disk may_leave left_since self.old self.new }
+        ensures crash { Adds (disk self.old) (disk self.new) (λ _. ⊤) }
+        ensures time { Elapses (disk self.old) (disk self.new) }
         ensures failed { IsErr result → Rose (disk self.old).faults (disk self.new).faults }
         ensures count { (disk self.old).faults ≤ (disk self.new).faults };
 
     /// The disk as it reads is one of its images.
-    ghost honest: { (d : Self) (files : Image) → (disk d).told ≡ Some files → IsImage (may_leave d) files };
+    ghost honest: { (d : Self) (files : Image) → (disk d).told ≡ Some files → IsImage (disk d).may_leave files };
 
     /// This moment is one of those since an earlier one.
-    ghost counts_now: { (d : Self) (t : ℕ) (image : Image) → t ≤ (disk d).moment → IsImage (may_leave d) image → left_since d t image };
+    ghost counts_now: { (d : Self) (t : ℕ) (image : Image) → t ≤ (disk d).moment → IsImage (disk d).may_leave image → (disk d).left_since t image };
 
     /// Since this moment there is no other.
-    ghost only_now: { (d : Self) (image : Image) → left_since d (disk d).moment image → IsImage (may_leave d) image };
+    ghost only_now: { (d : Self) (image : Image) → (disk d).left_since (disk d).moment image → IsImage (disk d).may_leave image };
 
     /// What might have been left since a moment might have been left since an earlier one.
-    ghost earlier: { (d : Self) (s t : ℕ) (image : Image) → s ≤ t → left_since d t image → left_since d s image };
+    ghost earlier: { (d : Self) (s t : ℕ) (image : Image) → s ≤ t → (disk d).left_since t image → (disk d).left_since s image };
 }

@@ -25,11 +25,7 @@ impl NoDisk {
 }
 
 impl Disk for NoDisk {
-    ghost disk = { λ d. record { told = Some no_files; faults = d.faults; moment = 0 } };
-
-    ghost may_leave = { λ _ _ c. c ≡ [] };
-
-    ghost left_since = { λ _ _ image. (file : ℕ) → image file ≡ [] };
+    ghost disk = { λ d. record { told = Some no_files; faults = d.faults; moment = 0; may_leave = λ _ c. c ≡ []; left_since = λ _ image. (file : ℕ) → image file ≡ [] } };
 
     fn len(&mut self, _file: u64) -> Result<u64, Failed> {
         Err(self.fail())

@@ -4,5 +4,5 @@ use Rattle.edge_traits.specs.Disk.{Elapses}
 use Rattle.file_disk.specs.Untold.{untold}
 
 -- at each moment it may leave anything
-pub time_stands : {D : Type 0} (faults : D → ℕ) (old new : D) → Elapses (λ d. untold (faults d)) (λ _ _ _. Unit {0}) (λ _ _ _. Unit {0}) old new
-time_stands faults old new = record { later = omega arith; nothing_else = λ t image le left. inl left; keeps = λ t image le left. left }
+pub time_stands : (old new : ℕ) → Elapses (untold old) (untold new)
+time_stands old new = record { later = omega arith; nothing_else = λ t image le left. inl left; keeps = λ t image le left. left }

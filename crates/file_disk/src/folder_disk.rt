@@ -1,4 +1,4 @@
-ghost use Rattle.std.specs.Prelude.{◌≡◌, ◌≢◌, ◌≤◌, ◌<◌, length, List, ℕ, IfOk, IfSome, OnOk};
+ghost use Rattle.std.specs.Prelude.{◌≡◌, ◌≢◌, ◌≤◌, ◌<◌, length, List, ℕ, None, IfOk, IfSome, OnOk};
 ghost use Rattle.edge_traits.specs.Count.{Rose};
 ghost use Rattle.file_disk.specs.Untold.{untold};
 
@@ -50,9 +50,11 @@ where
 {
     /// The files of this folder, which need not be there. It takes no memory.
     pub fn new(alloc: Global, files: &'a R, folder: &'a Text) -> Self
-        ensures told { ⟦<FolderDisk<'a, R> as Disk>⟧.disk result ≡ untold 0 }
+        ensures told { (⟦<FolderDisk<'a, R> as Disk>⟧.disk result).told ≡ None }
+        ensures faults { (⟦<FolderDisk<'a, R> as Disk>⟧.disk result).faults ≡ 0 }
+        ensures moment { (⟦<FolderDisk<'a, R> as Disk>⟧.disk result).moment ≡ 0 }
         // A crash may leave anything: what is said of what it leaves is said of disks that tell more.
-        ensures anything { (file : ℕ) (content : List ℕ) → ⟦<FolderDisk<'a, R> as Disk>⟧.may_leave result file content }
+        ensures anything { (file : ℕ) (content : List ℕ) → (⟦<FolderDisk<'a, R> as Disk>⟧.disk result).may_leave file content }
     {
         FolderDisk {
             alloc,
@@ -237,12 +239,8 @@ impl<R: Files> Disk for FolderDisk<'_, R>
 where
     R::File: FileExt + TryLock,
 {
-    ghost disk = { λ d. untold d.faults };
-
     // A crash may leave anything, as far as anybody is told.
-    ghost may_leave = { λ _ _ _. Unit {0} };
-
-    ghost left_since = { λ _ _ _. Unit {0} };
+    ghost disk = { λ d. untold d.faults };
 
     fn len(&mut self, file: u64) -> Result<u64, Failed> {
         match self.try_len(file) {

@@ -69,10 +69,10 @@ first_past : (m : Meaning) (bots : List Facts) (bundle : List ℕ) (image : Imag
 first_past m bots bundle image = record { seals = record { outs = new_outs_sealed (filter writes bots); same = refl }; fronts = new_fronts 0 (filter writes bots) image }
 
 -- whatever a crash leaves of a new store stands for no steps
-pub kept_created : {D R : Type 0} (disk : D → DiskView) (may_leave : D → ℕ → List ℕ → Type 0) (m : Meaning) (bots : List Facts) (bundle : List ℕ) (base : Base) (rules : R) (limit : ℕ) (now : D) (root journal : JournalView) (files : Image)
-    → base ≡ first bots bundle → IsImage (may_leave now) files → (disk now).told ≡ Some files → AreStoreFiles root journal 0 → IsWritableBase first_format base → AreAtRest root journal (may_leave now) 0 base [] files
-    → IsKept disk may_leave m base [] (created rules base limit now)
-kept_created disk may_leave m bots bundle base rules limit now root journal files is honest told stores writable rest = record {
+pub kept_created : {D R : Type 0} (disk : D → DiskView) (m : Meaning) (bots : List Facts) (bundle : List ℕ) (base : Base) (rules : R) (limit : ℕ) (now : D) (root journal : JournalView) (files : Image)
+    → base ≡ first bots bundle → IsImage (disk now).may_leave files → (disk now).told ≡ Some files → AreStoreFiles root journal 0 → IsWritableBase first_format base → AreAtRest root journal (disk now).may_leave 0 base [] files
+    → IsKept disk m base [] (created rules base limit now)
+kept_created disk m bots bundle base rules limit now root journal files is honest told stores writable rest = record {
   files = files;
   tells = told;
   counted = omega arith;
@@ -80,7 +80,7 @@ kept_created disk may_leave m bots bundle base rules limit now root journal file
   within = omega arith;
   each = λ image left.
       let past : IsPast m base [] base image = subst (λ (b : Base). IsPast m b [] b image) (sym is) (first_past m bots bundle image) in
-      record { count = 0; within = omega arith; stands = stands_by m base [] [] base 0 image image past (λ k. refl) (stored_now (may_leave now) root journal 0 base [] files honest stores writable rest image left) };
+      record { count = 0; within = omega arith; stands = stands_by m base [] [] base 0 image image past (λ k. refl) (stored_now (disk now).may_leave root journal 0 base [] files honest stores writable rest image left) };
 }
 
 pub is_nothing : (file : List ℕ) (have : ℕ) → have ≡ length file → have ≡ 0 → file ≡ []
@@ -109,11 +109,11 @@ pending_created steps pending limit journal none bound long = record {
   long = omega (arith, long);
 }
 
-pub rest_created : {D : Type 0} (disk : D → DiskView) (may_leave : D → ℕ → List ℕ → Type 0) (old now : D) (root journal : JournalView) (base : Base) (after : Image) (told : Option Image) → (disk old).told ≡ told → (disk now).told ≡ Some after
-    → ((disk old).told ≡ None → (disk now).told ≡ None)
-    → ((files after : Image) → (disk old).told ≡ Some files → (disk now).told ≡ Some after → AreAtRest root journal (may_leave now) 0 base [] after) → AreAtRest root journal (may_leave now) 0 base [] after
-rest_created disk may_leave old now root journal base after None was told untold rests = absurd (none-some after (sym (untold was) ∙ told))
-rest_created disk may_leave old now root journal base after (Some files) was told untold rests = rests files after was told
+pub rest_created : (old now : DiskView) (root journal : JournalView) (base : Base) (after : Image) (told : Option Image) → old.told ≡ told → now.told ≡ Some after
+    → (old.told ≡ None → now.told ≡ None)
+    → ((files after : Image) → old.told ≡ Some files → now.told ≡ Some after → AreAtRest root journal now.may_leave 0 base [] after) → AreAtRest root journal now.may_leave 0 base [] after
+rest_created old now root journal base after None was told untold rests = absurd (none-some after (sym (untold was) ∙ told))
+rest_created old now root journal base after (Some files) was told untold rests = rests files after was told
 
 pub view_created : {D R : Type 0} (rules other : R) (base state : Base) (steps : List Step) (limit : ℕ) (now : D) → other ≡ rules → state ≡ base → steps ≡ []
     → (let book : BookView D R = record { disk = now; rules = other; generation = 0; base = base; steps = steps; kept = 0; state = state; limit = limit; broken = false } in book ≡ created rules base limit now)

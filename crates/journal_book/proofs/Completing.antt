@@ -75,7 +75,7 @@ completed_one may_leave file at sealed lines out before after same same_sealed s
     })
 
 -- one output more
-module _ {D : Type 0} (disk : D → DiskView) (may_leave : D → ℕ → List ℕ → Type 0) (left_since : D → ℕ → Image → Type 0) (old mid new : D) (outs : List Output) (k : ℕ) (out : Output) (is : slice_get outs k ≡ Some out) (honest : (files : Image) → (disk new).told ≡ Some files → IsImage (may_leave new) files) (counts : (image : Image) → (disk mid).moment ≤ (disk new).moment → IsImage (may_leave new) image → left_since new (disk mid).moment image) (so_far : RunsOut disk may_leave left_since old mid outs (IsNoneOf k)) (one : RunsIn disk may_leave left_since mid new (out_file k) out.sealed_bytes) where
+module _ (old mid new : DiskView) (outs : List Output) (k : ℕ) (out : Output) (is : slice_get outs k ≡ Some out) (honest : (files : Image) → new.told ≡ Some files → IsImage new.may_leave files) (counts : (image : Image) → mid.moment ≤ new.moment → IsImage new.may_leave image → new.left_since mid.moment image) (so_far : RunsOut old mid outs (IsNoneOf k)) (one : RunsIn mid new (out_file k) out.sealed_bytes) where
   apart_here : (other : ℕ) → IsNoneOf (k + 1) other → other ≢ out_file k
   apart_here other rests = rests k (omega arith)
 
@@ -85,34 +85,34 @@ module _ {D : Type 0} (disk : D → DiskView) (may_leave : D → ℕ → List �
   front_is : (fronts : ℕ → List ℕ) → AreFronts outs fronts → length (fronts k) ≡ out.sealed_bytes
   front_is fronts are = are k ∙ sealed_here outs k out is
 
-  begins_there : (fronts : ℕ → List ℕ) → AreFronts outs fronts → Begin (may_leave mid) fronts → (c : List ℕ) → may_leave mid (out_file k) c → take out.sealed_bytes c ≡ fronts k
+  begins_there : (fronts : ℕ → List ℕ) → AreFronts outs fronts → Begin mid.may_leave fronts → (c : List ℕ) → mid.may_leave (out_file k) c → take out.sealed_bytes c ≡ fronts k
   begins_there fronts are begin c left = ap (λ n. take n c) (sym (front_is fronts are)) ∙ begin k c left
 
   -- at each moment the outputs' files keep their fronts
-  moments : (fronts : ℕ → List ℕ) → AreFronts outs fronts → Begin (may_leave mid) fronts → Leaves disk left_since mid new (KeepsFront may_leave mid (out_file k) (fronts k))
+  moments : (fronts : ℕ → List ℕ) → AreFronts outs fronts → Begin mid.may_leave fronts → Leaves mid new (KeepsFront mid (out_file k) (fronts k))
   moments fronts are begin = one.any_moment (fronts k) (front_is fronts are) (begins_there fronts are begin)
 
   other_out : (j : ℕ) → (j == k) ≡ false → out_file j ≢ out_file k
   other_out j apart same = eqb-false j k apart (omega (arith, same))
 
-  begins_here : (after : Image) (fronts : ℕ → List ℕ) → (disk new).told ≡ Some after → AreFronts outs fronts → Begin (may_leave mid) fronts → (c : List ℕ) → may_leave new (out_file k) c → take (length (fronts k)) c ≡ fronts k
+  begins_here : (after : Image) (fronts : ℕ → List ℕ) → new.told ≡ Some after → AreFronts outs fronts → Begin mid.may_leave fronts → (c : List ℕ) → new.may_leave (out_file k) c → take (length (fronts k)) c ≡ fronts k
   begins_here after fronts told are begin c left =
       let run = moments fronts are begin in
       let image = put_file (out_file k) c after in
-      let kept = run.each image (counts image run.later (put_left (may_leave new) (out_file k) c after left (λ other apart. honest after told other))) in
+      let kept = run.each image (counts image run.later (put_left new.may_leave (out_file k) c after left (λ other apart. honest after told other))) in
       ap (take (length (fronts k))) (sym (put_there (out_file k) c after)) ∙ kept.front_stays
 
-  begins_now : (after : Image) (fronts : ℕ → List ℕ) → (disk new).told ≡ Some after → AreFronts outs fronts → Begin (may_leave mid) fronts → (j : ℕ) (c : List ℕ) → may_leave new (out_file j) c → (same : Bool) → (j == k) ≡ same → take (length (fronts j)) c ≡ fronts j
+  begins_now : (after : Image) (fronts : ℕ → List ℕ) → new.told ≡ Some after → AreFronts outs fronts → Begin mid.may_leave fronts → (j : ℕ) (c : List ℕ) → new.may_leave (out_file j) c → (same : Bool) → (j == k) ≡ same → take (length (fronts j)) c ≡ fronts j
   begins_now after fronts told are begin j c left true same =
       let is_k = eqb-true j k same in
-      subst (λ (n : ℕ). take (length (fronts n)) c ≡ fronts n) (sym is_k) (begins_here after fronts told are begin c (subst (λ (n : ℕ). may_leave new (out_file n) c) is_k left))
+      subst (λ (n : ℕ). take (length (fronts n)) c ≡ fronts n) (sym is_k) (begins_here after fronts told are begin c (subst (λ (n : ℕ). new.may_leave (out_file n) c) is_k left))
   begins_now after fronts told are begin j c left false same = begin j c (one.crash_elsewhere (out_file j) (other_out j same) c left)
 
-  begins_in : (fronts : ℕ → List ℕ) → Begin (may_leave mid) fronts → (image : Image) → KeepsFront may_leave mid (out_file k) (fronts k) image → (j : ℕ) (same : Bool) → (j == k) ≡ same → take (length (fronts j)) (image (out_file j)) ≡ fronts j
+  begins_in : (fronts : ℕ → List ℕ) → Begin mid.may_leave fronts → (image : Image) → KeepsFront mid (out_file k) (fronts k) image → (j : ℕ) (same : Bool) → (j == k) ≡ same → take (length (fronts j)) (image (out_file j)) ≡ fronts j
   begins_in fronts begin image kept j true same = subst (λ (n : ℕ). take (length (fronts n)) (image (out_file n)) ≡ fronts n) (sym (eqb-true j k same)) kept.front_stays
   begins_in fronts begin image kept j false same = begin j (image (out_file j)) (kept.others (out_file j) (other_out j same))
 
-  pub one_output : RunsOut disk may_leave left_since old new outs (IsNoneOf (k + 1))
+  pub one_output : RunsOut old new outs (IsNoneOf (k + 1))
   one_output = record {
     elsewhere = λ files told.
         let before = so_far.elsewhere files told in
@@ -137,12 +137,12 @@ module _ {D : Type 0} (disk : D → DiskView) (may_leave : D → ℕ → List �
   }
 
   -- an output that was completed before stays
-  pub still_completed : (files before after : Image) → (disk mid).told ≡ Some before → (disk new).told ≡ Some after → (j : ℕ) (done : Output) → j < k → IsCompleted (may_leave mid) (out_file j) done files before
-      → IsCompleted (may_leave new) (out_file j) done files after
+  pub still_completed : (files before after : Image) → mid.told ≡ Some before → new.told ≡ Some after → (j : ℕ) (done : Output) → j < k → IsCompleted mid.may_leave (out_file j) done files before
+      → IsCompleted new.may_leave (out_file j) done files after
   still_completed files before after told now j done below was =
       let apart : out_file j ≢ out_file k = λ same. absurd (omega (arith, below, same)) in
       let changes = one.elsewhere before told in
-      let after_is : after ≡ changes.0 = told_is_one (disk new).told after changes.0 now changes.1 in
+      let after_is : after ≡ changes.0 = told_is_one new.told after changes.0 now changes.1 in
       let same : after (out_file j) ≡ before (out_file j) = ap (λ (i : Image). i (out_file j)) after_is ∙ changes.2 (out_file j) apart in
       record {
         long = was.long;
@@ -151,24 +151,23 @@ module _ {D : Type 0} (disk : D → DiskView) (may_leave : D → ℕ → List �
       }
 
   -- and one output more is completed
-  pub done_more : (files after : Image) → (disk old).told ≡ Some files → (disk new).told ≡ Some after
-      → ((done : Output) (before : Image) → slice_get outs k ≡ Some done → (disk mid).told ≡ Some before → IsCompleted (may_leave new) (out_file k) done before after)
-      → ((before : Image) → (disk mid).told ≡ Some before → (j : ℕ) (done : Output) → j < k → slice_get outs j ≡ Some done → IsCompleted (may_leave mid) (out_file j) done files before)
-      → (j : ℕ) (done : Output) → j < k + 1 → slice_get outs j ≡ Some done → (same : Bool) → (j == k) ≡ same → IsCompleted (may_leave new) (out_file j) done files after
+  pub done_more : (files after : Image) → old.told ≡ Some files → new.told ≡ Some after
+      → ((done : Output) (before : Image) → slice_get outs k ≡ Some done → mid.told ≡ Some before → IsCompleted new.may_leave (out_file k) done before after)
+      → ((before : Image) → mid.told ≡ Some before → (j : ℕ) (done : Output) → j < k → slice_get outs j ≡ Some done → IsCompleted mid.may_leave (out_file j) done files before)
+      → (j : ℕ) (done : Output) → j < k + 1 → slice_get outs j ≡ Some done → (same : Bool) → (j == k) ≡ same → IsCompleted new.may_leave (out_file j) done files after
   done_more files after told now this earlier j done below here_is true same =
       let before = so_far.elsewhere files told in
       let is_k = eqb-true j k same in
       let found = this done before.0 (subst (λ (n : ℕ). slice_get outs n ≡ Some done) is_k here_is) before.1 in
       let file_is : before.0 (out_file k) ≡ files (out_file k) = before.2 (out_file k) (λ i less e. omega (arith, less, e)) in
-      subst (λ (n : ℕ). IsCompleted (may_leave new) (out_file n) done files after) (sym is_k) (completed_from (may_leave new) (out_file k) done files before.0 after file_is found)
+      subst (λ (n : ℕ). IsCompleted new.may_leave (out_file n) done files after) (sym is_k) (completed_from new.may_leave (out_file k) done files before.0 after file_is found)
   done_more files after told now this earlier j done below here_is false same =
       let before = so_far.elsewhere files told in
       let less : j < k = omega (arith, below, eqb-false j k same) in
       still_completed files before.0 after before.1 now j done less (earlier before.0 before.1 j done less here_is)
 
 -- a run over all outputs
-pub over_all : {D : Type 0} {disk : D → DiskView} {may_leave : D → ℕ → List ℕ → Type 0} {left_since : D → ℕ → Image → Type 0} {old new : D} {outs : List Output} (n : ℕ) → RunsOut disk may_leave left_since old new outs (IsNoneOf n)
-    → RunsOut disk may_leave left_since old new outs IsNoOut
+pub over_all : {old new : DiskView} {outs : List Output} (n : ℕ) → RunsOut old new outs (IsNoneOf n) → RunsOut old new outs IsNoOut
 over_all n run = record {
   elsewhere = λ files told.
       let after = run.elsewhere files told in

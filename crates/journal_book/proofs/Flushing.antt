@@ -128,30 +128,30 @@ module _ (may_leave : ℕ → List ℕ → Type 0) (root journal : JournalView) 
 
 -- ---- a flush
 
-module _ {D R : Type 0} (disk : D → DiskView) (may_leave : D → ℕ → List ℕ → Type 0) (left_since : D → ℕ → Image → Type 0) (m : Meaning) (book : BookView D R) (root journal : JournalView) (files : Image) (honest : IsImage (may_leave book.disk) files) (stores : AreStoreFiles root journal book.generation) (writable : IsWritableBase first_format book.base) (rest : AreAtRest root journal (may_leave book.disk) book.generation book.base (durable_steps book) files) (body : List ℕ) (is : IsRecord body (waiting_steps book)) where
+module _ {D R : Type 0} (disk : D → DiskView) (m : Meaning) (book : BookView D R) (root journal : JournalView) (files : Image) (honest : IsImage (disk book.disk).may_leave files) (stores : AreStoreFiles root journal book.generation) (writable : IsWritableBase first_format book.base) (rest : AreAtRest root journal (disk book.disk).may_leave book.generation book.base (durable_steps book) files) (body : List ℕ) (is : IsRecord body (waiting_steps book)) where
   abbrev gen_file : ℕ
   gen_file = generation_file book.generation
 
-  others_of : (image : Image) → LeavesOthers may_leave book.disk journal.file image → (other : ℕ) → other ≢ gen_file → may_leave book.disk other (image other)
-  others_of image others = subst (λ (n : ℕ). (other : ℕ) → other ≢ n → may_leave book.disk other (image other)) stores.file_is others
+  others_of : (image : Image) → LeavesOthers (disk book.disk) journal.file image → (other : ℕ) → other ≢ gen_file → (disk book.disk).may_leave other (image other)
+  others_of image others = subst (λ (n : ℕ). (other : ℕ) → other ≢ n → (disk book.disk).may_leave other (image other)) stores.file_is others
 
   -- at each moment of the call a crash leaves the durable steps, or all
-  pub flush_leaves : (first : Base) (past : List Step) (now : D) → IsKept disk may_leave m first past book
-      → Leaves disk left_since book.disk now (λ image. HasOldOrNew journal.heading (code_of_base first_format book.base ∷ rest.records) body (image journal.file) × LeavesOthers may_leave book.disk journal.file image)
-      → Leaves disk left_since book.disk now (StandsFor m first (past ++ durable_steps book) (waiting_steps book))
+  pub flush_leaves : (first : Base) (past : List Step) (now : D) → IsKept disk m first past book
+      → Leaves (disk book.disk) (disk now) (λ image. HasOldOrNew journal.heading (code_of_base first_format book.base ∷ rest.records) body (image journal.file) × LeavesOthers (disk book.disk) journal.file image)
+      → Leaves (disk book.disk) (disk now) (StandsFor m first (past ++ durable_steps book) (waiting_steps book))
   flush_leaves first past now kept run = widened wide run
     where
-      wide : (image : Image) → HasOldOrNew journal.heading (code_of_base first_format book.base ∷ rest.records) body (image journal.file) × LeavesOthers may_leave book.disk journal.file image
+      wide : (image : Image) → HasOldOrNew journal.heading (code_of_base first_format book.base ∷ rest.records) body (image journal.file) × LeavesOthers (disk book.disk) journal.file image
           → StandsFor m first (past ++ durable_steps book) (waiting_steps book) image
       wide image (found, others) =
           let at_file = subst (λ (n : ℕ). HasOldOrNew journal.heading (code_of_base first_format book.base ∷ rest.records) body (image n)) stores.file_is found in
           let at_heading = subst (λ (h : Heading). HasOldOrNew h (code_of_base first_format book.base ∷ rest.records) body (image gen_file)) stores.heading_is at_file in
-          stands_between (may_leave book.disk) root journal book.generation book.base (durable_steps book) files honest stores writable rest m first past (waiting_steps book) kept.counted kept.each image (others_of image others) body is at_heading
+          stands_between (disk book.disk).may_leave root journal book.generation book.base (durable_steps book) files honest stores writable rest m first past (waiting_steps book) kept.counted kept.each image (others_of image others) body is at_heading
 
   -- where it answered Ok, all steps are durable
-  pub kept_flushed : (first : Base) (past : List Step) (now : D) (after : Image) (later : JournalView) → IsKept disk may_leave m first past book → (disk now).told ≡ Some after → Adds may_leave book.disk now (λ other. other ≢ journal.file)
-      → later.file ≡ journal.file → later.heading ≡ journal.heading → IsAtRest later (may_leave now) ((code_of_base first_format book.base ∷ rest.records) ++ body ∷ []) after
-      → IsKept disk may_leave m first past (record book { disk = now; kept = length book.steps })
+  pub kept_flushed : (first : Base) (past : List Step) (now : D) (after : Image) (later : JournalView) → IsKept disk m first past book → (disk now).told ≡ Some after → Adds (disk book.disk) (disk now) (λ other. other ≢ journal.file)
+      → later.file ≡ journal.file → later.heading ≡ journal.heading → IsAtRest later (disk now).may_leave ((code_of_base first_format book.base ∷ rest.records) ++ body ∷ []) after
+      → IsKept disk m first past (record book { disk = now; kept = length book.steps })
   kept_flushed first past now after later kept told adds same_file same_heading rests = record { files = after; tells = told; counted = kept.counted; seals = kept.seals; within = omega arith; each = each_now }
     where
       all_bodies : List (List ℕ)
@@ -162,17 +162,17 @@ module _ {D R : Type 0} (disk : D → DiskView) (may_leave : D → ℕ → List 
 
       has_all : HasBodies (heading_of book.generation) all_bodies (after gen_file)
       has_all = subst (λ (h : Heading). HasBodies h all_bodies (after gen_file)) (same_heading ∙ stores.heading_is)
-          (subst (λ (n : ℕ). HasBodies later.heading all_bodies (after n)) file_now (bodies_at_rest later (may_leave now) all_bodies after rests))
+          (subst (λ (n : ℕ). HasBodies later.heading all_bodies (after n)) file_now (bodies_at_rest later (disk now).may_leave all_bodies after rests))
 
-      each_now : (image : Image) → IsImage (may_leave now) image → StandsFor m first (past ++ take (length book.steps) book.steps) (drop (length book.steps) book.steps) image
+      each_now : (image : Image) → IsImage (disk now).may_leave image → StandsFor m first (past ++ take (length book.steps) book.steps) (drop (length book.steps) book.steps) image
       each_now image left =
-          let others : (other : ℕ) → other ≢ gen_file → may_leave book.disk other (image other) =
-          subst (λ (n : ℕ). (other : ℕ) → other ≢ n → may_leave book.disk other (image other)) stores.file_is (λ other apart. adds other apart (image other) (left other)) in
-          let only : Only (after gen_file) (may_leave now gen_file) = subst (λ (n : ℕ). Only (after n) (may_leave now n)) file_now rests.durable in
+          let others : (other : ℕ) → other ≢ gen_file → (disk book.disk).may_leave other (image other) =
+          subst (λ (n : ℕ). (other : ℕ) → other ≢ n → (disk book.disk).may_leave other (image other)) stores.file_is (λ other apart. adds other apart (image other) (left other)) in
+          let only : Only (after gen_file) ((disk now).may_leave gen_file) = subst (λ (n : ℕ). Only (after n) ((disk now).may_leave n)) file_now rests.durable in
           let same : image gen_file ≡ after gen_file = only (image gen_file) (left gen_file) in
-          let holds = holds_new (may_leave book.disk) root journal book.generation book.base (durable_steps book) files honest stores writable rest m first past (waiting_steps book) kept.counted kept.each (image gen_file) body (waiting_steps book) is
+          let holds = holds_new (disk book.disk).may_leave root journal book.generation book.base (durable_steps book) files honest stores writable rest m first past (waiting_steps book) kept.counted kept.each (image gen_file) body (waiting_steps book) is
           (subst (λ (c : List ℕ). HasBodies (heading_of book.generation) all_bodies c) (sym same) has_all) in
-          let stands = stands_with (may_leave book.disk) root journal book.generation book.base (durable_steps book) files honest stores writable rest m first past (waiting_steps book) kept.counted kept.each image others (durable_steps book ++ waiting_steps book) holds in
+          let stands = stands_with (disk book.disk).may_leave root journal book.generation book.base (durable_steps book) files honest stores writable rest m first past (waiting_steps book) kept.counted kept.each image others (durable_steps book ++ waiting_steps book) holds in
           let whole : durable_steps book ++ waiting_steps book ≡ take (length book.steps) book.steps = take-append-drop book.kept book.steps ∙ sym (take_all (length book.steps) book.steps (omega arith)) in
           record {
             count = 0;
@@ -256,22 +256,22 @@ rests_same before now journal bodies files after same adds rest = record {
 }
 
 -- so it does while another file is written
-pub rests_elsewhere : {D : Type 0} (disk : D → DiskView) (may_leave : D → ℕ → List ℕ → Type 0) (old now : D) (journal : JournalView) (bodies : List (List ℕ)) (files after : Image) (file : ℕ) → (journal.file ≢ file) → ChangesOnly files (disk now).told file
-    → (disk now).told ≡ Some after → Adds may_leave old now (λ other. other ≢ file) → IsAtRest journal (may_leave old) bodies files → IsAtRest journal (may_leave now) bodies after
-rests_elsewhere disk may_leave old now journal bodies files after file apart changes told adds rest =
-    let after_is : after ≡ changes.0 = told_is_one (disk now).told after changes.0 told changes.1 in
-    rests_same (may_leave old) (may_leave now) journal bodies files after (ap (λ (i : Image). i journal.file) after_is ∙ changes.2 journal.file apart) (adds journal.file apart) rest
+pub rests_elsewhere : (old now : DiskView) (journal : JournalView) (bodies : List (List ℕ)) (files after : Image) (file : ℕ) → (journal.file ≢ file) → ChangesOnly files now.told file
+    → now.told ≡ Some after → Adds old now (λ other. other ≢ file) → IsAtRest journal old.may_leave bodies files → IsAtRest journal now.may_leave bodies after
+rests_elsewhere old now journal bodies files after file apart changes told adds rest =
+    let after_is : after ≡ changes.0 = told_is_one now.told after changes.0 told changes.1 in
+    rests_same old.may_leave now.may_leave journal bodies files after (ap (λ (i : Image). i journal.file) after_is ∙ changes.2 journal.file apart) (adds journal.file apart) rest
 
-pub rest_flushed : {D : Type 0} (disk : D → DiskView) (may_leave : D → ℕ → List ℕ → Type 0) (old now : D) (root journal later : JournalView) (g : ℕ) (base : Base) (steps : List Step) (kept len : ℕ) (body : List ℕ) (after : Image) (told : Option Image)
-    → (disk old).told ≡ told → (disk now).told ≡ Some after → AreStoreFiles root journal g → IsRecord body (drop kept steps) → len ≡ length steps
-    → ((disk old).told ≡ None → (disk now).told ≡ None)
-    → ((files : Image) → (disk old).told ≡ Some files → ChangesOnly files (disk now).told journal.file)
-    → Adds may_leave old now (λ other. other ≢ journal.file)
-    → ((files : Image) → (disk old).told ≡ Some files → AreAtRest root journal (may_leave old) g base (take kept steps) files)
-    → ((files : Image) (bodies : List (List ℕ)) → (disk old).told ≡ Some files → IsAtRest journal (may_leave old) bodies files → IsAtRest later (may_leave now) (bodies ++ body ∷ []) after)
-    → AreAtRest root later (may_leave now) g base (take len steps) after
-rest_flushed disk may_leave old now root journal later g base steps kept len body after None was told stores is size untold elsewhere adds rests grows = absurd (none-some after (sym (untold was) ∙ told))
-rest_flushed disk may_leave old now root journal later g base steps kept len body after (Some files) was told stores is size untold elsewhere adds rests grows =
+pub rest_flushed : (old now : DiskView) (root journal later : JournalView) (g : ℕ) (base : Base) (steps : List Step) (kept len : ℕ) (body : List ℕ) (after : Image) (told : Option Image)
+    → old.told ≡ told → now.told ≡ Some after → AreStoreFiles root journal g → IsRecord body (drop kept steps) → len ≡ length steps
+    → (old.told ≡ None → now.told ≡ None)
+    → ((files : Image) → old.told ≡ Some files → ChangesOnly files now.told journal.file)
+    → Adds old now (λ other. other ≢ journal.file)
+    → ((files : Image) → old.told ≡ Some files → AreAtRest root journal old.may_leave g base (take kept steps) files)
+    → ((files : Image) (bodies : List (List ℕ)) → old.told ≡ Some files → IsAtRest journal old.may_leave bodies files → IsAtRest later now.may_leave (bodies ++ body ∷ []) after)
+    → AreAtRest root later now.may_leave g base (take len steps) after
+rest_flushed old now root journal later g base steps kept len body after None was told stores is size untold elsewhere adds rests grows = absurd (none-some after (sym (untold was) ∙ told))
+rest_flushed old now root journal later g base steps kept len body after (Some files) was told stores is size untold elsewhere adds rests grows =
     let rest = rests files was in
     let changes = elsewhere files was in
     let apart : root.file ≢ journal.file = λ same. apart_root g (sym stores.root_file_is ∙ same ∙ stores.file_is) in
@@ -279,13 +279,13 @@ rest_flushed disk may_leave old now root journal later g base steps kept len bod
     record {
       before = rest.before;
       given = rest.given;
-      root_rests = rests_elsewhere disk may_leave old now root (map number (rest.before ++ g ∷ [])) files after journal.file apart changes told adds rest.root_rests;
+      root_rests = rests_elsewhere old now root (map number (rest.before ++ g ∷ [])) files after journal.file apart changes told adds rest.root_rests;
       records = rest.records ++ body ∷ [];
       journal_rests = grows files (code_of_base first_format base ∷ rest.records) was rest.journal_rests;
       content = subst (λ (ss : List Step). AreRecords (rest.records ++ body ∷ []) ss) all (records_more rest.records (take kept steps) body (drop kept steps) rest.content is);
     }
 
 -- while a generation is written, outputs' files are left as they might have been before
-pub outs_left : {D : Type 0} {disk : D → DiskView} {left_since : D → ℕ → Image → Type 0} (may_leave : D → ℕ → List ℕ → Type 0) (old now : D) (file g : ℕ) (more : Image → Type 0) → file ≡ generation_file g
-    → Leaves disk left_since old now (λ image. more image × LeavesOthers may_leave old file image) → Leaves disk left_since old now (LeavesOuts may_leave old)
-outs_left may_leave old now file g more same run = widened (λ image left k. left.1 (out_file k) (λ is. apart_out g k (is ∙ same))) run
+pub outs_left : (old now : DiskView) (file g : ℕ) (more : Image → Type 0) → file ≡ generation_file g
+    → Leaves old now (λ image. more image × LeavesOthers old file image) → Leaves old now (LeavesOuts old)
+outs_left old now file g more same run = widened (λ image left k. left.1 (out_file k) (λ is. apart_out g k (is ∙ same))) run

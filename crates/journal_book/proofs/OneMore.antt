@@ -88,9 +88,9 @@ short_outs m s step small =
 -- ---- what a step carries
 
 -- a book whose disk stays stands for a front of its steps and of one more
-pub kept_staged : {D R : Type 0} (disk : D → DiskView) (may_leave : D → ℕ → List ℕ → Type 0) (m : Meaning) (first : Base) (past : List Step) (book : BookView D R) (step : Step) (state : Base) → IsKept disk may_leave m first past book
-    → IsKept disk may_leave m first past (record book { state = state; steps = book.steps ++ step ∷ [] })
-kept_staged disk may_leave m first past book step state kept = record {
+pub kept_staged : {D R : Type 0} (disk : D → DiskView) (m : Meaning) (first : Base) (past : List Step) (book : BookView D R) (step : Step) (state : Base) → IsKept disk m first past book
+    → IsKept disk m first past (record book { state = state; steps = book.steps ++ step ∷ [] })
+kept_staged disk m first past book step state kept = record {
   files = kept.files;
   tells = kept.tells;
   counted = kept.counted;

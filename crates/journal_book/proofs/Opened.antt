@@ -91,21 +91,21 @@ module _ (m : Meaning) (files mid last : Image) (g : ℕ) (base : Base) (steps :
   short_with file at short = record { base = base; steps = steps; stored = stored; sound = is.sound; replays = is.holds.replays; short = short_same 0 (replay m base steps).outs last files file at outs_still short }
 
 -- a disk that only reads leaves a journal at rest
-rests_read : {D : Type 0} (may_leave : D → ℕ → List ℕ → Type 0) (old new : D) (j : JournalView) (bodies : List (List ℕ)) (files : Image) → Adds may_leave old new (λ _. ⊤) → IsAtRest j (may_leave old) bodies files → IsAtRest j (may_leave new) bodies files
-rests_read may_leave old new j bodies files adds rest =
+rests_read : (old new : DiskView) (j : JournalView) (bodies : List (List ℕ)) (files : Image) → Adds old new (λ _. ⊤) → IsAtRest j old.may_leave bodies files → IsAtRest j new.may_leave bodies files
+rests_read old new j bodies files adds rest =
     record { whole = rest.whole; gate = rest.gate; closed = rest.closed; lengths = rest.lengths; content = rest.content; end = rest.end; durable = λ c left. rest.durable c (adds j.file tt c left) }
 
-pub store_rests : {D : Type 0} (disk : D → DiskView) (may_leave : D → ℕ → List ℕ → Type 0) (left_since : D → ℕ → Image → Type 0) (named opened looked : D) (m : Meaning) (root journal : JournalView) (g : ℕ) (base : Base) (steps : List Step) (before : List ℕ)
+pub store_rests : (named opened looked : DiskView) (m : Meaning) (root journal : JournalView) (g : ℕ) (base : Base) (steps : List Step) (before : List ℕ)
     (bodies : List (List ℕ)) (mid last : Image)
-    → root.file ≡ root_file → AllByRecursion (λ n. n ≤ last_given) (before ++ g ∷ []) → IsAtRest root (may_leave named) (map number (before ++ g ∷ [])) mid → (disk named).told ≡ Some mid → Recovers disk may_leave left_since (generation_file g) named opened
-    → (disk opened).told ≡ Some last → AreHistory m bodies base steps → IsAtRest journal (may_leave opened) bodies last → Adds may_leave opened looked (λ _. ⊤) → AreAtRest root journal (may_leave looked) g base steps last
-store_rests disk may_leave left_since named opened looked m root journal g base steps before bodies mid last file given root_rests told recovers told_last is rests adds = record {
+    → root.file ≡ root_file → AllByRecursion (λ n. n ≤ last_given) (before ++ g ∷ []) → IsAtRest root named.may_leave (map number (before ++ g ∷ [])) mid → named.told ≡ Some mid → Recovers (generation_file g) named opened
+    → opened.told ≡ Some last → AreHistory m bodies base steps → IsAtRest journal opened.may_leave bodies last → Adds opened looked (λ _. ⊤) → AreAtRest root journal looked.may_leave g base steps last
+store_rests named opened looked m root journal g base steps before bodies mid last file given root_rests told recovers told_last is rests adds = record {
   before = before;
   given = given;
-  root_rests = rests_read may_leave opened looked root (map number (before ++ g ∷ [])) last adds
-      (rests_elsewhere disk may_leave named opened root (map number (before ++ g ∷ [])) mid last (generation_file g) (λ same. root_apart g (sym file ∙ same)) (recovers.elsewhere mid told) told_last recovers.crash_elsewhere root_rests);
+  root_rests = rests_read opened looked root (map number (before ++ g ∷ [])) last adds
+      (rests_elsewhere named opened root (map number (before ++ g ∷ [])) mid last (generation_file g) (λ same. root_apart g (sym file ∙ same)) (recovers.elsewhere mid told) told_last recovers.crash_elsewhere root_rests);
   records = is.records;
-  journal_rests = rests_read may_leave opened looked journal (code_of_base first_format base ∷ is.records) last adds (subst (λ (bs : List (List ℕ)). IsAtRest journal (may_leave opened) bs last) is.splits rests);
+  journal_rests = rests_read opened looked journal (code_of_base first_format base ∷ is.records) last adds (subst (λ (bs : List (List ℕ)). IsAtRest journal opened.may_leave bs last) is.splits rests);
   content = is.holds.content;
 }
 

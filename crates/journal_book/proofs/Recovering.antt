@@ -27,32 +27,32 @@ whole may_leave file image other true is here there = subst (λ (n : ℕ). may_l
 whole may_leave file image other false is here there = there (eqb-false other file is)
 
 -- recovering one file, of which a crash leaves what might have been left before or the same records
-module _ {D : Type 0} (disk : D → DiskView) (may_leave : D → ℕ → List ℕ → Type 0) (left_since : D → ℕ → Image → Type 0) (old new : D) (file : ℕ) (heading : Heading) (is : IsStoreFile file heading) where
+module _ (old new : DiskView) (file : ℕ) (heading : Heading) (is : IsStoreFile file heading) where
   abbrev Found : Image → Image → Type 0
-  Found files image = (may_leave old file (image file) ⊎ HaveSameBodies heading (files file) (image file)) × LeavesOthers may_leave old file image
+  Found files image = (old.may_leave file (image file) ⊎ HaveSameBodies heading (files file) (image file)) × LeavesOthers old file image
 
-  stands_still : (m : Meaning) (first : Base) (steps more : List Step) (was : StandsNow disk may_leave m first steps more old) → IsImage (may_leave old) was.files → (image : Image) → Found was.files image → StandsFor m first steps more image
-  stands_still m first steps more was honest image (inl left, others) = was.each image (λ other. whole (may_leave old) file image other (other == file) refl left (others other))
+  stands_still : (m : Meaning) (first : Base) (steps more : List Step) (was : StandsNow m first steps more old) → IsImage old.may_leave was.files → (image : Image) → Found was.files image → StandsFor m first steps more image
+  stands_still m first steps more was honest image (inl left, others) = was.each image (λ other. whole old.may_leave file image other (other == file) refl left (others other))
   stands_still m first steps more was honest image (inr same, others) =
       let back = put_file file (was.files file) image in
-      let left : IsImage (may_leave old) back = λ other. either (may_leave old) file other (was.files file) (image other) (other == file) refl (honest file) (others other) in
+      let left : IsImage old.may_leave back = λ other. either old.may_leave file other (was.files file) (image other) (other == file) refl (honest file) (others other) in
       stands_alike m first steps more back image (alike_put (was.files file) image file heading is same) (was.each back left)
 
-  pub histories_kept : ((files : Image) → (disk old).told ≡ Some files → IsImage (may_leave old) files)
-      → ((t : ℕ) (image : Image) → t ≤ (disk new).moment → IsImage (may_leave new) image → left_since new t image)
-      → ((files : Image) → (disk old).told ≡ Some files → ChangesOnly files (disk new).told file)
-      → ((files : Image) → (disk old).told ≡ Some files → Leaves disk left_since old new (Found files))
-      → KeepsHistories disk may_leave left_since old new
+  pub histories_kept : ((files : Image) → old.told ≡ Some files → IsImage old.may_leave files)
+      → ((t : ℕ) (image : Image) → t ≤ new.moment → IsImage new.may_leave image → new.left_since t image)
+      → ((files : Image) → old.told ≡ Some files → ChangesOnly files new.told file)
+      → ((files : Image) → old.told ≡ Some files → Leaves old new (Found files))
+      → KeepsHistories old new
   histories_kept honest counts elsewhere any_moment = record { now = now; run = run }
     where
-      run : (m : Meaning) (first : Base) (steps more : List Step) → StandsNow disk may_leave m first steps more old → Leaves disk left_since old new (StandsFor m first steps more)
+      run : (m : Meaning) (first : Base) (steps more : List Step) → StandsNow m first steps more old → Leaves old new (StandsFor m first steps more)
       run m first steps more was = widened (stands_still m first steps more was (honest was.files was.tells)) (any_moment was.files was.tells)
 
-      now : (m : Meaning) (first : Base) (steps more : List Step) → StandsNow disk may_leave m first steps more old → StandsNow disk may_leave m first steps more new
+      now : (m : Meaning) (first : Base) (steps more : List Step) → StandsNow m first steps more old → StandsNow m first steps more new
       now m first steps more was =
           let changes = elsewhere was.files was.tells in
           let left = widened (stands_still m first steps more was (honest was.files was.tells)) (any_moment was.files was.tells) in
-          record { files = changes.0; tells = changes.1; each = λ image may. left.each image (counts (disk old).moment image left.later may) }
+          record { files = changes.0; tells = changes.1; each = λ image may. left.each image (counts old.moment image left.later may) }
 
 -- what stands for a history has a root that isn't empty
 pub some_root : (m : Meaning) (first : Base) (steps more : List Step) (image : Image) → StandsFor m first steps more image → 0 < length (image root_file)
@@ -62,8 +62,7 @@ some_root m first steps more image is =
     omega (arith, ap length named.bodies.content, length-append (gate_file (heading_of 0) bodies named.bodies.gate) named.bodies.behind, gate_length (heading_of 0) bodies named.bodies.gate)
 
 -- reads keep histories
-pub reads_keep : {D : Type 0} {disk : D → DiskView} {may_leave : D → ℕ → List ℕ → Type 0} {left_since : D → ℕ → Image → Type 0} {old new : D} → ((image : Image) → left_since old (disk old).moment image → IsImage (may_leave old) image)
-    → OnlyReads disk may_leave left_since old new → KeepsHistories disk may_leave left_since old new
+pub reads_keep : {old new : DiskView} → ((image : Image) → old.left_since old.moment image → IsImage old.may_leave image) → OnlyReads old new → KeepsHistories old new
 reads_keep {old = old} only_now reads = record {
   now = λ m first steps more was. record { files = was.files; tells = reads.told ∙ was.tells; each = λ image left. was.each image (λ file. reads.crash file tt (image file) (left file)) };
   run = λ m first steps more was. record {
@@ -74,16 +73,14 @@ reads_keep {old = old} only_now reads = record {
 }
 
 -- one call after another
-pub keeps_on : {D : Type 0} {disk : D → DiskView} {may_leave : D → ℕ → List ℕ → Type 0} {left_since : D → ℕ → Image → Type 0} {old mid new : D}
-    → KeepsHistories disk may_leave left_since old mid → KeepsHistories disk may_leave left_since mid new → KeepsHistories disk may_leave left_since old new
+pub keeps_on : {old mid new : DiskView} → KeepsHistories old mid → KeepsHistories mid new → KeepsHistories old new
 keeps_on one other = record {
   now = λ m base steps more was. other.now m base steps more (one.now m base steps more was);
   run = λ m base steps more was. run_on (one.run m base steps more was) (other.run m base steps more (one.now m base steps more was));
 }
 
 -- a call of the disk that only reads
-pub call_reads : {D : Type 0} {disk : D → DiskView} {may_leave : D → ℕ → List ℕ → Type 0} {left_since : D → ℕ → Image → Type 0} {old new : D} → (disk new).told ≡ (disk old).told → Adds may_leave old new (λ _. ⊤)
-    → Elapses disk may_leave left_since old new → (disk old).faults ≤ (disk new).faults → OnlyReads disk may_leave left_since old new
+pub call_reads : {old new : DiskView} → new.told ≡ old.told → Adds old new (λ _. ⊤) → Elapses old new → old.faults ≤ new.faults → OnlyReads old new
 call_reads told crash time count = record {
   told = told;
   crash = crash;

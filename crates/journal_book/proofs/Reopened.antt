@@ -57,12 +57,12 @@ pending_reopened steps len pending limit journal size bound long = record {
   long = omega (arith, long, ap (λ ss. length (codes_of ss)) (all_durable len steps size));
 }
 
-pub rest_reopened : {D : Type 0} (disk : D → DiskView) (may_leave : D → ℕ → List ℕ → Type 0) (old now : D) (root journal : JournalView) (g : ℕ) (base : Base) (steps : List Step) (len : ℕ) (after : Image) (told : Option Image) → (disk old).told ≡ told
-    → (disk now).told ≡ Some after → ((disk old).told ≡ None → (disk now).told ≡ None)
-    → ((files after : Image) → (disk old).told ≡ Some files → (disk now).told ≡ Some after → AreAtRest root journal (may_leave now) g base steps after) → len ≡ length steps → AreAtRest root journal (may_leave now) g base (take len steps) after
-rest_reopened disk may_leave old now root journal g base steps len after None was told untold rests size = absurd (none-some after (sym (untold was) ∙ told))
-rest_reopened disk may_leave old now root journal g base steps len after (Some files) was told untold rests size =
-    subst (λ (ss : List Step). AreAtRest root journal (may_leave now) g base ss after) (sym (all_durable len steps size)) (rests files after was told)
+pub rest_reopened : (old now : DiskView) (root journal : JournalView) (g : ℕ) (base : Base) (steps : List Step) (len : ℕ) (after : Image) (told : Option Image) → old.told ≡ told
+    → now.told ≡ Some after → (old.told ≡ None → now.told ≡ None)
+    → ((files after : Image) → old.told ≡ Some files → now.told ≡ Some after → AreAtRest root journal now.may_leave g base steps after) → len ≡ length steps → AreAtRest root journal now.may_leave g base (take len steps) after
+rest_reopened old now root journal g base steps len after None was told untold rests size = absurd (none-some after (sym (untold was) ∙ told))
+rest_reopened old now root journal g base steps len after (Some files) was told untold rests size =
+    subst (λ (ss : List Step). AreAtRest root journal now.may_leave g base ss after) (sym (all_durable len steps size)) (rests files after was told)
 
 pub view_reopened : {D R : Type 0} (m : Meaning) (rules other : R) (g : ℕ) (base state : Base) (steps : List Step) (len limit : ℕ) (now : D) → other ≡ rules → state ≡ replay m base steps → len ≡ length steps
     → (let book : BookView D R = record { disk = now; rules = other; generation = g; base = base; steps = steps; kept = len; state = state; limit = limit; broken = false } in book ≡ opened m rules g base steps limit now)
@@ -122,30 +122,30 @@ module _ (m : Meaning) (first : Base) (before more : List Step) (may_leave : ℕ
       (one_front before more past_told is.stands.past steps (each files honest).count is.count (each files honest).within is.within history_told (is.stands.splits ∙ ap (λ ss. is.stands.past ++ ss) same.2) (omega (arith, counted_told, there)))
       is.stands
 
-pub kept_reopened : {D R : Type 0} (disk : D → DiskView) (may_leave : D → ℕ → List ℕ → Type 0) (m : Meaning) (first : Base) (before more : List Step) (rules : R) (limit : ℕ) (now : D) (root journal : JournalView) (g : ℕ) (base : Base) (steps : List Step)
-    → (was : StandsNow disk may_leave m first before more now) → IsImage (may_leave now) was.files → AreStoreFiles root journal g → IsWritableBase first_format base → AreAtRest root journal (may_leave now) g base steps was.files
-    → IsReopened disk may_leave m first before more (opened m rules g base steps limit now)
-kept_reopened disk may_leave m first before more rules limit now root journal g base steps was honest stores writable rest =
-    let stored : (image : Image) → IsImage (may_leave now) image → IsStored image g base steps = stored_now (may_leave now) root journal g base steps was.files honest stores writable rest in
-    let past = past_told m first before more (may_leave now) g base steps was.files honest was.each stored in
+pub kept_reopened : {D R : Type 0} (disk : D → DiskView) (m : Meaning) (first : Base) (before more : List Step) (rules : R) (limit : ℕ) (now : D) (root journal : JournalView) (g : ℕ) (base : Base) (steps : List Step)
+    → (was : StandsNow m first before more (disk now)) → IsImage (disk now).may_leave was.files → AreStoreFiles root journal g → IsWritableBase first_format base → AreAtRest root journal (disk now).may_leave g base steps was.files
+    → IsReopened disk m first before more (opened m rules g base steps limit now)
+kept_reopened disk m first before more rules limit now root journal g base steps was honest stores writable rest =
+    let stored : (image : Image) → IsImage (disk now).may_leave image → IsStored image g base steps = stored_now (disk now).may_leave root journal g base steps was.files honest stores writable rest in
+    let past = past_told m first before more (disk now).may_leave g base steps was.files honest was.each stored in
     let all : take (length steps) steps ≡ steps = take_all (length steps) steps (omega arith) in
     record {
       past = past;
       count = (was.each was.files honest).count;
       within = (was.each was.files honest).within;
-      splits = sym (history_told m first before more (may_leave now) g base steps was.files honest was.each stored);
+      splits = sym (history_told m first before more (disk now).may_leave g base steps was.files honest was.each stored);
       kept = record {
         files = was.files;
         tells = was.tells;
-        counted = counted_told m first before more (may_leave now) g base steps was.files honest was.each stored;
-        seals = seals_told m first before more (may_leave now) g base steps was.files honest was.each stored;
+        counted = counted_told m first before more (disk now).may_leave g base steps was.files honest was.each stored;
+        seals = seals_told m first before more (disk now).may_leave g base steps was.files honest was.each stored;
         within = omega arith;
         each = λ image left.
             record {
               count = 0;
               within = omega arith;
               stands = subst (λ (h : List Step). Stands m first image h) (sym (append-nil (past ++ take (length steps) steps) ∙ ap (λ ss. past ++ ss) all))
-                  (stands_told m first before more (may_leave now) g base steps was.files honest was.each stored image left);
+                  (stands_told m first before more (disk now).may_leave g base steps was.files honest was.each stored image left);
             };
       };
     }

@@ -121,14 +121,14 @@ root_is_no_out k same = omega (arith, same)
 generation_is_no_out : (g : ℕ) → IsNoOut (generation_file g)
 generation_is_no_out g k same = omega (arith, same)
 
-module _ {D R : Type 0} (disk : D → DiskView) (may_leave : D → ℕ → List ℕ → Type 0) (left_since : D → ℕ → Image → Type 0) (m : Meaning) (book : BookView D R) (root journal : JournalView) (files : Image) (honest : IsImage (may_leave book.disk) files) (stores : AreStoreFiles root journal book.generation) (writable : IsWritableBase first_format book.base) (rest : AreAtRest root journal (may_leave book.disk) book.generation book.base (durable_steps book) files) (first : Base) (past : List Step) (kept : IsKept disk may_leave m first past book) where
+module _ {D R : Type 0} (disk : D → DiskView) (m : Meaning) (book : BookView D R) (root journal : JournalView) (files : Image) (honest : IsImage (disk book.disk).may_leave files) (stores : AreStoreFiles root journal book.generation) (writable : IsWritableBase first_format book.base) (rest : AreAtRest root journal (disk book.disk).may_leave book.generation book.base (durable_steps book) files) (first : Base) (past : List Step) (kept : IsKept disk m first past book) where
   abbrev gen : ℕ
   gen = generation_file book.generation
 
-  stored_in : (image : Image) → IsImage (may_leave book.disk) image → IsStored image book.generation book.base (durable_steps book)
-  stored_in image left = stored_now (may_leave book.disk) root journal book.generation book.base (durable_steps book) files honest stores writable rest image left
+  stored_in : (image : Image) → IsImage (disk book.disk).may_leave image → IsStored image book.generation book.base (durable_steps book)
+  stored_in image left = stored_now (disk book.disk).may_leave root journal book.generation book.base (durable_steps book) files honest stores writable rest image left
 
-  past_in : (image : Image) → IsImage (may_leave book.disk) image → IsPast m first past book.base image
+  past_in : (image : Image) → IsImage (disk book.disk).may_leave image → IsPast m first past book.base image
   past_in image left =
       let stands = kept.each image left in
       past_of m first past (durable_steps book) (take stands.count (waiting_steps book)) book.base book.generation image (stored_in image left) kept.counted stands.stands
@@ -148,25 +148,25 @@ module _ {D R : Type 0} (disk : D → DiskView) (may_leave : D → ℕ → List 
   pub are_fronts : (state : Base) (steps : List Step) → state ≡ replay m book.base steps → AreFronts state.outs fronts
   are_fronts state steps is k = long k ∙ sym (sealed_replay m book.base steps k) ∙ ap (λ (s : Base). sealed_of s.outs k) (sym is)
 
-  pub begin : Begin (may_leave book.disk) fronts
+  pub begin : Begin (disk book.disk).may_leave fronts
   begin k c left =
       let image = put_file (out_file k) c files in
-      let in_image : IsImage (may_leave book.disk) image = put_left (may_leave book.disk) (out_file k) c files left (λ other apart. honest other) in
+      let in_image : IsImage (disk book.disk).may_leave image = put_left (disk book.disk).may_leave (out_file k) c files left (λ other apart. honest other) in
       let begins = front_begins 0 wholes book.base.outs image sealed (past_in image in_image).fronts k k (omega arith) in
       ap (λ n. take n c) (long k) ∙ ap (take (sealed_of book.base.outs k)) (sym (put_there (out_file k) c files)) ∙ begins
 
-  root_same : (image : Image) → KeepsFronts may_leave book.disk fronts image → image root_file ≡ files root_file
+  root_same : (image : Image) → KeepsFronts (disk book.disk) fronts image → image root_file ≡ files root_file
   root_same image keeps =
-      let only : Only (files root_file) (may_leave book.disk root_file) = subst (λ (n : ℕ). Only (files n) (may_leave book.disk n)) stores.root_file_is rest.root_rests.durable in
+      let only : Only (files root_file) ((disk book.disk).may_leave root_file) = subst (λ (n : ℕ). Only (files n) ((disk book.disk).may_leave n)) stores.root_file_is rest.root_rests.durable in
       only (image root_file) (keeps.others root_file root_is_no_out)
 
-  gen_same : (image : Image) → KeepsFronts may_leave book.disk fronts image → image gen ≡ files gen
+  gen_same : (image : Image) → KeepsFronts (disk book.disk) fronts image → image gen ≡ files gen
   gen_same image keeps =
-      let only : Only (files gen) (may_leave book.disk gen) = subst (λ (n : ℕ). Only (files n) (may_leave book.disk n)) stores.file_is rest.journal_rests.durable in
+      let only : Only (files gen) ((disk book.disk).may_leave gen) = subst (λ (n : ℕ). Only (files n) ((disk book.disk).may_leave n)) stores.file_is rest.journal_rests.durable in
       only (image gen) (keeps.others gen (generation_is_no_out book.generation))
 
   -- files in which the fronts stand, and all but outputs is as it was, stand for the same steps
-  pub stands_then : (image : Image) → KeepsFronts may_leave book.disk fronts image → StandsFor m first (past ++ durable_steps book) (waiting_steps book) image
+  pub stands_then : (image : Image) → KeepsFronts (disk book.disk) fronts image → StandsFor m first (past ++ durable_steps book) (waiting_steps book) image
   stands_then image keeps =
       let stored = stored_in files honest in
       let now : IsStored image book.generation book.base (durable_steps book) = record {
@@ -187,16 +187,16 @@ module _ {D R : Type 0} (disk : D → DiskView) (may_leave : D → ℕ → List 
       }
 
   -- at each moment of the call
-  pub outs_leave : (now : D) (state : Base) (steps : List Step) → (disk book.disk).told ≡ Some files → state ≡ replay m book.base steps → RunsOut disk may_leave left_since book.disk now state.outs IsNoOut
-      → Leaves disk left_since book.disk now (StandsFor m first (past ++ durable_steps book) (waiting_steps book))
+  pub outs_leave : (now : D) (state : Base) (steps : List Step) → (disk book.disk).told ≡ Some files → state ≡ replay m book.base steps → RunsOut (disk book.disk) (disk now) state.outs IsNoOut
+      → Leaves (disk book.disk) (disk now) (StandsFor m first (past ++ durable_steps book) (waiting_steps book))
   outs_leave now state steps told is run = widened stands_then (run.any_moment files fronts told (are_fronts state steps is) begin)
 
 -- a book stands on where each moment of a call leaves what it stands for
-pub kept_later : {D R : Type 0} (disk : D → DiskView) (may_leave : D → ℕ → List ℕ → Type 0) (left_since : D → ℕ → Image → Type 0) (m : Meaning) (first : Base) (past : List Step) (book : BookView D R) (now : D) (broken : Bool) (after : Image) → IsKept disk may_leave m first past book
+pub kept_later : {D R : Type 0} (disk : D → DiskView) (m : Meaning) (first : Base) (past : List Step) (book : BookView D R) (now : D) (broken : Bool) (after : Image) → IsKept disk m first past book
     → (disk now).told ≡ Some after
-    → ((image : Image) → (disk book.disk).moment ≤ (disk now).moment → IsImage (may_leave now) image → left_since now (disk book.disk).moment image)
-    → Leaves disk left_since book.disk now (StandsFor m first (past ++ durable_steps book) (waiting_steps book)) → IsKept disk may_leave m first past (record book { disk = now; broken = broken })
-kept_later disk may_leave left_since m first past book now broken after kept told counts run =
+    → ((image : Image) → (disk book.disk).moment ≤ (disk now).moment → IsImage (disk now).may_leave image → (disk now).left_since (disk book.disk).moment image)
+    → Leaves (disk book.disk) (disk now) (StandsFor m first (past ++ durable_steps book) (waiting_steps book)) → IsKept disk m first past (record book { disk = now; broken = broken })
+kept_later disk m first past book now broken after kept told counts run =
     record { files = after; tells = told; counted = kept.counted; seals = kept.seals; within = kept.within; each = λ image left. run.each image (counts image run.later left) }
 
 -- what stands for all steps stands for the durable ones and those that wait
@@ -219,24 +219,24 @@ all_durable m first past steps image stands =
     subst (λ (ss : List Step). StandsFor m first (past ++ ss) [] image) all (subst (λ (ss : List Step). StandsFor m first (past ++ take (length steps) steps) ss image) none stands)
 
 -- a journal rests while only outputs are written
-rests_beside : {D : Type 0} (disk : D → DiskView) (may_leave : D → ℕ → List ℕ → Type 0) (left_since : D → ℕ → Image → Type 0) (old now : D) (outs : List Output) (journal : JournalView) (bodies : List (List ℕ)) (files after : Image) → IsNoOut journal.file → RunsOut disk may_leave left_since old now outs IsNoOut
-    → (disk old).told ≡ Some files → (disk now).told ≡ Some after → IsAtRest journal (may_leave old) bodies files → IsAtRest journal (may_leave now) bodies after
-rests_beside disk may_leave left_since old now outs journal bodies files after apart run was told rest =
+rests_beside : (old now : DiskView) (outs : List Output) (journal : JournalView) (bodies : List (List ℕ)) (files after : Image) → IsNoOut journal.file → RunsOut old now outs IsNoOut
+    → old.told ≡ Some files → now.told ≡ Some after → IsAtRest journal old.may_leave bodies files → IsAtRest journal now.may_leave bodies after
+rests_beside old now outs journal bodies files after apart run was told rest =
     let changes = run.elsewhere files was in
-    rests_same (may_leave old) (may_leave now) journal bodies files after (ap (λ (i : Image). i journal.file) (told_is_one (disk now).told after changes.0 told changes.1) ∙ changes.2 journal.file apart) (run.crash_elsewhere journal.file apart) rest
+    rests_same old.may_leave now.may_leave journal bodies files after (ap (λ (i : Image). i journal.file) (told_is_one now.told after changes.0 told changes.1) ∙ changes.2 journal.file apart) (run.crash_elsewhere journal.file apart) rest
 
 -- root and generation rest
-pub rest_completed : {D : Type 0} (disk : D → DiskView) (may_leave : D → ℕ → List ℕ → Type 0) (left_since : D → ℕ → Image → Type 0) (old now : D) (outs : List Output) (root journal : JournalView) (g : ℕ) (base : Base) (steps : List Step) (after : Image) (told : Option Image)
-    → (disk old).told ≡ told → (disk now).told ≡ Some after → AreStoreFiles root journal g → RunsOut disk may_leave left_since old now outs IsNoOut
-    → ((files : Image) → (disk old).told ≡ Some files → AreAtRest root journal (may_leave old) g base steps files) → AreAtRest root journal (may_leave now) g base steps after
-rest_completed disk may_leave left_since old now outs root journal g base steps after None was told stores run rests = absurd (none-some after (sym (run.untold was) ∙ told))
-rest_completed disk may_leave left_since old now outs root journal g base steps after (Some files) was told stores run rests =
+pub rest_completed : (old now : DiskView) (outs : List Output) (root journal : JournalView) (g : ℕ) (base : Base) (steps : List Step) (after : Image) (told : Option Image)
+    → old.told ≡ told → now.told ≡ Some after → AreStoreFiles root journal g → RunsOut old now outs IsNoOut
+    → ((files : Image) → old.told ≡ Some files → AreAtRest root journal old.may_leave g base steps files) → AreAtRest root journal now.may_leave g base steps after
+rest_completed old now outs root journal g base steps after None was told stores run rests = absurd (none-some after (sym (run.untold was) ∙ told))
+rest_completed old now outs root journal g base steps after (Some files) was told stores run rests =
     let rest = rests files was in
     record {
       before = rest.before;
       given = rest.given;
-      root_rests = rests_beside disk may_leave left_since old now outs root (map number (rest.before ++ g ∷ [])) files after (subst IsNoOut (sym stores.root_file_is) root_is_no_out) run was told rest.root_rests;
+      root_rests = rests_beside old now outs root (map number (rest.before ++ g ∷ [])) files after (subst IsNoOut (sym stores.root_file_is) root_is_no_out) run was told rest.root_rests;
       records = rest.records;
-      journal_rests = rests_beside disk may_leave left_since old now outs journal (code_of_base first_format base ∷ rest.records) files after (subst IsNoOut (sym stores.file_is) (generation_is_no_out g)) run was told rest.journal_rests;
+      journal_rests = rests_beside old now outs journal (code_of_base first_format base ∷ rest.records) files after (subst IsNoOut (sym stores.file_is) (generation_is_no_out g)) run was told rest.journal_rests;
       content = rest.content;
     }

@@ -35,10 +35,10 @@ waiting_steps book = drop book.kept book.steps
 -- the book goes on from these steps of the store whose first state is `first`: its generation begins with the state behind
 -- them, with more lines of outputs sealed; and whatever a crash leaves now stands for them, the durable steps behind them, and
 -- a front of those that wait
-pub record IsKept {D R : Type 0} (disk : D → DiskView) (may_leave : D → ℕ → List ℕ → Type 0) (m : Meaning) (first : Base) (past : List Step) (book : BookView D R) : Type 0 where
+pub record IsKept {D R : Type 0} (disk : D → DiskView) (m : Meaning) (first : Base) (past : List Step) (book : BookView D R) : Type 0 where
   pub files : Image
   pub tells : (disk book.disk).told ≡ Some files
   pub counted : book.base.steps ≡ first.steps + length past
   pub seals : IsSealOf (replay m first past) book.base
   pub within : book.kept ≤ length book.steps
-  pub each : (image : Image) → IsImage (may_leave book.disk) image → StandsFor m first (past ++ durable_steps book) (waiting_steps book) image
+  pub each : (image : Image) → IsImage (disk book.disk).may_leave image → StandsFor m first (past ++ durable_steps book) (waiting_steps book) image

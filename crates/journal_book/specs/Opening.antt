@@ -27,10 +27,10 @@ IsReopenFault m told fault.Refused = ⊥
 IsReopenFault m told fault.OutOfMemory = Unit {0}
 
 -- the disk tells what it holds, and whatever a crash leaves now stands for these steps and a front of those behind them
-pub record StandsNow {D : Type 0} (disk : D → DiskView) (may_leave : D → ℕ → List ℕ → Type 0) (m : Meaning) (first : Base) (steps more : List Step) (now : D) : Type 0 where
+pub record StandsNow (m : Meaning) (first : Base) (steps more : List Step) (now : DiskView) : Type 0 where
   pub files : Image
-  pub tells : (disk now).told ≡ Some files
-  pub each : (image : Image) → IsImage (may_leave now) image → StandsFor m first steps more image
+  pub tells : now.told ≡ Some files
+  pub each : (image : Image) → IsImage now.may_leave image → StandsFor m first steps more image
 
 -- the book of a store that was opened with this state, and with these steps behind it, all of them durable
 abbrev pub opened : {D R : Type 0} → Meaning → R → ℕ → Base → List Step → ℕ → D → BookView D R
@@ -38,12 +38,12 @@ opened m rules generation base steps limit disk =
     record { disk = disk; rules = rules; generation = generation; base = base; steps = steps; kept = length steps; state = replay m base steps; limit = limit; broken = false }
 
 -- the book goes on with these steps and a front of those behind them, all of which are durable
-pub record IsReopened {D R : Type 0} (disk : D → DiskView) (may_leave : D → ℕ → List ℕ → Type 0) (m : Meaning) (first : Base) (steps more : List Step) (book : BookView D R) : Type 0 where
+pub record IsReopened {D R : Type 0} (disk : D → DiskView) (m : Meaning) (first : Base) (steps more : List Step) (book : BookView D R) : Type 0 where
   pub past : List Step
   pub count : ℕ
   pub within : count ≤ length more
   pub splits : past ++ book.steps ≡ steps ++ take count more
-  pub kept : IsKept disk may_leave m first past book
+  pub kept : IsKept disk m first past book
 
 -- the disk tells what it holds, and the files of these outputs are no shorter than what is sealed
 abbrev pub TellsLong : Option Image → List Output → Type 0
@@ -72,14 +72,14 @@ in_file file (journal.Damaged at) = fault.Damaged file at
 in_file file journal.OutOfMemory = fault.OutOfMemory
 
 -- whatever stood for a history does so at each moment of a call, and behind it
-pub record KeepsHistories {D : Type 0} (disk : D → DiskView) (may_leave : D → ℕ → List ℕ → Type 0) (left_since : D → ℕ → Image → Type 0) (old new : D) : Type 0 where
-  pub now : (m : Meaning) (first : Base) (steps more : List Step) → StandsNow disk may_leave m first steps more old → StandsNow disk may_leave m first steps more new
-  pub run : (m : Meaning) (first : Base) (steps more : List Step) → StandsNow disk may_leave m first steps more old → Leaves disk left_since old new (StandsFor m first steps more)
+pub record KeepsHistories (old new : DiskView) : Type 0 where
+  pub now : (m : Meaning) (first : Base) (steps more : List Step) → StandsNow m first steps more old → StandsNow m first steps more new
+  pub run : (m : Meaning) (first : Base) (steps more : List Step) → StandsNow m first steps more old → Leaves old new (StandsFor m first steps more)
 
 -- what recovering one file of a store leaves
-pub record Recovers {D : Type 0} (disk : D → DiskView) (may_leave : D → ℕ → List ℕ → Type 0) (left_since : D → ℕ → Image → Type 0) (file : ℕ) (old new : D) : Type 0 where
-  pub elsewhere : (files : Image) → (disk old).told ≡ Some files → ChangesOnly files (disk new).told file
-  pub untold : (disk old).told ≡ None → (disk new).told ≡ None
-  pub crash_elsewhere : Adds may_leave old new (λ other. other ≢ file)
-  pub histories : KeepsHistories disk may_leave left_since old new
-  pub count : (disk old).faults ≤ (disk new).faults
+pub record Recovers (file : ℕ) (old new : DiskView) : Type 0 where
+  pub elsewhere : (files : Image) → old.told ≡ Some files → ChangesOnly files new.told file
+  pub untold : old.told ≡ None → new.told ≡ None
+  pub crash_elsewhere : Adds old new (λ other. other ≢ file)
+  pub histories : KeepsHistories old new
+  pub count : old.faults ≤ new.faults

@@ -36,8 +36,8 @@ abbrev pub AreWhole : (ℕ → List ℕ → Type 0) → List Output → Image �
 AreWhole may_leave outs after = (k : ℕ) (out : Output) → slice_get outs k ≡ Some out → IsWhole may_leave (out_file k) out after
 
 -- the disk tells what it holds, and the file of each output is all lines that this history of a store has written
-abbrev pub AreWritten : {D : Type 0} → (D → DiskView) → (D → ℕ → List ℕ → Type 0) → Meaning → Base → List Step → D → Type 0
-AreWritten disk may_leave m first history now = (files : Image) × ((disk now).told ≡ Some files) × AreWhole (may_leave now) (replay m first history).outs files
+abbrev pub AreWritten : Meaning → Base → List Step → DiskView → Type 0
+AreWritten m first history now = (files : Image) × (now.told ≡ Some files) × AreWhole now.may_leave (replay m first history).outs files
 
 -- the first of these outputs whose file is shorter than what is sealed of it has this file, of this length
 pub record IsFirstShort (outs : List Output) (files : Image) (file at : ℕ) : Type 0 where
@@ -66,5 +66,5 @@ IsNoDamage fault.Refused = Unit {0}
 IsNoDamage fault.OutOfMemory = Unit {0}
 
 -- in each output's file a crash leaves what it might have left before
-abbrev pub LeavesOuts : {D : Type 0} → (D → ℕ → List ℕ → Type 0) → D → Image → Type 0
-LeavesOuts may_leave old image = (k : ℕ) → may_leave old (out_file k) (image (out_file k))
+abbrev pub LeavesOuts : DiskView → Image → Type 0
+LeavesOuts old image = (k : ℕ) → old.may_leave (out_file k) (image (out_file k))

@@ -30,30 +30,30 @@ abbrev pub IsNoneOf : ℕ → ℕ → Type 0
 IsNoneOf n file = (k : ℕ) → k < n → file ≢ out_file k
 
 -- a crash leaves the front of each output's file, and in the files of no output what it might have left before
-pub record KeepsFronts {D : Type 0} (may_leave : D → ℕ → List ℕ → Type 0) (old : D) (fronts : ℕ → List ℕ) (image : Image) : Type 0 where
+pub record KeepsFronts (old : DiskView) (fronts : ℕ → List ℕ) (image : Image) : Type 0 where
   pub begins : (k : ℕ) → take (length (fronts k)) (image (out_file k)) ≡ fronts k
-  pub others : (other : ℕ) → IsNoOut other → may_leave old other (image other)
+  pub others : (other : ℕ) → IsNoOut other → old.may_leave other (image other)
 
 -- what is told afterwards is the same in the files that rest
 abbrev pub ChangesBut : (ℕ → Type 0) → Image → Option Image → Type 0
 ChangesBut rests files now = (after : Image) × (now ≡ Some after) × ((other : ℕ) → rests other → after other ≡ files other)
 
 -- calls that write one file only, from a sealed length on
-pub record RunsIn {D : Type 0} (disk : D → DiskView) (may_leave : D → ℕ → List ℕ → Type 0) (left_since : D → ℕ → Image → Type 0) (old new : D) (file sealed : ℕ) : Type 0 where
-  pub elsewhere : (files : Image) → (disk old).told ≡ Some files → ChangesOnly files (disk new).told file
-  pub untold : (disk old).told ≡ None → (disk new).told ≡ None
-  pub crash_elsewhere : Adds may_leave old new (λ other. other ≢ file)
-  pub any_moment : (front : List ℕ) → length front ≡ sealed → ((c : List ℕ) → may_leave old file c → take sealed c ≡ front) → Leaves disk left_since old new (KeepsFront may_leave old file front)
-  pub count : (disk old).faults ≤ (disk new).faults
+pub record RunsIn (old new : DiskView) (file sealed : ℕ) : Type 0 where
+  pub elsewhere : (files : Image) → old.told ≡ Some files → ChangesOnly files new.told file
+  pub untold : old.told ≡ None → new.told ≡ None
+  pub crash_elsewhere : Adds old new (λ other. other ≢ file)
+  pub any_moment : (front : List ℕ) → length front ≡ sealed → ((c : List ℕ) → old.may_leave file c → take sealed c ≡ front) → Leaves old new (KeepsFront old file front)
+  pub count : old.faults ≤ new.faults
 
 -- calls that write files of these outputs only, each behind what is sealed of it
-pub record RunsOut {D : Type 0} (disk : D → DiskView) (may_leave : D → ℕ → List ℕ → Type 0) (left_since : D → ℕ → Image → Type 0) (old new : D) (outs : List Output) (rests : ℕ → Type 0) : Type 0 where
-  pub elsewhere : (files : Image) → (disk old).told ≡ Some files → ChangesBut rests files (disk new).told
-  pub untold : (disk old).told ≡ None → (disk new).told ≡ None
-  pub crash_elsewhere : Adds may_leave old new rests
-  pub crash : (files : Image) (fronts : ℕ → List ℕ) → (disk old).told ≡ Some files → AreFronts outs fronts → Begin (may_leave old) fronts → Begin (may_leave new) fronts
-  pub any_moment : (files : Image) (fronts : ℕ → List ℕ) → (disk old).told ≡ Some files → AreFronts outs fronts → Begin (may_leave old) fronts → Leaves disk left_since old new (KeepsFronts may_leave old fronts)
-  pub count : (disk old).faults ≤ (disk new).faults
+pub record RunsOut (old new : DiskView) (outs : List Output) (rests : ℕ → Type 0) : Type 0 where
+  pub elsewhere : (files : Image) → old.told ≡ Some files → ChangesBut rests files new.told
+  pub untold : old.told ≡ None → new.told ≡ None
+  pub crash_elsewhere : Adds old new rests
+  pub crash : (files : Image) (fronts : ℕ → List ℕ) → old.told ≡ Some files → AreFronts outs fronts → Begin old.may_leave fronts → Begin new.may_leave fronts
+  pub any_moment : (files : Image) (fronts : ℕ → List ℕ) → old.told ≡ Some files → AreFronts outs fronts → Begin old.may_leave fronts → Leaves old new (KeepsFronts old fronts)
+  pub count : old.faults ≤ new.faults
 
 -- one output is not completed: its file is too short, or another cause that says nothing of it
 abbrev pub IsFaultAt : ℕ → ℕ → Option Image → BookFault → Type 0

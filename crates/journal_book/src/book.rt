@@ -82,7 +82,7 @@ impl<D: Disk, R: Rules> Model for Book<D, R> {
         × IsPending b.steps b.durable b.pending b.used b.limit b.journal
         × AreShort b.core.state.outs
         × (b.broken ≡ false → b.journal.broken ≡ false)
-        × (b.broken ≡ false → (files : Image) → (D.disk b.disk).told ≡ Some files → AreAtRest b.root b.journal (D.may_leave b.disk) b.generation b.base.value (take b.durable b.steps) files) };
+        × (b.broken ≡ false → (files : Image) → (D.disk b.disk).told ≡ Some files → AreAtRest b.root b.journal (D.disk b.disk).may_leave b.generation b.base.value (take b.durable b.steps) files) };
 }
 
 impl<D: Disk, R: Rules> Book<D, R> {
@@ -105,14 +105,14 @@ impl<D: Disk, R: Rules> Book<D, R> {
         ensures sound { IfOk result (λ book. IsSound R.meaning book.base) }
 
         // Whatever a crash leaves now stands for no steps of the new store.
-        ensures kept { (files : Image) → (D.disk disk).told ≡ Some files → IfOk result (λ book. IsKept D.disk D.may_leave R.meaning book.base [] book) }
+        ensures kept { (files : Image) → (D.disk disk).told ≡ Some files → IfOk result (λ book. IsKept D.disk R.meaning book.base [] book) }
         ensures empty { (files : Image) → (D.disk disk).told ≡ Some files → OnOk result (files root_file ≡ []) }
         ensures refused_empty { (files : Image) → (D.disk disk).told ≡ Some files → IfErr result (λ e. e.0 ≡ BookFault.Refused → files root_file ≡ []) }
 
         // A store that is there is left alone: it stands for its history behind the call and at any moment of it.
-        ensures still_err { (first : Base) (steps more : List Step) → StandsNow D.disk D.may_leave R.meaning first steps more disk → IfErr result (λ e. StandsNow D.disk D.may_leave R.meaning first steps more e.1) }
-        ensures any_moment_err { (first : Base) (steps more : List Step) → StandsNow D.disk D.may_leave R.meaning first steps more disk
-            → IfErr result (λ e. Leaves D.disk D.left_since disk e.1 (StandsFor R.meaning first steps more)) }
+        ensures still_err { (first : Base) (steps more : List Step) → StandsNow R.meaning first steps more (D.disk disk) → IfErr result (λ e. StandsNow R.meaning first steps more (D.disk e.1)) }
+        ensures any_moment_err { (first : Base) (steps more : List Step) → StandsNow R.meaning first steps more (D.disk disk)
+            → IfErr result (λ e. Leaves (D.disk disk) (D.disk e.1) (StandsFor R.meaning first steps more)) }
         ensures fault { IfErr result (λ e. IsCreateFault R.meaning bundle.now (D.disk disk).told e.0) }
         ensures untold { (D.disk disk).told ≡ None → IfOk result (λ book. (D.disk book.disk).told ≡ None) }
         ensures failed { IfErr result (λ e. e.0 ≡ BookFault.Disk → Rose (D.disk disk).faults (D.disk e.1).faults) }
@@ -170,14 +170,14 @@ impl<D: Disk, R: Rules> Book<D, R> {
         ensures long { (files : Image) → (D.disk disk).told ≡ Some files → IfOk result (λ book. TellsLong (D.disk book.disk).told book.state.outs) }
 
         // The book goes on from all steps that whatever a crash left stood for.
-        ensures kept { (first : Base) (steps more : List Step) → StandsNow D.disk D.may_leave R.meaning first steps more disk → IfOk result (λ book. IsReopened D.disk D.may_leave R.meaning first steps more book) }
-        ensures still_err { (first : Base) (steps more : List Step) → StandsNow D.disk D.may_leave R.meaning first steps more disk → IfErr result (λ e. StandsNow D.disk D.may_leave R.meaning first steps more e.1) }
+        ensures kept { (first : Base) (steps more : List Step) → StandsNow R.meaning first steps more (D.disk disk) → IfOk result (λ book. IsReopened D.disk R.meaning first steps more book) }
+        ensures still_err { (first : Base) (steps more : List Step) → StandsNow R.meaning first steps more (D.disk disk) → IfErr result (λ e. StandsNow R.meaning first steps more (D.disk e.1)) }
 
         // So does what a crash at any moment of the call leaves.
-        ensures any_moment { (first : Base) (steps more : List Step) → StandsNow D.disk D.may_leave R.meaning first steps more disk
-            → IfOk result (λ book. Leaves D.disk D.left_since disk book.disk (StandsFor R.meaning first steps more)) }
-        ensures any_moment_err { (first : Base) (steps more : List Step) → StandsNow D.disk D.may_leave R.meaning first steps more disk
-            → IfErr result (λ e. Leaves D.disk D.left_since disk e.1 (StandsFor R.meaning first steps more)) }
+        ensures any_moment { (first : Base) (steps more : List Step) → StandsNow R.meaning first steps more (D.disk disk)
+            → IfOk result (λ book. Leaves (D.disk disk) (D.disk book.disk) (StandsFor R.meaning first steps more)) }
+        ensures any_moment_err { (first : Base) (steps more : List Step) → StandsNow R.meaning first steps more (D.disk disk)
+            → IfErr result (λ e. Leaves (D.disk disk) (D.disk e.1) (StandsFor R.meaning first steps more)) }
         ensures fault { IfErr result (λ e. IsReopenFault R.meaning (D.disk disk).told e.0) }
         ensures untold { (D.disk disk).told ≡ None → IfOk result (λ book. (D.disk book.disk).told ≡ None) }
         ensures failed { IfErr result (λ e. e.0 ≡ BookFault.Disk → Rose (D.disk disk).faults (D.disk e.1).faults) }
@@ -300,7 +300,7 @@ impl<D: Disk, R: Rules> Book<D, R> {
         ensures err { OnErr result (self.new ≡ self.old) }
 
         // Whatever a crash leaves now stands for a front of what was committed before and of this step.
-        ensures kept { (first : Base) (past : List Step) → IsKept D.disk D.may_leave R.meaning first past self.old → IsKept D.disk D.may_leave R.meaning first past self.new }
+        ensures kept { (first : Base) (past : List Step) → IsKept D.disk R.meaning first past self.old → IsKept D.disk R.meaning first past self.new }
     {
         if self.broken {
             return Err(StageRefusal::Broken);
@@ -364,14 +364,14 @@ impl<D: Disk, R: Rules> Book<D, R> {
 
         // Whatever a crash leaves now stands for all steps, if the answer is `Ok`, and else for a front of them that has each
         // one that was durable before.
-        ensures kept { (first : Base) (past : List Step) → IsKept D.disk D.may_leave R.meaning first past self.old → IsKept D.disk D.may_leave R.meaning first past self.new }
+        ensures kept { (first : Base) (past : List Step) → IsKept D.disk R.meaning first past self.old → IsKept D.disk R.meaning first past self.new }
 
         // So does what a crash at any moment of the call leaves.
-        ensures any_moment { (first : Base) (past : List Step) → IsKept D.disk D.may_leave R.meaning first past self.old
-            → Leaves D.disk D.left_since self.old.disk self.new.disk (StandsFor R.meaning first (past ++ durable_steps self.old) (waiting_steps self.old)) }
+        ensures any_moment { (first : Base) (past : List Step) → IsKept D.disk R.meaning first past self.old
+            → Leaves (D.disk self.old.disk) (D.disk self.new.disk) (StandsFor R.meaning first (past ++ durable_steps self.old) (waiting_steps self.old)) }
 
         // No output's file is written.
-        ensures outputs { (files : Image) → (D.disk self.old.disk).told ≡ Some files → Leaves D.disk D.left_since self.old.disk self.new.disk (LeavesOuts D.may_leave self.old.disk) }
+        ensures outputs { (files : Image) → (D.disk self.old.disk).told ≡ Some files → Leaves (D.disk self.old.disk) (D.disk self.new.disk) (LeavesOuts (D.disk self.old.disk)) }
         ensures failed { IsErrOf result FlushFault.Disk → Rose (D.disk self.old.disk).faults (D.disk self.new.disk).faults }
         ensures count { (D.disk self.old.disk).faults ≤ (D.disk self.new.disk).faults }
     {
@@ -411,26 +411,26 @@ impl<D: Disk, R: Rules> Book<D, R> {
         ensures still { IfErr result (λ fault. (fault ≢ BookFault.Disk) → self.new ≡ record self.old { disk = self.new.disk; kept = length self.old.steps }) }
         ensures fault { IfErr result (IsBringUpFault self.old.state.outs (D.disk self.old.disk).told) }
         // No file is too short where the disk stands for a history.
-        ensures sound { (first : Base) (past : List Step) → IsKept D.disk D.may_leave R.meaning first past self.old → IfErr result IsNoDamage }
+        ensures sound { (first : Base) (past : List Step) → IsKept D.disk R.meaning first past self.old → IfErr result IsNoDamage }
         ensures completed { (files after : Image) → (D.disk self.old.disk).told ≡ Some files → (D.disk self.new.disk).told ≡ Some after
-            → OnOk result (AreCompleted (D.may_leave self.new.disk) self.old.state.outs files after) }
+            → OnOk result (AreCompleted (D.disk self.new.disk).may_leave self.old.state.outs files after) }
 
         // Each output's file is all lines of the history that the disk stands for, where that began with nothing sealed.
-        ensures written { (first : Base) (history : List Step) → StandsNow D.disk D.may_leave R.meaning first history [] self.new.disk → HaveNoneSealed first.outs
-            → OnOk result (AreWritten D.disk D.may_leave R.meaning first history self.new.disk) }
+        ensures written { (first : Base) (history : List Step) → StandsNow R.meaning first history [] (D.disk self.new.disk) → HaveNoneSealed first.outs
+            → OnOk result (AreWritten R.meaning first history (D.disk self.new.disk)) }
         ensures untold { (D.disk self.old.disk).told ≡ None → (D.disk self.new.disk).told ≡ None }
 
         // Whatever a crash leaves now stands for the same steps as before, and for all if the answer isn't `Disk`.
-        ensures kept { (first : Base) (past : List Step) → IsKept D.disk D.may_leave R.meaning first past self.old → IsKept D.disk D.may_leave R.meaning first past self.new }
+        ensures kept { (first : Base) (past : List Step) → IsKept D.disk R.meaning first past self.old → IsKept D.disk R.meaning first past self.new }
 
         // So does what a crash at any moment of the call leaves.
-        ensures any_moment { (first : Base) (past : List Step) → IsKept D.disk D.may_leave R.meaning first past self.old
-            → Leaves D.disk D.left_since self.old.disk self.new.disk (StandsFor R.meaning first (past ++ durable_steps self.old) (waiting_steps self.old)) }
+        ensures any_moment { (first : Base) (past : List Step) → IsKept D.disk R.meaning first past self.old
+            → Leaves (D.disk self.old.disk) (D.disk self.new.disk) (StandsFor R.meaning first (past ++ durable_steps self.old) (waiting_steps self.old)) }
 
         // No line is written before its step is durable: where a crash leaves in an output's file what it might not have left
         // before, the files stand for all steps.
-        ensures lines_last { (first : Base) (past : List Step) → IsKept D.disk D.may_leave R.meaning first past self.old
-            → Leaves D.disk D.left_since self.old.disk self.new.disk (λ image. LeavesOuts D.may_leave self.old.disk image ⊎ StandsFor R.meaning first (past ++ self.old.steps) [] image) }
+        ensures lines_last { (first : Base) (past : List Step) → IsKept D.disk R.meaning first past self.old
+            → Leaves (D.disk self.old.disk) (D.disk self.new.disk) (λ image. LeavesOuts (D.disk self.old.disk) image ⊎ StandsFor R.meaning first (past ++ self.old.steps) [] image) }
         ensures failed { IsErrOf result BookFault.Disk → Rose (D.disk self.old.disk).faults (D.disk self.new.disk).faults }
         ensures count { (D.disk self.old.disk).faults ≤ (D.disk self.new.disk).faults }
     {
@@ -447,15 +447,15 @@ impl<D: Disk, R: Rules> Book<D, R> {
         ensures disk { IsErrOf result BookFault.Disk → self.new ≡ record self.old { disk = self.new.disk; broken = true } }
         ensures still { IfErr result (λ fault. (fault ≢ BookFault.Disk) → self.new ≡ record self.old { disk = self.new.disk }) }
         ensures fault { IfErr result (IsBringUpFault self.old.state.outs (D.disk self.old.disk).told) }
-        ensures sound { (first : Base) (past : List Step) → IsKept D.disk D.may_leave R.meaning first past self.old → IfErr result IsNoDamage }
+        ensures sound { (first : Base) (past : List Step) → IsKept D.disk R.meaning first past self.old → IfErr result IsNoDamage }
         ensures completed { (files after : Image) → (D.disk self.old.disk).told ≡ Some files → (D.disk self.new.disk).told ≡ Some after
-            → OnOk result (AreCompleted (D.may_leave self.new.disk) self.old.state.outs files after) }
-        ensures written { (first : Base) (history : List Step) → self.old.kept ≡ length self.old.steps → StandsNow D.disk D.may_leave R.meaning first history [] self.new.disk → HaveNoneSealed first.outs
-            → OnOk result (AreWritten D.disk D.may_leave R.meaning first history self.new.disk) }
+            → OnOk result (AreCompleted (D.disk self.new.disk).may_leave self.old.state.outs files after) }
+        ensures written { (first : Base) (history : List Step) → self.old.kept ≡ length self.old.steps → StandsNow R.meaning first history [] (D.disk self.new.disk) → HaveNoneSealed first.outs
+            → OnOk result (AreWritten R.meaning first history (D.disk self.new.disk)) }
         ensures untold { (D.disk self.old.disk).told ≡ None → (D.disk self.new.disk).told ≡ None }
-        ensures kept { (first : Base) (past : List Step) → IsKept D.disk D.may_leave R.meaning first past self.old → IsKept D.disk D.may_leave R.meaning first past self.new }
-        ensures any_moment { (first : Base) (past : List Step) → IsKept D.disk D.may_leave R.meaning first past self.old
-            → Leaves D.disk D.left_since self.old.disk self.new.disk (StandsFor R.meaning first (past ++ durable_steps self.old) (waiting_steps self.old)) }
+        ensures kept { (first : Base) (past : List Step) → IsKept D.disk R.meaning first past self.old → IsKept D.disk R.meaning first past self.new }
+        ensures any_moment { (first : Base) (past : List Step) → IsKept D.disk R.meaning first past self.old
+            → Leaves (D.disk self.old.disk) (D.disk self.new.disk) (StandsFor R.meaning first (past ++ durable_steps self.old) (waiting_steps self.old)) }
         ensures failed { IsErrOf result BookFault.Disk → Rose (D.disk self.old.disk).faults (D.disk self.new.disk).faults }
         ensures count { (D.disk self.old.disk).faults ≤ (D.disk self.new.disk).faults }
     {

@@ -76,10 +76,10 @@ fn create_journal<D: Disk>(
     requires small { length first.now ≤ longest_base }
     ensures journal { IfOk result (λ j. j ≡ record { file = file; heading = heading_of 0; length = header_length + 1 + frame_length + length first.now; room = 0; broken = false }) }
     ensures at_rest { (files after : Image) → (D.disk disk.old).told ≡ Some files → (D.disk disk.new).told ≡ Some after
-        → IfOk result (λ j. IsAtRest j (D.may_leave disk.new) (first.now ∷ []) after) }
+        → IfOk result (λ j. IsAtRest j (D.disk disk.new).may_leave (first.now ∷ []) after) }
     ensures elsewhere { (files : Image) → (D.disk disk.old).told ≡ Some files → ChangesOnly files (D.disk disk.new).told file }
     ensures untold { (D.disk disk.old).told ≡ None → (D.disk disk.new).told ≡ None }
-    ensures crash_elsewhere { Adds D.may_leave disk.old disk.new (λ other. other ≢ file) }
+    ensures crash_elsewhere { Adds (D.disk disk.old) (D.disk disk.new) (λ other. other ≢ file) }
     ensures fault { (m : Meaning) (bundle : List ℕ) (told : Option Image) → IfErr result (IsCreateFault m bundle told) }
     ensures failed { IsErrOf result BookFault.Disk → Rose (D.disk disk.old).faults (D.disk disk.new).faults }
     ensures count { (D.disk disk.old).faults ≤ (D.disk disk.new).faults }
@@ -102,9 +102,9 @@ fn make_files<D: Disk>(
     ensures whole { IfOk result (λ made. made.1.broken ≡ false) }
     ensures length { IfOk result (λ made. made.1.length ≤ longest_waiting) }
     ensures root { (files after : Image) → (D.disk disk.old).told ≡ Some files → (D.disk disk.new).told ≡ Some after
-        → IfOk result (λ made. IsAtRest made.0 (D.may_leave disk.new) (number 0 ∷ []) after) }
+        → IfOk result (λ made. IsAtRest made.0 (D.disk disk.new).may_leave (number 0 ∷ []) after) }
     ensures journal { (files after : Image) → (D.disk disk.old).told ≡ Some files → (D.disk disk.new).told ≡ Some after
-        → IfOk result (λ made. IsAtRest made.1 (D.may_leave disk.new) (code.now ∷ []) after) }
+        → IfOk result (λ made. IsAtRest made.1 (D.disk disk.new).may_leave (code.now ∷ []) after) }
     ensures tells { (files : Image) → (D.disk disk.old).told ≡ Some files → Tells (D.disk disk.new).told }
     ensures untold { (D.disk disk.old).told ≡ None → (D.disk disk.new).told ≡ None }
     ensures fault { (m : Meaning) (bundle : List ℕ) (told : Option Image) → IfErr result (IsCreateFault m bundle told) }
@@ -141,11 +141,11 @@ pub fn make_store<D: Disk, R: Rules>(
     ensures whole { IfOk result (λ made. made.journal.broken ≡ false) }
     ensures length { IfOk result (λ made. made.journal.length ≤ longest_waiting) }
     ensures at_rest { (files after : Image) → (D.disk disk.old).told ≡ Some files → (D.disk disk.new).told ≡ Some after
-        → IfOk result (λ made. AreAtRest made.root made.journal (D.may_leave disk.new) 0 made.base.value [] after) }
+        → IfOk result (λ made. AreAtRest made.root made.journal (D.disk disk.new).may_leave 0 made.base.value [] after) }
     ensures tells { (files : Image) → (D.disk disk.old).told ≡ Some files → OnOk result (Tells (D.disk disk.new).told) }
     ensures empty { (files : Image) → (D.disk disk.old).told ≡ Some files → OnOk result (files root_file ≡ []) }
     ensures refused_empty { (files : Image) → (D.disk disk.old).told ≡ Some files → IsErrOf result BookFault.Refused → files root_file ≡ [] }
-    ensures left_alone { (files : Image) → (D.disk disk.old).told ≡ Some files → 0 < length (files root_file) → KeepsHistories D.disk D.may_leave D.left_since disk.old disk.new }
+    ensures left_alone { (files : Image) → (D.disk disk.old).told ≡ Some files → 0 < length (files root_file) → KeepsHistories (D.disk disk.old) (D.disk disk.new) }
     ensures fault { IfErr result (IsCreateFault R.meaning bundle.now (D.disk disk.old).told) }
     ensures untold { (D.disk disk.old).told ≡ None → (D.disk disk.new).told ≡ None }
     ensures failed { IsErrOf result BookFault.Disk → Rose (D.disk disk.old).faults (D.disk disk.new).faults }

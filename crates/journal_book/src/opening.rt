@@ -50,9 +50,9 @@ fn open_journal<D: Disk>(
     ensures short { IfOk result (λ found. behind_bodies found.1 < 2 ^ 64) }
     ensures bodies { (files : Image) → (D.disk disk.old).told ≡ Some files → IfOk result (λ found. HasBodies (heading_of generation) found.1 (files file)) }
     ensures at_rest { (files after : Image) → (D.disk disk.old).told ≡ Some files → (D.disk disk.new).told ≡ Some after
-        → IfOk result (λ found. IsAtRest found.0 (D.may_leave disk.new) found.1 after) }
+        → IfOk result (λ found. IsAtRest found.0 (D.disk disk.new).may_leave found.1 after) }
     ensures fault { (files : Image) → (D.disk disk.old).told ≡ Some files → IfErr result (IsFaultOf (heading_of generation) (files file)) }
-    ensures recovers { Recovers D.disk D.may_leave D.left_since file disk.old disk.new }
+    ensures recovers { Recovers file (D.disk disk.old) (D.disk disk.new) }
     ensures failed { IsErrOf result JournalFault.Disk → Rose (D.disk disk.old).faults (D.disk disk.new).faults }
 {
     match Journal::reopen(alloc, disk, file, generation) {
@@ -71,9 +71,9 @@ fn open_root<D: Disk>(alloc: Global, disk: &mut D) -> Result<(Journal, u64), Jou
     ensures given { IfOk result (λ found. found.1 ≤ last_given) }
     ensures named { (files : Image) → (D.disk disk.old).told ≡ Some files → IfOk result (λ found. NamesLast (files root_file) found.1) }
     ensures at_rest { (files after : Image) → (D.disk disk.old).told ≡ Some files → (D.disk disk.new).told ≡ Some after
-        → IfOk result (λ found. (before : List ℕ) × AllByRecursion (λ n. n ≤ last_given) (before ++ found.1 ∷ []) × IsAtRest found.0 (D.may_leave disk.new) (map number (before ++ found.1 ∷ [])) after) }
+        → IfOk result (λ found. (before : List ℕ) × AllByRecursion (λ n. n ≤ last_given) (before ++ found.1 ∷ []) × IsAtRest found.0 (D.disk disk.new).may_leave (map number (before ++ found.1 ∷ [])) after) }
     ensures fault { (files : Image) → (D.disk disk.old).told ≡ Some files → IfErr result (IsFileFault (IsDamagedFile (heading_of 0) NameNone (files root_file))) }
-    ensures recovers { Recovers D.disk D.may_leave D.left_since root_file disk.old disk.new }
+    ensures recovers { Recovers root_file (D.disk disk.old) (D.disk disk.new) }
     ensures failed { IsErrOf result JournalFault.Disk → Rose (D.disk disk.old).faults (D.disk disk.new).faults }
 {
     let (journal, bodies) = match open_journal(alloc, disk, ROOT, 0) {
@@ -99,10 +99,10 @@ fn open_generation<D: Disk, R: Rules>(
     ensures history { IfOk result (λ found. (bodies : List (List ℕ)) × AreHistory R.meaning bodies found.1.base.value found.1.steps
         × (found.0.length ≡ length (gate_file (heading_of generation) bodies 0))
         × ((files : Image) → (D.disk disk.old).told ≡ Some files → HasBodies (heading_of generation) bodies (files (generation_file generation)))
-        × ((files after : Image) → (D.disk disk.old).told ≡ Some files → (D.disk disk.new).told ≡ Some after → IsAtRest found.0 (D.may_leave disk.new) bodies after)) }
+        × ((files after : Image) → (D.disk disk.old).told ≡ Some files → (D.disk disk.new).told ≡ Some after → IsAtRest found.0 (D.disk disk.new).may_leave bodies after)) }
     ensures fault { (files : Image) → (D.disk disk.old).told ≡ Some files
         → IfErr result (IsFileFault (IsDamagedFile (heading_of generation) (AreNoHistory R.meaning) (files (generation_file generation)))) }
-    ensures recovers { Recovers D.disk D.may_leave D.left_since (generation_file generation) disk.old disk.new }
+    ensures recovers { Recovers (generation_file generation) (D.disk disk.old) (D.disk disk.new) }
     ensures failed { IsErrOf result JournalFault.Disk → Rose (D.disk disk.old).faults (D.disk disk.new).faults }
 {
     let (journal, bodies) = match open_journal(
@@ -129,7 +129,7 @@ fn check_outs<D: Disk, R: Rules>(disk: &mut D, core: &Core<R>) -> Result<(), Boo
     requires { length core.now.state.outs ≤ last_given + 1 }
     ensures long { (files : Image) → (D.disk disk.old).told ≡ Some files → OnOk result (AreLong 0 core.now.state.outs files) }
     ensures short { IfErr result (IsShortFault core.now.state.outs (D.disk disk.old).told) }
-    ensures reads { OnlyReads D.disk D.may_leave D.left_since disk.old disk.new }
+    ensures reads { OnlyReads (D.disk disk.old) (D.disk disk.new) }
     ensures failed { IsErrOf result BookFault.Disk → Rose (D.disk disk.old).faults (D.disk disk.new).faults }
 {
     let mut k = 0;
@@ -174,9 +174,9 @@ pub fn open_store<D: Disk, R: Rules>(
     ensures opens { (files : Image) → (D.disk disk.old).told ≡ Some files → IfOk result (λ found. Opens R.meaning files found.generation found.history.base.value found.history.steps) }
     ensures long { (files : Image) → (D.disk disk.old).told ≡ Some files → IfOk result (λ found. TellsLong (D.disk disk.new).told found.history.core.state.outs) }
     ensures at_rest { (files after : Image) → (D.disk disk.old).told ≡ Some files → (D.disk disk.new).told ≡ Some after
-        → IfOk result (λ found. AreAtRest found.root found.journal (D.may_leave disk.new) found.generation found.history.base.value found.history.steps after) }
+        → IfOk result (λ found. AreAtRest found.root found.journal (D.disk disk.new).may_leave found.generation found.history.base.value found.history.steps after) }
     ensures fault { IfErr result (IsReopenFault R.meaning (D.disk disk.old).told) }
-    ensures histories { KeepsHistories D.disk D.may_leave D.left_since disk.old disk.new }
+    ensures histories { KeepsHistories (D.disk disk.old) (D.disk disk.new) }
     ensures untold { (D.disk disk.old).told ≡ None → (D.disk disk.new).told ≡ None }
     ensures failed { IsErrOf result BookFault.Disk → Rose (D.disk disk.old).faults (D.disk disk.new).faults }
     ensures count { (D.disk disk.old).faults ≤ (D.disk disk.new).faults }

@@ -26,9 +26,9 @@ fn complete_one<D: Disk, R: Rules>(
     requires within { k < length core.now.state.outs }
     requires short { AreShort core.now.state.outs }
     ensures completed { (out : Output) (files after : Image) → slice_get core.now.state.outs k ≡ Some out → (D.disk disk.old).told ≡ Some files → (D.disk disk.new).told ≡ Some after
-        → OnOk result (IsCompleted (D.may_leave disk.new) (out_file k) out files after) }
+        → OnOk result (IsCompleted (D.disk disk.new).may_leave (out_file k) out files after) }
     ensures fault { (out : Output) → slice_get core.now.state.outs k ≡ Some out → IfErr result (IsFaultAt (out_file k) out.sealed_bytes (D.disk disk.old).told) }
-    ensures run { (out : Output) → slice_get core.now.state.outs k ≡ Some out → RunsIn D.disk D.may_leave D.left_since disk.old disk.new (out_file k) out.sealed_bytes }
+    ensures run { (out : Output) → slice_get core.now.state.outs k ≡ Some out → RunsIn (D.disk disk.old) (D.disk disk.new) (out_file k) out.sealed_bytes }
     ensures failed { IsErrOf result BookFault.Disk → Rose (D.disk disk.old).faults (D.disk disk.new).faults }
 {
     let file = out_file(k);
@@ -54,9 +54,9 @@ pub fn complete_all<D: Disk, R: Rules>(
 ) -> Result<(), BookFault>
     requires short { AreShort core.now.state.outs }
     ensures completed { (files after : Image) → (D.disk disk.old).told ≡ Some files → (D.disk disk.new).told ≡ Some after
-        → OnOk result (AreCompleted (D.may_leave disk.new) core.now.state.outs files after) }
+        → OnOk result (AreCompleted (D.disk disk.new).may_leave core.now.state.outs files after) }
     ensures fault { IfErr result (IsBringUpFault core.now.state.outs (D.disk disk.old).told) }
-    ensures run { RunsOut D.disk D.may_leave D.left_since disk.old disk.new core.now.state.outs IsNoOut }
+    ensures run { RunsOut (D.disk disk.old) (D.disk disk.new) core.now.state.outs IsNoOut }
     ensures failed { IsErrOf result BookFault.Disk → Rose (D.disk disk.old).faults (D.disk disk.new).faults }
 {
     'outputs: for k in 0..core.outs_len() {

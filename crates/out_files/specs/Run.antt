@@ -8,14 +8,14 @@ abbrev pub EachBegins : ℕ → List ℕ → (List ℕ → Type 0) → Type 0
 EachBegins sealed front may_leave = (c : List ℕ) → may_leave c → take sealed c ≡ front
 
 -- no other file changed, and a crash at any moment keeps the sealed bytes that each content had at the front
-pub record RunsAbove {D : Type 0} (disk : D → DiskView) (may_leave : D → ℕ → List ℕ → Type 0) (left_since : D → ℕ → Image → Type 0) (old new : D) (file sealed : ℕ) : Type 0 where
-  pub elsewhere : (files : Image) → (disk old).told ≡ Some files → ChangesOnly files (disk new).told file
-  pub untold : (disk old).told ≡ None → (disk new).told ≡ None
-  pub crash_elsewhere : Adds may_leave old new (λ other. other ≢ file)
-  pub crash : (front : List ℕ) → length front ≡ sealed → EachBegins sealed front (may_leave old file) → EachBegins sealed front (may_leave new file)
-  pub any_moment : (front : List ℕ) → length front ≡ sealed → EachBegins sealed front (may_leave old file)
-      → Leaves disk left_since old new (KeepsFront may_leave old file front)
-  pub count : (disk old).faults ≤ (disk new).faults
+pub record RunsAbove (old new : DiskView) (file sealed : ℕ) : Type 0 where
+  pub elsewhere : (files : Image) → old.told ≡ Some files → ChangesOnly files new.told file
+  pub untold : old.told ≡ None → new.told ≡ None
+  pub crash_elsewhere : Adds old new (λ other. other ≢ file)
+  pub crash : (front : List ℕ) → length front ≡ sealed → EachBegins sealed front (old.may_leave file) → EachBegins sealed front (new.may_leave file)
+  pub any_moment : (front : List ℕ) → length front ≡ sealed → EachBegins sealed front (old.may_leave file)
+      → Leaves old new (KeepsFront old file front)
+  pub count : old.faults ≤ new.faults
 
 -- how many bytes are gathered at least before they are written out
 abbrev pub piece_length : ℕ

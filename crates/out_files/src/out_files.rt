@@ -60,18 +60,18 @@ pub fn bring_up<D: Disk>(
     ensures length { IfOk result (λ n. n ≡ sealed + length (lines_text lines.now)) }
     ensures completed { (files after : Image) → (D.disk disk.old).told ≡ Some files → (D.disk disk.new).told ≡ Some after
         → OnOk result (after file ≡ completed (files file) sealed lines.now) }
-    ensures durable { (after : Image) → (D.disk disk.new).told ≡ Some after → OnOk result (Only (after file) (D.may_leave disk.new file)) }
+    ensures durable { (after : Image) → (D.disk disk.new).told ≡ Some after → OnOk result (Only (after file) ((D.disk disk.new).may_leave file)) }
     ensures fault { (files : Image) → (D.disk disk.old).told ≡ Some files → IfErr result (IsFaultOf (files file) sealed) }
     ensures long { (files : Image) → (D.disk disk.old).told ≡ Some files → OnOk result (sealed ≤ length (files file)) }
     ensures short { (have : ℕ) → IsErrOf result (OutFault.Short have) → (D.disk disk.new).told ≡ (D.disk disk.old).told }
     ensures elsewhere { (files : Image) → (D.disk disk.old).told ≡ Some files → ChangesOnly files (D.disk disk.new).told file }
     ensures untold { (D.disk disk.old).told ≡ None → (D.disk disk.new).told ≡ None }
-    ensures crash_elsewhere { Adds D.may_leave disk.old disk.new (λ other. other ≢ file) }
+    ensures crash_elsewhere { Adds (D.disk disk.old) (D.disk disk.new) (λ other. other ≢ file) }
 
     // Sealed bytes that every image has at the start are kept by a crash at any moment.
-    ensures any_moment { (front : List ℕ) → length front ≡ sealed → ((c : List ℕ) → D.may_leave disk.old file c → take sealed c ≡ front)
-        → Leaves D.disk D.left_since disk.old disk.new
-        (KeepsFront D.may_leave disk.old file front) }
+    ensures any_moment { (front : List ℕ) → length front ≡ sealed → ((c : List ℕ) → (D.disk disk.old).may_leave file c → take sealed c ≡ front)
+        → Leaves (D.disk disk.old) (D.disk disk.new)
+        (KeepsFront (D.disk disk.old) file front) }
     ensures failed { IsErrOf result OutFault.Disk → Rose (D.disk disk.old).faults (D.disk disk.new).faults }
     ensures count { (D.disk disk.old).faults ≤ (D.disk disk.new).faults }
 
@@ -122,7 +122,7 @@ fn write_lines<D: Disk>(
     ensures end { IfOk result (λ n. n ≡ sealed + length (lines_text lines.now)) }
     ensures written { (files after : Image) → (D.disk disk.old).told ≡ Some files → (D.disk disk.new).told ≡ Some after
         → IfOk result (λ n. IsSoFar (after file) n [] (completed (files file) sealed lines.now)) }
-    ensures run { RunsAbove D.disk D.may_leave D.left_since disk.old disk.new file sealed }
+    ensures run { RunsAbove (D.disk disk.old) (D.disk disk.new) file sealed }
     ensures failed { IsErr result → Rose (D.disk disk.old).faults (D.disk disk.new).faults }
 {
     let mut at = sealed;
@@ -161,7 +161,7 @@ fn write_out<D: Disk>(
     ensures written { (files after : Image) (text : List ℕ) → (D.disk disk.old).told ≡ Some files → (D.disk disk.new).told ≡ Some after
         → IsSoFar (files file) at buffer.old.items text → IfOk result (λ n. IsSoFar (after file) n buffer.new.items text) }
     ensures run { (sealed : ℕ) → sealed ≤ at
-        → RunsAbove D.disk D.may_leave D.left_since disk.old disk.new file sealed }
+        → RunsAbove (D.disk disk.old) (D.disk disk.new) file sealed }
     ensures failed { IsErr result → Rose (D.disk disk.old).faults (D.disk disk.new).faults }
 {
     if buffer.len() < least {

@@ -1,7 +1,7 @@
 -- A disk that no call has changed.
 use Rattle.edge_traits.specs.Disk.{DiskView, Image, IsImage}
 use Rattle.edge_traits.proofs.Moments.{started}
-use Rattle.std.proofs.Common.{◌≡◌, ◌≢◌, ◌<◌, ◌≤◌, ⊎_elim, ℕ, List, refl, arith}
+use Rattle.std.proofs.Common.{◌≡◌, ◌≢◌, ◌<◌, ◌≤◌, ⊎_elim, ℕ, refl, arith}
 use Rattle.edge_traits.specs.Count.{last_count, Rose}
 use Rattle.store_commands.specs.declared.end.StoreEnd.{StoreEnd}
 use Rattle.store_commands.specs.declared.end.StoreEnd.TheVariants as made
@@ -11,22 +11,22 @@ use Rattle.pipeline_top.specs.Commands.{IsDrillEnd, IsStill, IsUndrilled}
 use Rattle.pipeline_top.specs.Outside.{Seen}
 use Rattle.pipeline_top.specs.Statuses.{store_status}
 
-pub still_here : {D : Type 0} (disk : D → DiskView) (may_leave : D → ℕ → List ℕ → Type 0) (left_since : D → ℕ → Image → Type 0) (d : D) → ((image : Image) → left_since d (disk d).moment image → IsImage (may_leave d) image) → IsStill disk may_leave left_since d d
-still_here disk may_leave left_since d only = λ first steps more was. record { any_moment = started (λ image left. was.each image (only image left)); now = was }
+pub still_here : (d : DiskView) → ((image : Image) → d.left_since d.moment image → IsImage d.may_leave image) → IsStill d d
+still_here d only = λ first steps more was. record { any_moment = started (λ image left. was.each image (only image left)); now = was }
 
 -- nothing is done where no store was made
-pub not_drilled : {D : Type 0} (disk : D → DiskView) (may_leave : D → ℕ → List ℕ → Type 0) (left_since : D → ℕ → Image → Type 0) (lines number : ℕ) (seen : Seen) (mid new : D) (end : Status) (making : StoreEnd)
-    → making ≢ made.Done → IsUndrilled seen mid new end making → IsDrillEnd disk may_leave left_since lines number seen mid new end making
-not_drilled disk may_leave left_since lines number seen mid new end made.Done other is = absurd (other refl)
-not_drilled disk may_leave left_since lines number seen mid new end made.Memory other is = is
-not_drilled disk may_leave left_since lines number seen mid new end made.Disk other is = is
-not_drilled disk may_leave left_since lines number seen mid new end made.Sink other is = is
-not_drilled disk may_leave left_since lines number seen mid new end (made.Store have) other is = is
-not_drilled disk may_leave left_since lines number seen mid new end (made.Damaged file at) other is = is
-not_drilled disk may_leave left_since lines number seen mid new end made.Refused other is = is
-not_drilled disk may_leave left_since lines number seen mid new end (made.NoDump n) other is = is
-not_drilled disk may_leave left_since lines number seen mid new end (made.Spent next) other is = is
-not_drilled disk may_leave left_since lines number seen mid new end (made.Full bytes) other is = is
+pub not_drilled : {D : Type 0} (disk : D → DiskView) (lines number : ℕ) (seen : Seen) (mid new : D) (end : Status) (making : StoreEnd)
+    → making ≢ made.Done → IsUndrilled seen mid new end making → IsDrillEnd disk lines number seen mid new end making
+not_drilled disk lines number seen mid new end made.Done other is = absurd (other refl)
+not_drilled disk lines number seen mid new end made.Memory other is = is
+not_drilled disk lines number seen mid new end made.Disk other is = is
+not_drilled disk lines number seen mid new end made.Sink other is = is
+not_drilled disk lines number seen mid new end (made.Store have) other is = is
+not_drilled disk lines number seen mid new end (made.Damaged file at) other is = is
+not_drilled disk lines number seen mid new end made.Refused other is = is
+not_drilled disk lines number seen mid new end (made.NoDump n) other is = is
+not_drilled disk lines number seen mid new end (made.Spent next) other is = is
+not_drilled disk lines number seen mid new end (made.Full bytes) other is = is
 
 -- the output failed only where the command on the store says so
 pub ends_sink : (e : StoreEnd) (s : Status) → s ≡ store_status e → s ≡ status.Sink → e ≡ made.Sink

@@ -65,63 +65,63 @@ pub record IsChecked (name : List ℕ) (seen : Seen) (end : Status) : Type 0 whe
 -- ---- commands on a store, on a disk as it was and as it comes back
 
 -- nothing of a history changes, at any moment of the call and behind it
-abbrev pub IsStill : {D : Type 0} → (D → DiskView) → (D → ℕ → List ℕ → Type 0) → (D → ℕ → Image → Type 0) → D → D → Type 0
-IsStill disk may_leave left_since old new = (first : Base) (steps more : List Step) → StandsNow disk may_leave intel first steps more old → StandsOn disk may_leave left_since intel first steps more old new
+abbrev pub IsStill : DiskView → DiskView → Type 0
+IsStill old new = (first : Base) (steps more : List Step) → StandsNow intel first steps more old → StandsOn intel first steps more old new
 
 -- where the disk tells what it holds
-abbrev pub WhereTold : {D : Type 0} → (D → DiskView) → D → (Image → Type 0) → Type 0
-WhereTold disk old passes = (files : Image) → (disk old).told ≡ Some files → passes files
+abbrev pub WhereTold : DiskView → (Image → Type 0) → Type 0
+WhereTold old passes = (files : Image) → old.told ≡ Some files → passes files
 
 -- behind a command that ended so, each output's file is all lines of the history that the disk stands for, where that began with
 -- nothing sealed
-abbrev pub HasOutputsAt : {D : Type 0} → (D → DiskView) → (D → ℕ → List ℕ → Type 0) → D → StoreEnd → Type 0
-HasOutputsAt disk may_leave new done =
-    (first : Base) (history : List Step) → StandsNow disk may_leave intel first history [] new → HaveNoneSealed first.outs → AreWrittenAt done (AreWritten disk may_leave intel first history new)
+abbrev pub HasOutputsAt : DiskView → StoreEnd → Type 0
+HasOutputsAt new done =
+    (first : Base) (history : List Step) → StandsNow intel first history [] new → HaveNoneSealed first.outs → AreWrittenAt done (AreWritten intel first history new)
 
 -- a store of this bundle was made, or one was there, which is left alone
-pub record IsMadeOf {D : Type 0} (disk : D → DiskView) (may_leave : D → ℕ → List ℕ → Type 0) (left_since : D → ℕ → Image → Type 0) (seen : Seen) (end : Status) (old new : D) (found : Bundle × Plan) : Type 0 where
+pub record IsMadeOf (seen : Seen) (end : Status) (old new : DiskView) (found : Bundle × Plan) : Type 0 where
   pub done : StoreEnd
   pub end_is : end ≡ store_status done
-  pub made : WhereTold disk old (λ files. IsMade intel files (bundle_code found.0) done seen.sink seen.sink_now)
-  pub begun : WhereTold disk old (λ files. IsMadeWhole done → IsBegun disk may_leave intel (bundle_code found.0) new)
-  pub left_alone : IsStill disk may_leave left_since old new
+  pub made : WhereTold old (λ files. IsMade intel files (bundle_code found.0) done seen.sink seen.sink_now)
+  pub begun : WhereTold old (λ files. IsMadeWhole done → IsBegun intel (bundle_code found.0) new)
+  pub left_alone : IsStill old new
 
 -- the bundle wasn't brought: that is told where there is no store
-abbrev pub IsUnmadeEnd : {D : Type 0} → (D → DiskView) → D → Unbrought → Status → Type 0
-IsUnmadeEnd disk old why end =
-    (end ≡ status.Disk) ⊎ ((have : ℕ) × (0 < have) × (end ≡ status.Store have) × WhereTold disk old (λ files. have ≡ length (files root_file)))
-    ⊎ ((end ≡ unbrought_status why) × WhereTold disk old (λ files. files root_file ≡ []))
+abbrev pub IsUnmadeEnd : DiskView → Unbrought → Status → Type 0
+IsUnmadeEnd old why end =
+    (end ≡ status.Disk) ⊎ ((have : ℕ) × (0 < have) × (end ≡ status.Store have) × WhereTold old (λ files. have ≡ length (files root_file)))
+    ⊎ ((end ≡ unbrought_status why) × WhereTold old (λ files. files root_file ≡ []))
 
-pub record IsUnmade {D : Type 0} (disk : D → DiskView) (may_leave : D → ℕ → List ℕ → Type 0) (left_since : D → ℕ → Image → Type 0) (seen : Seen) (end : Status) (old new : D) (why : Unbrought) : Type 0 where
-  pub ends : IsUnmadeEnd disk old why end
+pub record IsUnmade (seen : Seen) (end : Status) (old new : DiskView) (why : Unbrought) : Type 0 where
+  pub ends : IsUnmadeEnd old why end
   pub nothing : Took seen.sink seen.sink_now []
-  pub still : IsStill disk may_leave left_since old new
+  pub still : IsStill old new
 
-pub record IsInit {D : Type 0} (disk : D → DiskView) (may_leave : D → ℕ → List ℕ → Type 0) (left_since : D → ℕ → Image → Type 0) (name : List ℕ) (seen : Seen) (old new : D) (end : Status) : Type 0 where
+pub record IsInit (name : List ℕ) (seen : Seen) (old new : DiskView) (end : Status) : Type 0 where
   pub brought : Result (Bundle × Plan) Unbrought
   pub brings : Brings seen.shelf name brought
-  pub done : MatchResult brought (IsMadeOf disk may_leave left_since seen end old new) (IsUnmade disk may_leave left_since seen end old new)
+  pub done : MatchResult brought (IsMadeOf seen end old new) (IsUnmade seen end old new)
 
 -- the store was drained: with the bundle of this code put in force, if one is named
-pub record IsDrainedBy {D : Type 0} (disk : D → DiskView) (may_leave : D → ℕ → List ℕ → Type 0) (left_since : D → ℕ → Image → Type 0) (ask : asked.Ask) (seen : Seen) (end : Status) (old new : D) (bundle : Option (List ℕ)) : Type 0 where
+pub record IsDrainedBy (ask : asked.Ask) (seen : Seen) (end : Status) (old new : DiskView) (bundle : Option (List ℕ)) : Type 0 where
   pub done : DrainEnd
   pub end_is : end ≡ drain_status ask.steps done
   pub shelf : ShelfView
   pub same_shelf : shelf.told ≡ seen.shelf.told
-  pub drained : WhereTold disk old (λ files. IsDrainCall disk may_leave left_since (outside intel shelf seen.clock most_step_bytes) files (record { opening = record { bundle = bundle; rounds = ask.round }; left = ask.steps }) old new done seen.sink seen.sink_now)
+  pub drained : WhereTold old (λ files. IsDrainCall (outside intel shelf seen.clock most_step_bytes) files (record { opening = record { bundle = bundle; rounds = ask.round }; left = ask.steps }) old new done seen.sink seen.sink_now)
 
 -- the bundle wasn't brought: that is told behind what opening the store comes to, and no step is made
-pub record IsUndrained {D : Type 0} (disk : D → DiskView) (may_leave : D → ℕ → List ℕ → Type 0) (left_since : D → ℕ → Image → Type 0) (seen : Seen) (end : Status) (old new : D) (why : Unbrought) : Type 0 where
+pub record IsUndrained (seen : Seen) (end : Status) (old new : DiskView) (why : Unbrought) : Type 0 where
   pub done : StoreEnd
   pub end_is : end ≡ behind_store done (unbrought_status why)
-  pub completed : WhereTold disk old (λ files. IsCompleted intel files (is_said why) done seen.sink seen.sink_now)
-  pub written : HasOutputsAt disk may_leave new done
-  pub still : IsStill disk may_leave left_since old new
+  pub completed : WhereTold old (λ files. IsCompleted intel files (is_said why) done seen.sink seen.sink_now)
+  pub written : HasOutputsAt new done
+  pub still : IsStill old new
 
-pub record IsDrained {D : Type 0} (disk : D → DiskView) (may_leave : D → ℕ → List ℕ → Type 0) (left_since : D → ℕ → Image → Type 0) (ask : asked.Ask) (seen : Seen) (old new : D) (end : Status) : Type 0 where
+pub record IsDrained (ask : asked.Ask) (seen : Seen) (old new : DiskView) (end : Status) : Type 0 where
   pub named : Result (Option (List ℕ)) Unbrought
   pub names : Names seen.shelf ask.reload named
-  pub done : MatchResult named (IsDrainedBy disk may_leave left_since ask seen end old new) (IsUndrained disk may_leave left_since seen end old new)
+  pub done : MatchResult named (IsDrainedBy ask seen end old new) (IsUndrained seen end old new)
 
 -- a drill is a drain of all turns
 abbrev pub no_ask : asked.Ask
@@ -132,56 +132,56 @@ abbrev pub IsUndrilled : {D : Type 0} → Seen → D → D → Status → StoreE
 IsUndrilled seen mid new end making = (end ≡ store_status making) × (new ≡ mid) × Took seen.sink seen.sink_now []
 
 -- what comes behind the making of the drill's store, which ended so: its feed is drained, or no store was made
-abbrev pub IsDrillEnd : {D : Type 0} → (D → DiskView) → (D → ℕ → List ℕ → Type 0) → (D → ℕ → Image → Type 0) → (lines number : ℕ) → Seen → D → D → Status → StoreEnd → Type 0
-IsDrillEnd disk may_leave left_since lines number seen mid new end ended.Done = IsDrainedBy disk may_leave left_since no_ask (record seen { shelf = drill_shelf lines number }) end mid new None
-IsDrillEnd disk may_leave left_since lines number seen mid new end ended.Memory = IsUndrilled seen mid new end ended.Memory
-IsDrillEnd disk may_leave left_since lines number seen mid new end ended.Disk = IsUndrilled seen mid new end ended.Disk
-IsDrillEnd disk may_leave left_since lines number seen mid new end ended.Sink = IsUndrilled seen mid new end ended.Sink
-IsDrillEnd disk may_leave left_since lines number seen mid new end (ended.Store have) = IsUndrilled seen mid new end (ended.Store have)
-IsDrillEnd disk may_leave left_since lines number seen mid new end ended.Refused = IsUndrilled seen mid new end ended.Refused
-IsDrillEnd disk may_leave left_since lines number seen mid new end (ended.Damaged file at) = IsUndrilled seen mid new end (ended.Damaged file at)
-IsDrillEnd disk may_leave left_since lines number seen mid new end (ended.NoDump n) = IsUndrilled seen mid new end (ended.NoDump n)
-IsDrillEnd disk may_leave left_since lines number seen mid new end (ended.Spent next) = IsUndrilled seen mid new end (ended.Spent next)
-IsDrillEnd disk may_leave left_since lines number seen mid new end (ended.Full bytes) = IsUndrilled seen mid new end (ended.Full bytes)
+abbrev pub IsDrillEnd : {D : Type 0} → (D → DiskView) → (lines number : ℕ) → Seen → D → D → Status → StoreEnd → Type 0
+IsDrillEnd disk lines number seen mid new end ended.Done = IsDrainedBy no_ask (record seen { shelf = drill_shelf lines number }) end (disk mid) (disk new) None
+IsDrillEnd disk lines number seen mid new end ended.Memory = IsUndrilled seen mid new end ended.Memory
+IsDrillEnd disk lines number seen mid new end ended.Disk = IsUndrilled seen mid new end ended.Disk
+IsDrillEnd disk lines number seen mid new end ended.Sink = IsUndrilled seen mid new end ended.Sink
+IsDrillEnd disk lines number seen mid new end (ended.Store have) = IsUndrilled seen mid new end (ended.Store have)
+IsDrillEnd disk lines number seen mid new end ended.Refused = IsUndrilled seen mid new end ended.Refused
+IsDrillEnd disk lines number seen mid new end (ended.Damaged file at) = IsUndrilled seen mid new end (ended.Damaged file at)
+IsDrillEnd disk lines number seen mid new end (ended.NoDump n) = IsUndrilled seen mid new end (ended.NoDump n)
+IsDrillEnd disk lines number seen mid new end (ended.Spent next) = IsUndrilled seen mid new end (ended.Spent next)
+IsDrillEnd disk lines number seen mid new end (ended.Full bytes) = IsUndrilled seen mid new end (ended.Full bytes)
 
 -- a store of the drill's bundle was made, on a disk as it was then, and the feed of so many lines that the number gives was
 -- drained into it; or a store was there, which is left alone
-pub record IsDrilled {D : Type 0} (disk : D → DiskView) (may_leave : D → ℕ → List ℕ → Type 0) (left_since : D → ℕ → Image → Type 0) (lines number : ℕ) (seen : Seen) (old new : D) (end : Status) : Type 0 where
+pub record IsDrilled {D : Type 0} (disk : D → DiskView) (lines number : ℕ) (seen : Seen) (old new : D) (end : Status) : Type 0 where
   pub mid : D
   pub making : StoreEnd
-  pub made : WhereTold disk old (λ files. IsNewStore intel files (bundle_code drill_bundle) making)
-  pub begun : WhereTold disk old (λ files. making ≡ ended.Done → IsBegun disk may_leave intel (bundle_code drill_bundle) mid)
-  pub left_alone : IsStill disk may_leave left_since old mid
-  pub done : IsDrillEnd disk may_leave left_since lines number seen mid new end making
+  pub made : WhereTold (disk old) (λ files. IsNewStore intel files (bundle_code drill_bundle) making)
+  pub begun : WhereTold (disk old) (λ files. making ≡ ended.Done → IsBegun intel (bundle_code drill_bundle) (disk mid))
+  pub left_alone : IsStill (disk old) (disk mid)
+  pub done : IsDrillEnd disk lines number seen mid new end making
 
 -- what is asked for of a store's state is printed
-pub record IsShownBy {D : Type 0} (disk : D → DiskView) (may_leave : D → ℕ → List ℕ → Type 0) (left_since : D → ℕ → Image → Type 0) (what : Shown) (seen : Seen) (old new : D) (end : Status) : Type 0 where
+pub record IsShownBy (what : Shown) (seen : Seen) (old new : DiskView) (end : Status) : Type 0 where
   pub done : StoreEnd
   pub end_is : end ≡ store_status done
-  pub shown : WhereTold disk old (λ files. IsShown intel files what done seen.sink seen.sink_now)
-  pub still : IsStill disk may_leave left_since old new
+  pub shown : WhereTold old (λ files. IsShown intel files what done seen.sink seen.sink_now)
+  pub still : IsStill old new
 
 -- a dump is redone, when the clock may show this moment
-pub record IsRedoneBy {D : Type 0} (disk : D → DiskView) (may_leave : D → ℕ → List ℕ → Type 0) (left_since : D → ℕ → Image → Type 0) (dump : ℕ) (seen : Seen) (old new : D) (end : Status) : Type 0 where
+pub record IsRedoneBy (dump : ℕ) (seen : Seen) (old new : DiskView) (end : Status) : Type 0 where
   pub done : StoreEnd
   pub end_is : end ≡ store_status done
   pub now : ℕ
   pub shows : (told : ℕ) → seen.clock ≡ Some told → now ≡ told
-  pub redone : WhereTold disk old (λ files. IsRedone intel files dump now done seen.sink seen.sink_now)
-  pub written : HasOutputsAt disk may_leave new done
-  pub stands : (first : Base) (steps more : List Step) → StandsNow disk may_leave intel first steps more old
-      → IsRedoCall done (StandsOn disk may_leave left_since intel first steps more old new) (RedoesStep disk may_leave left_since intel first steps more old new dump now)
+  pub redone : WhereTold old (λ files. IsRedone intel files dump now done seen.sink seen.sink_now)
+  pub written : HasOutputsAt new done
+  pub stands : (first : Base) (steps more : List Step) → StandsNow intel first steps more old
+      → IsRedoCall done (StandsOn intel first steps more old new) (RedoesStep intel first steps more old new dump now)
 
 -- ---- all
 
 -- the command is done; words that are none do nothing
-abbrev pub IsTool : {D : Type 0} → (D → DiskView) → (D → ℕ → List ℕ → Type 0) → (D → ℕ → Image → Type 0) → Option asked.Command → Seen → D → D → Status → Type 0
-IsTool disk may_leave left_since None seen old new end = (end ≡ status.Words) × (seen.sink_now ≡ seen.sink) × (new ≡ old)
-IsTool disk may_leave left_since (Some (asked.Convert feed)) seen old new end = IsConverted feed seen end × (new ≡ old)
-IsTool disk may_leave left_since (Some (asked.Check bundle)) seen old new end = IsChecked bundle seen end × (new ≡ old)
-IsTool disk may_leave left_since (Some (asked.Init bundle)) seen old new end = IsInit disk may_leave left_since bundle seen old new end
-IsTool disk may_leave left_since (Some (asked.Drain ask)) seen old new end = IsDrained disk may_leave left_since ask seen old new end
-IsTool disk may_leave left_since (Some asked.Status) seen old new end = IsShownBy disk may_leave left_since shown.State seen old new end
-IsTool disk may_leave left_since (Some asked.Dumps) seen old new end = IsShownBy disk may_leave left_since shown.Dumps seen old new end
-IsTool disk may_leave left_since (Some (asked.Redo dump)) seen old new end = IsRedoneBy disk may_leave left_since dump seen old new end
-IsTool disk may_leave left_since (Some (asked.Drill lines number)) seen old new end = IsDrilled disk may_leave left_since lines number seen old new end
+abbrev pub IsTool : {D : Type 0} → (D → DiskView) → Option asked.Command → Seen → D → D → Status → Type 0
+IsTool disk None seen old new end = (end ≡ status.Words) × (seen.sink_now ≡ seen.sink) × (new ≡ old)
+IsTool disk (Some (asked.Convert feed)) seen old new end = IsConverted feed seen end × (new ≡ old)
+IsTool disk (Some (asked.Check bundle)) seen old new end = IsChecked bundle seen end × (new ≡ old)
+IsTool disk (Some (asked.Init bundle)) seen old new end = IsInit bundle seen (disk old) (disk new) end
+IsTool disk (Some (asked.Drain ask)) seen old new end = IsDrained ask seen (disk old) (disk new) end
+IsTool disk (Some asked.Status) seen old new end = IsShownBy shown.State seen (disk old) (disk new) end
+IsTool disk (Some asked.Dumps) seen old new end = IsShownBy shown.Dumps seen (disk old) (disk new) end
+IsTool disk (Some (asked.Redo dump)) seen old new end = IsRedoneBy dump seen (disk old) (disk new) end
+IsTool disk (Some (asked.Drill lines number)) seen old new end = IsDrilled disk lines number seen old new end

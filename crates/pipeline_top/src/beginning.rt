@@ -29,7 +29,7 @@ pub fn init<H: Shelf, D: Disk, S: Sink>(
     disk: D,
     out: &mut S,
 ) -> (Status, D)
-    ensures begun { (clock : Option ℕ) → IsInit D.disk D.may_leave D.left_since name.now (record { shelf = H.shelf shelf.old; sink = S.sink out.old; sink_now = S.sink out.new; clock = clock }) disk result.1 result.0 }
+    ensures begun { (clock : Option ℕ) → IsInit name.now (record { shelf = H.shelf shelf.old; sink = S.sink out.old; sink_now = S.sink out.new; clock = clock }) (D.disk disk) (D.disk result.1) result.0 }
     ensures words { result.0 ≢ Status.Words }
     ensures disk { result.0 ≡ Status.Disk → Rose (D.disk disk).faults (D.disk result.1).faults }
     ensures sink { result.0 ≡ Status.Sink → Rose (S.sink out.old).faults (S.sink out.new).faults }
@@ -56,7 +56,7 @@ fn make<D: Disk, S: Sink>(
     requires coded { IsBundle bundle.now }
     requires loads { loaded bundle.now ≡ Ok plan.now }
     ensures made { (seen : Seen) → seen.sink ≡ S.sink out.old → seen.sink_now ≡ S.sink out.new
-        → IsMadeOf D.disk D.may_leave D.left_since seen result.0 disk result.1 (bundle.now, plan.now) }
+        → IsMadeOf seen result.0 (D.disk disk) (D.disk result.1) (bundle.now, plan.now) }
     ensures words { result.0 ≢ Status.Words }
     ensures feed { (other : List ℕ) → result.0 ≡ Status.Feed other FailedWhy → ⊥ }
     ensures disk { result.0 ≡ Status.Disk → Rose (D.disk disk).faults (D.disk result.1).faults }
@@ -75,7 +75,7 @@ fn make<D: Disk, S: Sink>(
 
 // A store that is there is told ahead of what is wrong with the bundle.
 fn unmade<D: Disk>(disk: D, why: Unbrought) -> (Status, D)
-    ensures unmade { (seen : Seen) → seen.sink_now ≡ seen.sink → IsUnmade D.disk D.may_leave D.left_since seen result.0 disk result.1 why }
+    ensures unmade { (seen : Seen) → seen.sink_now ≡ seen.sink → IsUnmade seen result.0 (D.disk disk) (D.disk result.1) why }
     ensures words { result.0 ≢ Status.Words }
     ensures feed { (other : List ℕ) → result.0 ≡ Status.Feed other FailedWhy → unbrought_status why ≡ Status.Feed other FailedWhy }
     ensures disk { result.0 ≡ Status.Disk → Rose (D.disk disk).faults (D.disk result.1).faults }

@@ -30,7 +30,7 @@ pub fn drain<H: Shelf, D: Disk, S: Sink, C: Clock>(
     out: &mut S,
     clock: &C,
 ) -> (Status, D)
-    ensures drained { IsDrained D.disk D.may_leave D.left_since (ask_of ask.entry) (record { shelf = H.shelf shelf.old; sink = S.sink out.old; sink_now = S.sink out.new; clock = C.told clock.now }) disk result.1 result.0 }
+    ensures drained { IsDrained (ask_of ask.entry) (record { shelf = H.shelf shelf.old; sink = S.sink out.old; sink_now = S.sink out.new; clock = C.told clock.now }) (D.disk disk) (D.disk result.1) result.0 }
     ensures words { result.0 ≢ Status.Words }
     ensures disk { result.0 ≡ Status.Disk → Rose (D.disk disk).faults (D.disk result.1).faults }
     ensures sink { result.0 ≡ Status.Sink → Rose (S.sink out.old).faults (S.sink out.new).faults }
@@ -58,7 +58,7 @@ pub(crate) fn drain_with<H: Shelf, D: Disk, S: Sink, C: Clock>(
 ) -> (Status, D)
     requires loads { (code : List ℕ) → bundle ≡ Some code → IsSome (intel.facts code) }
     ensures drained { (before : ShelfView) → (H.shelf shelf.old).told ≡ before.told
-        → IsDrainedBy D.disk D.may_leave D.left_since (ask_of ask.entry) (record { shelf = before; sink = S.sink out.old; sink_now = S.sink out.new; clock = C.told clock.now }) result.0 disk result.1 bundle }
+        → IsDrainedBy (ask_of ask.entry) (record { shelf = before; sink = S.sink out.old; sink_now = S.sink out.new; clock = C.told clock.now }) result.0 (D.disk disk) (D.disk result.1) bundle }
     ensures words { result.0 ≢ Status.Words }
     ensures disk { result.0 ≡ Status.Disk → Rose (D.disk disk).faults (D.disk result.1).faults }
     ensures sink { result.0 ≡ Status.Sink → Rose (S.sink out.old).faults (S.sink out.new).faults }
@@ -90,7 +90,7 @@ pub(crate) fn drain_with<H: Shelf, D: Disk, S: Sink, C: Clock>(
 // A store that can't be opened is told ahead of what is wrong with the bundle. No step is made.
 fn undrained<D: Disk, S: Sink>(alloc: Global, disk: D, why: Unbrought, out: &mut S) -> (Status, D)
     ensures undrained { (seen : Seen) → seen.sink ≡ S.sink out.old → seen.sink_now ≡ S.sink out.new
-        → IsUndrained D.disk D.may_leave D.left_since seen result.0 disk result.1 why }
+        → IsUndrained seen result.0 (D.disk disk) (D.disk result.1) why }
     ensures words { result.0 ≢ Status.Words }
     ensures feed { (other : List ℕ) → result.0 ≡ Status.Feed other FailedWhy → unbrought_status why ≡ Status.Feed other FailedWhy }
     ensures disk { result.0 ≡ Status.Disk → Rose (D.disk disk).faults (D.disk result.1).faults }

@@ -35,7 +35,7 @@ pub fn drill<D: Disk, S: Sink, C: Clock>(
     out: &mut S,
     clock: &C,
 ) -> (Status, D)
-    ensures drilled { (shelf : ShelfView) → IsDrilled D.disk D.may_leave D.left_since lines number (record { shelf = shelf; sink = S.sink out.old; sink_now = S.sink out.new; clock = C.told clock.now }) disk result.1 result.0 }
+    ensures drilled { (shelf : ShelfView) → IsDrilled D.disk lines number (record { shelf = shelf; sink = S.sink out.old; sink_now = S.sink out.new; clock = C.told clock.now }) disk result.1 result.0 }
     ensures words { result.0 ≢ Status.Words }
     ensures feed { (name : List ℕ) → result.0 ≢ Status.Feed name FailedWhy }
     ensures disk { result.0 ≡ Status.Disk → Rose (D.disk disk).faults (D.disk result.1).faults }
@@ -72,7 +72,7 @@ fn drill_with<D: Disk, S: Sink, C: Clock>(
 ) -> (Status, D)
     requires bundle { bundle.now ≡ bundle_code drill_bundle }
     ensures drilled { (other : ShelfView) (lines number : ℕ) → ⟦<DrillShelf as Shelf>⟧.shelf shelf ≡ drill_shelf lines number
-        → IsDrilled D.disk D.may_leave D.left_since lines number (record { shelf = other; sink = S.sink out.old; sink_now = S.sink out.new; clock = C.told clock.now }) disk result.1 result.0 }
+        → IsDrilled D.disk lines number (record { shelf = other; sink = S.sink out.old; sink_now = S.sink out.new; clock = C.told clock.now }) disk result.1 result.0 }
     ensures words { result.0 ≢ Status.Words }
     ensures feed { (name : List ℕ) → result.0 ≢ Status.Feed name FailedWhy }
     ensures disk { result.0 ≡ Status.Disk → Rose (D.disk disk).faults (D.disk result.1).faults }

@@ -1,7 +1,7 @@
 -- Completing the outputs of a book makes no step.
-use Rattle.std.proofs.Common.{◌≡◌, ◌≢◌, ◌⊎◌, ⊎_elim, ◌≤◌, ◌++◌, ℕ, List, [], length, true, Result, Ok, Err, refl, sym, ap, subst, ◌∙◌, arith}
+use Rattle.std.proofs.Common.{◌≡◌, ◌≢◌, ◌⊎◌, ⊎_elim, ◌≤◌, ◌++◌, List, [], length, true, Result, Ok, Err, refl, sym, ap, subst, ◌∙◌, arith}
 use Rattle.std.specs.Prelude.{IfErr, IsErrOf, OnOk}
-use Rattle.edge_traits.specs.Disk.{DiskView, Image, Leaves}
+use Rattle.edge_traits.specs.Disk.{DiskView, Leaves}
 use Rattle.step_code.specs.declared.base.Base.{Base}
 use Rattle.step_code.specs.declared.step.Step.{Step}
 use Rattle.step_code.specs.Rules.{Meaning}
@@ -32,17 +32,17 @@ module _ {D R : Type 0} (old new : BookView D R) where
   durable_behind (Err fault.Refused) is other = all_kept (is.still (λ e. absurd (cc)))
   durable_behind (Err fault.OutOfMemory) is other = all_kept (is.still (λ e. absurd (cc)))
 
-module _ {D R : Type 0} {disk : D → DiskView} {may_leave : D → ℕ → List ℕ → Type 0} {left_since : D → ℕ → Image → Type 0} {m : Meaning} (old new : BookView D R)
-    (kept : (first : Base) (past : List Step) → IsKept disk may_leave m first past old → IsKept disk may_leave m first past new)
-    (leaves : (first : Base) (past : List Step) → IsKept disk may_leave m first past old → Leaves disk left_since old.disk new.disk (StandsFor m first (past ++ durable_steps old) (waiting_steps old))) where
-  by_all : new ≡ record old { disk = new.disk; kept = length old.steps } → GoesOn disk may_leave left_since m old new []
+module _ {D R : Type 0} {disk : D → DiskView} {m : Meaning} (old new : BookView D R)
+    (kept : (first : Base) (past : List Step) → IsKept disk m first past old → IsKept disk m first past new)
+    (leaves : (first : Base) (past : List Step) → IsKept disk m first past old → Leaves (disk old.disk) (disk new.disk) (StandsFor m first (past ++ durable_steps old) (waiting_steps old))) where
+  by_all : new ≡ record old { disk = new.disk; kept = length old.steps } → GoesOn disk m old new []
   by_all is = makes_none old new (changes old new _ _ is) (λ first past was. omega (arith, was.within, ap (λ (b : BookView D R). b.kept) is)) kept leaves
 
-  by_failure : new ≡ record old { disk = new.disk; kept = new.kept; broken = true } → (new.kept ≡ old.kept) ⊎ (new.kept ≡ length old.steps) → GoesOn disk may_leave left_since m old new []
+  by_failure : new ≡ record old { disk = new.disk; kept = new.kept; broken = true } → (new.kept ≡ old.kept) ⊎ (new.kept ≡ length old.steps) → GoesOn disk m old new []
   by_failure is which =
       makes_none old new (changes old new _ _ is) (λ first past was. ⊎_elim (λ (same : new.kept ≡ old.kept). omega (arith, same)) (λ (all : new.kept ≡ length old.steps). omega (arith, all, was.within)) which) kept leaves
 
-  pub goes_on : (r : Result (Unit {0}) BookFault) → Completed old new r → GoesOn disk may_leave left_since m old new []
+  pub goes_on : (r : Result (Unit {0}) BookFault) → Completed old new r → GoesOn disk m old new []
   goes_on (Ok x) is = by_all is.ok
   goes_on (Err fault.Disk) is = by_failure (is.failed refl) (is.durable refl)
   goes_on (Err (fault.Damaged file at)) is = by_all (is.still (λ e. absurd (cc)))

@@ -25,9 +25,9 @@ narrow m first steps more rest n image within none stands =
     record { count = n; within = within; stands = subst (λ (h : List Step). Stands m first image h) history stands.stands }
 
 -- a store that was opened, by what opening says of it
-pub opened_so : {D R : Type 0} {disk : D → DiskView} {may_leave : D → ℕ → List ℕ → Type 0} {left_since : D → ℕ → Image → Type 0} {m : Meaning} (first : Base) (steps more : List Step) (old : D) (rules : R) (limit : ℕ) (book : BookView D R)
-    → book ≡ opened m rules book.generation book.base book.steps limit book.disk → IsReopened disk may_leave m first steps more book → Leaves disk left_since old book.disk (StandsFor m first steps more)
-    → IsOpened disk may_leave left_since m first steps more old book
+pub opened_so : {D R : Type 0} {disk : D → DiskView} {m : Meaning} (first : Base) (steps more : List Step) (old : D) (rules : R) (limit : ℕ) (book : BookView D R)
+    → book ≡ opened m rules book.generation book.base book.steps limit book.disk → IsReopened disk m first steps more book → Leaves (disk old) (disk book.disk) (StandsFor m first steps more)
+    → IsOpened disk m first steps more old book
 opened_so {D = D} {R = R} first steps more old rules limit book is reopened any_moment = record {
   all = ap (λ (b : BookView D R). b.kept) is;
   state = ap (λ (b : BookView D R). b.state) is;
@@ -35,8 +35,8 @@ opened_so {D = D} {R = R} first steps more old rules limit book is reopened any_
   any_moment = any_moment;
 }
 
-module _ {D R : Type 0} {disk : D → DiskView} {may_leave : D → ℕ → List ℕ → Type 0} {left_since : D → ℕ → Image → Type 0} {m : Meaning} (first : Base) (steps more made : List Step) (old : D) (opened later : BookView D R)
-    (is : IsOpened disk may_leave left_since m first steps more old opened) (run : GoesOn disk may_leave left_since m opened later made) where
+module _ {D R : Type 0} {disk : D → DiskView} {m : Meaning} (first : Base) (steps more made : List Step) (old : D) (opened later : BookView D R)
+    (is : IsOpened disk m first steps more old opened) (run : GoesOn disk m opened later made) where
   abbrev past : List Step
   past = is.reopened.past
 
@@ -47,7 +47,7 @@ module _ {D R : Type 0} {disk : D → DiskView} {may_leave : D → ℕ → List 
   read_is : past ++ opened.steps ≡ read
   read_is = is.reopened.splits
 
-  kept_now : IsKept disk may_leave m first past later
+  kept_now : IsKept disk m first past later
   kept_now = run.kept first past is.reopened.kept
 
   -- the steps that were there are durable, and none of them waits
@@ -74,20 +74,20 @@ module _ {D R : Type 0} {disk : D → DiskView} {may_leave : D → ℕ → List 
 
   -- ---- at any moment
 
-  run_leaves : Leaves disk left_since opened.disk later.disk (StandsFor m first read made)
+  run_leaves : Leaves (disk opened.disk) (disk later.disk) (StandsFor m first read made)
   run_leaves =
       let there = run.any_moment first past is.reopened.kept in
       let history : past ++ durable_steps opened ≡ read = ap (λ ss. past ++ ss) all_durable ∙ read_is in
       let waits : waiting_steps opened ++ made ≡ made = ap (λ ss. ss ++ made) none_waits in
-      subst (λ (h : List Step). Leaves disk left_since opened.disk later.disk (StandsFor m first h made)) history
-      (subst (λ (w : List Step). Leaves disk left_since opened.disk later.disk (StandsFor m first (past ++ durable_steps opened) w)) waits there)
+      subst (λ (h : List Step). Leaves (disk opened.disk) (disk later.disk) (StandsFor m first h made)) history
+      (subst (λ (w : List Step). Leaves (disk opened.disk) (disk later.disk) (StandsFor m first (past ++ durable_steps opened) w)) waits there)
 
-  amid : Leaves disk left_since old later.disk (λ image. StandsFor m first steps more image ⊎ StandsFor m first read made image)
+  amid : Leaves (disk old) (disk later.disk) (λ image. StandsFor m first steps more image ⊎ StandsFor m first read made image)
   amid = run_on (widened (λ image stands. inl stands) is.any_moment) (widened (λ image stands. inr stands) run_leaves)
 
   -- ---- behind the call
 
-  stands_now : StandsNow disk may_leave m first (read ++ take (later.kept - opened.kept) made) (drop (later.kept - opened.kept) made) later.disk
+  stands_now : StandsNow m first (read ++ take (later.kept - opened.kept) made) (drop (later.kept - opened.kept) made) (disk later.disk)
   stands_now =
       let history : past ++ durable_steps later ≡ read ++ take (later.kept - opened.kept) made =
       ap (λ ss. past ++ ss) durable_now ∙ sym (append_assoc past opened.steps (take (later.kept - opened.kept) made)) ∙ ap (λ ss. ss ++ take (later.kept - opened.kept) made) read_is in
@@ -109,20 +109,20 @@ module _ {D R : Type 0} {disk : D → DiskView} {may_leave : D → ℕ → List 
   legal_now : Legal m first read → Legal m first (read ++ made)
   legal_now legal = legal-append m first read made legal (legal_whole m (replay m first read) opened.state made sealed_state run.legal)
 
-  pub called : IsCall disk may_leave left_since m first steps more old later.disk made (later.kept - opened.kept)
+  pub called : IsCall m first steps more (disk old) (disk later.disk) made (later.kept - opened.kept)
   called = record { count = is.reopened.count; within = is.reopened.within; any_moment = amid; now = stands_now; legal = legal_now }
 
   pub count_called : called.count ≡ is.reopened.count
   unfolding called
   count_called = refl
 
-  pub called_durably : later.kept ≡ length later.steps → IsCall disk may_leave left_since m first steps more old later.disk made (length made)
+  pub called_durably : later.kept ≡ length later.steps → IsCall m first steps more (disk old) (disk later.disk) made (length made)
   called_durably all =
       let number : later.kept - opened.kept ≡ length made = omega (arith, all, is.all, ap length steps_now, length-append opened.steps made) in
-      subst (λ (n : ℕ). IsCall disk may_leave left_since m first steps more old later.disk made n) number called
+      subst (λ (n : ℕ). IsCall m first steps more (disk old) (disk later.disk) made n) number called
 
   -- a run that makes no step leaves the history as it stood
-  pub still_stands : made ≡ [] → StandsOn disk may_leave left_since m first steps more old later.disk
+  pub still_stands : made ≡ [] → StandsOn m first steps more (disk old) (disk later.disk)
   still_stands none =
       let n = called.count in
       let still : (image : Image) → StandsAmid m first steps more (steps ++ take n more) made image → StandsFor m first steps more image =
@@ -142,9 +142,9 @@ module _ {D R : Type 0} {disk : D → DiskView} {may_leave : D → ℕ → List 
       }
 
 -- what was read of a history is one that the disk stood for
-pub stands_read : {D R : Type 0} {disk : D → DiskView} {may_leave : D → ℕ → List ℕ → Type 0} {m : Meaning} (first : Base) (steps more : List Step) (opened : BookView D R) → opened.kept ≡ length opened.steps
-    → IsReopened disk may_leave m first steps more opened → StandsNow disk may_leave m first steps more opened.disk
-stands_read {disk = disk} {may_leave = may_leave} {m = m} first steps more opened all is = record {
+pub stands_read : {D R : Type 0} {disk : D → DiskView} {m : Meaning} (first : Base) (steps more : List Step) (opened : BookView D R) → opened.kept ≡ length opened.steps
+    → IsReopened disk m first steps more opened → StandsNow m first steps more (disk opened.disk)
+stands_read {disk = disk} {m = m} first steps more opened all is = record {
   files = is.kept.files;
   tells = is.kept.tells;
   each = λ image left.

@@ -16,38 +16,38 @@ StandsAmid m first steps more read made image = StandsFor m first steps more ima
 
 -- a call on a disk that stood for these steps of the store whose first state is `first`, and a front of those behind them: so
 -- many of those were there, and the call made these steps, of which so many are durable
-pub record IsCall {D : Type 0} (disk : D → DiskView) (may_leave : D → ℕ → List ℕ → Type 0) (left_since : D → ℕ → Image → Type 0) (m : Meaning) (first : Base) (steps more : List Step) (old new : D) (made : List Step) (durable : ℕ) : Type 0 where
+pub record IsCall (m : Meaning) (first : Base) (steps more : List Step) (old new : DiskView) (made : List Step) (durable : ℕ) : Type 0 where
   pub count : ℕ
   pub within : count ≤ length more
   -- at any moment of the call
-  pub any_moment : Leaves disk left_since old new (StandsAmid m first steps more (steps ++ take count more) made)
+  pub any_moment : Leaves old new (StandsAmid m first steps more (steps ++ take count more) made)
   -- behind it
-  pub now : StandsNow disk may_leave m first ((steps ++ take count more) ++ take durable made) (drop durable made) new
+  pub now : StandsNow m first ((steps ++ take count more) ++ take durable made) (drop durable made) new
   -- the steps might be taken where they stand
   pub legal : Legal m first (steps ++ take count more) → Legal m first ((steps ++ take count more) ++ made)
 
 -- a call that makes no step: at any moment of it and behind it the disk stands for the same history
-pub record StandsOn {D : Type 0} (disk : D → DiskView) (may_leave : D → ℕ → List ℕ → Type 0) (left_since : D → ℕ → Image → Type 0) (m : Meaning) (first : Base) (steps more : List Step) (old new : D) : Type 0 where
-  pub any_moment : Leaves disk left_since old new (StandsFor m first steps more)
-  pub now : StandsNow disk may_leave m first steps more new
+pub record StandsOn (m : Meaning) (first : Base) (steps more : List Step) (old new : DiskView) : Type 0 where
+  pub any_moment : Leaves old new (StandsFor m first steps more)
+  pub now : StandsNow m first steps more new
 
 -- the book of a store that was opened on a disk, all of its steps durable
-pub record IsOpened {D R : Type 0} (disk : D → DiskView) (may_leave : D → ℕ → List ℕ → Type 0) (left_since : D → ℕ → Image → Type 0) (m : Meaning) (first : Base) (steps more : List Step) (old : D) (book : BookView D R) : Type 0 where
+pub record IsOpened {D R : Type 0} (disk : D → DiskView) (m : Meaning) (first : Base) (steps more : List Step) (old : D) (book : BookView D R) : Type 0 where
   pub all : book.kept ≡ length book.steps
   pub state : book.state ≡ replay m book.base book.steps
-  pub reopened : IsReopened disk may_leave m first steps more book
-  pub any_moment : Leaves disk left_since old book.disk (StandsFor m first steps more)
+  pub reopened : IsReopened disk m first steps more book
+  pub any_moment : Leaves (disk old) (disk book.disk) (StandsFor m first steps more)
 
 -- ---- laws
 
 -- a store that is opened, and whose book goes on by steps
-abbrev pub CallsGoOn : {D : Type 0} → (R : Type 0) → (D → DiskView) → (D → ℕ → List ℕ → Type 0) → (D → ℕ → Image → Type 0) → Meaning → Type 0
-CallsGoOn {D} R disk may_leave left_since m =
-    (first : Base) (steps more made : List Step) (old : D) (opened later : BookView D R) → IsOpened disk may_leave left_since m first steps more old opened → GoesOn disk may_leave left_since m opened later made
-    → IsCall disk may_leave left_since m first steps more old later.disk made (later.kept - opened.kept)
+abbrev pub CallsGoOn : {D : Type 0} → (R : Type 0) → (D → DiskView) → Meaning → Type 0
+CallsGoOn {D} R disk m =
+    (first : Base) (steps more made : List Step) (old : D) (opened later : BookView D R) → IsOpened disk m first steps more old opened → GoesOn disk m opened later made
+    → IsCall m first steps more (disk old) (disk later.disk) made (later.kept - opened.kept)
 
 -- so with all that it made
-abbrev pub DurableCalls : {D : Type 0} → (R : Type 0) → (D → DiskView) → (D → ℕ → List ℕ → Type 0) → (D → ℕ → Image → Type 0) → Meaning → Type 0
-DurableCalls {D} R disk may_leave left_since m =
-    (first : Base) (steps more made : List Step) (old : D) (opened later : BookView D R) → IsOpened disk may_leave left_since m first steps more old opened → GoesOn disk may_leave left_since m opened later made
-    → later.kept ≡ length later.steps → IsCall disk may_leave left_since m first steps more old later.disk made (length made)
+abbrev pub DurableCalls : {D : Type 0} → (R : Type 0) → (D → DiskView) → Meaning → Type 0
+DurableCalls {D} R disk m =
+    (first : Base) (steps more made : List Step) (old : D) (opened later : BookView D R) → IsOpened disk m first steps more old opened → GoesOn disk m opened later made
+    → later.kept ≡ length later.steps → IsCall m first steps more (disk old) (disk later.disk) made (length made)

@@ -20,13 +20,13 @@ use step_code::Rules;
 /// sealed of it. `OutOfMemory`.
 pub fn complete_outputs<D: Disk, R: Rules>(book: &mut Book<D, R>) -> Result<(), BookFault>
     requires whole { book.old.broken ≡ false }
-    ensures goes_on { GoesOn D.disk D.may_leave D.left_since R.meaning book.old book.new [] }
+    ensures goes_on { GoesOn D.disk R.meaning book.old book.new [] }
     ensures durable { (result ≢ Err BookFault.Disk) → book.new.kept ≡ length book.new.steps }
     ensures completed { (files after : Image) → (D.disk book.old.disk).told ≡ Some files → (D.disk book.new.disk).told ≡ Some after
-        → OnOk result (AreCompleted (D.may_leave book.new.disk) book.old.state.outs files after) }
-    ensures written { (first : Base) (history : List Step) → StandsNow D.disk D.may_leave R.meaning first history [] book.new.disk → HaveNoneSealed first.outs
-        → OnOk result (AreWritten D.disk D.may_leave R.meaning first history book.new.disk) }
-    ensures sound { (first : Base) (past : List Step) → IsKept D.disk D.may_leave R.meaning first past book.old → IfErr result IsNoDamage }
+        → OnOk result (AreCompleted (D.disk book.new.disk).may_leave book.old.state.outs files after) }
+    ensures written { (first : Base) (history : List Step) → StandsNow R.meaning first history [] (D.disk book.new.disk) → HaveNoneSealed first.outs
+        → OnOk result (AreWritten R.meaning first history (D.disk book.new.disk)) }
+    ensures sound { (first : Base) (past : List Step) → IsKept D.disk R.meaning first past book.old → IfErr result IsNoDamage }
     ensures fault { IfErr result (IsBringUpFault book.old.state.outs (D.disk book.old.disk).told) }
     ensures failed { IsErrOf result BookFault.Disk → Rose (D.disk book.old.disk).faults (D.disk book.new.disk).faults }
     ensures untold { (D.disk book.old.disk).told ≡ None → (D.disk book.new.disk).told ≡ None }

@@ -76,15 +76,15 @@ not_made m files bundle fault.Refused sink none = (none.0, none.1, Took-nothing 
 not_made m files bundle fault.OutOfMemory sink none = Took-nothing sink
 
 -- the book of a new store stands for no steps
-pub stands_new : {D R : Type 0} {disk : D → DiskView} {may_leave : D → ℕ → List ℕ → Type 0} {m : Meaning} (rules : R) (base : Base) (limit : ℕ) (book : BookView D R) → book ≡ created rules base limit book.disk
-    → IsKept disk may_leave m base [] book → StandsNow disk may_leave m base [] [] book.disk
+pub stands_new : {D R : Type 0} {disk : D → DiskView} {m : Meaning} (rules : R) (base : Base) (limit : ℕ) (book : BookView D R) → book ≡ created rules base limit book.disk
+    → IsKept disk m base [] book → StandsNow m base [] [] (disk book.disk)
 stands_new {D = D} {R = R} rules base limit book is kept =
     let none = ap (λ (b : BookView D R). b.steps) is in
     stands_read base [] [] book (ap (λ (b : BookView D R). b.kept) is ∙ sym (ap length none)) (record { past = []; count = 0; within = omega arith; splits = none; kept = kept })
 
 -- it begins with the state that the bundle gives
-pub begun_by : {D R : Type 0} {disk : D → DiskView} {may_leave : D → ℕ → List ℕ → Type 0} {m : Meaning} (bundle : List ℕ) (bots : List Facts) (rules : R) (limit : ℕ) (book : BookView D R) → m.facts bundle ≡ Some bots
-    → book ≡ created rules (first bots bundle) limit book.disk → IsKept disk may_leave m book.base [] book → IsBegun disk may_leave m bundle book.disk
+pub begun_by : {D R : Type 0} {disk : D → DiskView} {m : Meaning} (bundle : List ℕ) (bots : List Facts) (rules : R) (limit : ℕ) (book : BookView D R) → m.facts bundle ≡ Some bots
+    → book ≡ created rules (first bots bundle) limit book.disk → IsKept disk m book.base [] book → IsBegun m bundle (disk book.disk)
 begun_by {D} {R} bundle bots rules limit book loads is kept =
     let base_is : book.base ≡ first bots bundle = ap (λ (b : BookView D R). b.base) is in
     record {

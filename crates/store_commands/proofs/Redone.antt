@@ -2,7 +2,7 @@
 use Rattle.std.proofs.Common.{◌≡◌, ◌⊎◌, ⊎_elim, ◌≤◌, ◌+◌, ◌-◌, ℕ, List, [], ◌∷◌, ◌++◌, length, take, drop, sym, ap, subst, ◌∙◌, arith, length-append}
 use Rattle.std.proofs.Math.Seq.{take-nil}
 use Rattle.std.proofs.lemmas.List.{append-nil, drop_all}
-use Rattle.edge_traits.specs.Disk.{DiskView, Image, Leaves}
+use Rattle.edge_traits.specs.Disk.{DiskView, Leaves}
 use Rattle.edge_traits.proofs.Moments.{widened}
 use Rattle.step_code.specs.declared.base.Base.{Base}
 use Rattle.step_code.specs.declared.step.Step.{Step}
@@ -18,16 +18,16 @@ use Rattle.store_commands.specs.Redone.{redo_step, AreMadeAt, RedoesStep, Redid}
 use Rattle.store_commands.specs.declared.end.StoreEnd.{StoreEnd}
 use Rattle.store_commands.specs.declared.end.StoreEnd.TheVariants as end
 
-module _ {D R : Type 0} {disk : D → DiskView} {may_leave : D → ℕ → List ℕ → Type 0} {left_since : D → ℕ → Image → Type 0} {m : Meaning} (first : Base) (steps more : List Step) (old : D) (opened later : BookView D R)
-    (is : IsOpened disk may_leave left_since m first steps more old opened) (dump now : ℕ) (e : StoreEnd) (redid : Redid disk may_leave left_since m opened later (redo_step opened.state dump now) e) where
+module _ {D R : Type 0} {disk : D → DiskView} {m : Meaning} (first : Base) (steps more : List Step) (old : D) (opened later : BookView D R)
+    (is : IsOpened disk m first steps more old opened) (dump now : ℕ) (e : StoreEnd) (redid : Redid disk m opened later (redo_step opened.state dump now) e) where
   abbrev step : Step
   step = redo_step opened.state dump now
 
-  whole : IsCall disk may_leave left_since m first steps more old later.disk redid.made (later.kept - opened.kept)
+  whole : IsCall m first steps more (disk old) (disk later.disk) redid.made (later.kept - opened.kept)
   whole = called first steps more redid.made old opened later is redid.run
 
   -- no step was made
-  pub stands : redid.made ≡ [] → StandsOn disk may_leave left_since m first steps more old later.disk
+  pub stands : redid.made ≡ [] → StandsOn m first steps more (disk old) (disk later.disk)
   stands = still_stands first steps more redid.made old opened later is redid.run
 
   step_is : step ≡ redo_step (replay m first (steps ++ take whole.count more)) dump now
@@ -37,25 +37,25 @@ module _ {D R : Type 0} {disk : D → DiskView} {may_leave : D → ℕ → List 
       ∙ ap (λ (n : ℕ). redo_step (replay m first (steps ++ take n more)) dump now) (sym (count_called first steps more redid.made old opened later is redid.run))
 
   -- the step was made
-  pub makes : redid.made ≡ step ∷ [] → RedoesStep disk may_leave left_since m first steps more old later.disk dump now (later.kept - opened.kept)
+  pub makes : redid.made ≡ step ∷ [] → RedoesStep m first steps more (disk old) (disk later.disk) dump now (later.kept - opened.kept)
   makes one = from_call redid.made (sym one) whole step_is
     where
-      from_call : (made : List Step) → step ∷ [] ≡ made → (call : IsCall disk may_leave left_since m first steps more old later.disk made (later.kept - opened.kept)) → step ≡ redo_step (replay m first (steps ++ take call.count more)) dump now
-          → RedoesStep disk may_leave left_since m first steps more old later.disk dump now (later.kept - opened.kept)
+      from_call : (made : List Step) → step ∷ [] ≡ made → (call : IsCall m first steps more (disk old) (disk later.disk) made (later.kept - opened.kept)) → step ≡ redo_step (replay m first (steps ++ take call.count more)) dump now
+          → RedoesStep m first steps more (disk old) (disk later.disk) dump now (later.kept - opened.kept)
       from_call made same =
-          subst (λ (ms : List Step). (call : IsCall disk may_leave left_since m first steps more old later.disk ms (later.kept - opened.kept)) → step ≡ redo_step (replay m first (steps ++ take call.count more)) dump now
-          → RedoesStep disk may_leave left_since m first steps more old later.disk dump now (later.kept - opened.kept))
+          subst (λ (ms : List Step). (call : IsCall m first steps more (disk old) (disk later.disk) ms (later.kept - opened.kept)) → step ≡ redo_step (replay m first (steps ++ take call.count more)) dump now
+          → RedoesStep m first steps more (disk old) (disk later.disk) dump now (later.kept - opened.kept))
           same (λ call here. record { step = step; call = call; step_is = here })
 
   -- and it is durable, where all steps of the book are
-  pub makes_durably : later.kept ≡ length later.steps → redid.made ≡ step ∷ [] → RedoesStep disk may_leave left_since m first steps more old later.disk dump now 1
+  pub makes_durably : later.kept ≡ length later.steps → redid.made ≡ step ∷ [] → RedoesStep m first steps more (disk old) (disk later.disk) dump now 1
   makes_durably all one =
       let now_there : length later.steps ≡ length opened.steps + length redid.made = ap (λ (b : BookView D R). length b.steps) redid.run.book ∙ length-append opened.steps redid.made in
       let number : later.kept - opened.kept ≡ 1 = omega (arith, all, is.all, now_there, ap length one) in
-      subst (λ (n : ℕ). RedoesStep disk may_leave left_since m first steps more old later.disk dump now n) number (makes one)
+      subst (λ (n : ℕ). RedoesStep m first steps more (disk old) (disk later.disk) dump now n) number (makes one)
 
 -- the state behind the step
-pub state_behind : {D R : Type 0} {disk : D → DiskView} {may_leave : D → ℕ → List ℕ → Type 0} {left_since : D → ℕ → Image → Type 0} {m : Meaning} (old new : BookView D R) (step : Step) (e : StoreEnd) → Redid disk may_leave left_since m old new step e
+pub state_behind : {D R : Type 0} {disk : D → DiskView} {m : Meaning} (old new : BookView D R) (step : Step) (e : StoreEnd) → Redid disk m old new step e
     → e ≡ end.Done → new.state ≡ after m old.state step
-state_behind {D} {R} {disk} {may_leave} {left_since} {m} old new one e redid done =
+state_behind {D} {R} {disk} {m} old new one e redid done =
     ap (λ (b : BookView D R). b.state) redid.run.book ∙ ap (replay m old.state) (subst (λ (d : StoreEnd). AreMadeAt d one redid.made) done redid.made_is)

@@ -67,7 +67,7 @@ IsMadeWhole (end.Spent next) = ⊥
 IsMadeWhole (end.Full bytes) = ⊥
 
 -- whatever a crash leaves now stands for no steps of the new store of this bundle
-pub record IsBegun {D : Type 0} (disk : D → DiskView) (may_leave : D → ℕ → List ℕ → Type 0) (m : Meaning) (bundle : List ℕ) (now : D) : Type 0 where
+pub record IsBegun (m : Meaning) (bundle : List ℕ) (now : DiskView) : Type 0 where
   pub state : Base
   pub first_is : IsFirstOf m bundle state
-  pub stands : StandsNow disk may_leave m state [] [] now
+  pub stands : StandsNow m state [] [] now

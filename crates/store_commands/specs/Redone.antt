@@ -67,9 +67,9 @@ IsRedone m files dump now end.Refused old new = ⊥
 -- ---- at any moment
 
 -- the call made the one step that redoes the dump in the state behind what was read, and so many of its steps are durable
-pub record RedoesStep {D : Type 0} (disk : D → DiskView) (may_leave : D → ℕ → List ℕ → Type 0) (left_since : D → ℕ → Image → Type 0) (m : Meaning) (first : Base) (steps more : List Step) (old new : D) (dump now durable : ℕ) : Type 0 where
+pub record RedoesStep (m : Meaning) (first : Base) (steps more : List Step) (old new : DiskView) (dump now durable : ℕ) : Type 0 where
   pub step : Step
-  pub call : IsCall disk may_leave left_since m first steps more old new (step ∷ []) durable
+  pub call : IsCall m first steps more old new (step ∷ []) durable
   pub step_is : step ≡ redo_step (replay m first (steps ++ take call.count more)) dump now
 
 -- at these ends a call made its step, and it is durable; at those it made none; where the disk failed or memory ran out, either
@@ -118,7 +118,7 @@ AreMadeAt (end.Store have) step made = made ≡ []
 AreMadeAt end.Refused step made = made ≡ []
 
 -- a run of a book's calls that makes this step, or none
-pub record Redid {D R : Type 0} (disk : D → DiskView) (may_leave : D → ℕ → List ℕ → Type 0) (left_since : D → ℕ → Image → Type 0) (m : Meaning) (old new : BookView D R) (step : Step) (end : StoreEnd) : Type 0 where
+pub record Redid {D R : Type 0} (disk : D → DiskView) (m : Meaning) (old new : BookView D R) (step : Step) (end : StoreEnd) : Type 0 where
   pub made : List Step
-  pub run : GoesOn disk may_leave left_since m old new made
+  pub run : GoesOn disk m old new made
   pub made_is : AreMadeAt end step made

@@ -36,11 +36,11 @@ pub fn init<D: Disk, R: Rules, S: Sink>(
 
     // A store that was made stands for no steps, whatever a crash leaves from now on: a later call begins with that.
     ensures stands { (files : Image) → (D.disk disk).told ≡ Some files → IsMadeWhole result.0
-        → IsBegun D.disk D.may_leave R.meaning bundle.now result.1 }
+        → IsBegun R.meaning bundle.now (D.disk result.1) }
 
     // A store that was there is left alone, at any moment of the call and behind it.
-    ensures left_alone { (first : Base) (steps more : List Step) → StandsNow D.disk D.may_leave R.meaning first steps more disk
-        → StandsOn D.disk D.may_leave D.left_since R.meaning first steps more disk result.1 }
+    ensures left_alone { (first : Base) (steps more : List Step) → StandsNow R.meaning first steps more (D.disk disk)
+        → StandsOn R.meaning first steps more (D.disk disk) (D.disk result.1) }
 
     // The outside failed, as its counts show.
     ensures disk { result.0 ≡ StoreEnd.Disk → Rose (D.disk disk).faults (D.disk result.1).faults }
@@ -71,11 +71,11 @@ pub fn make_store<D: Disk, R: Rules>(
 
     // A store that was made stands for no steps, whatever a crash leaves from now on.
     ensures stands { (files : Image) → (D.disk disk).told ≡ Some files → result.0 ≡ StoreEnd.Done
-        → IsBegun D.disk D.may_leave R.meaning bundle.now result.1 }
+        → IsBegun R.meaning bundle.now (D.disk result.1) }
 
     // A store that was there is left alone, at any moment of the call and behind it.
-    ensures left_alone { (first : Base) (steps more : List Step) → StandsNow D.disk D.may_leave R.meaning first steps more disk
-        → StandsOn D.disk D.may_leave D.left_since R.meaning first steps more disk result.1 }
+    ensures left_alone { (first : Base) (steps more : List Step) → StandsNow R.meaning first steps more (D.disk disk)
+        → StandsOn R.meaning first steps more (D.disk disk) (D.disk result.1) }
 
     // Nothing is printed.
     ensures unprinted { result.0 ≢ StoreEnd.Sink }
@@ -99,8 +99,8 @@ pub fn make_store<D: Disk, R: Rules>(
 /// The disk failed.
 pub fn find_store<D: Disk>(disk: &mut D) -> Result<u64, Failed>
     ensures length { (files : Image) → (D.disk disk.old).told ≡ Some files → IfOk result (λ n. n ≡ length (files root_file)) }
-    ensures stands { (m : Meaning) (first : Base) (steps more : List Step) → StandsNow D.disk D.may_leave m first steps more disk.old
-        → StandsOn D.disk D.may_leave D.left_since m first steps more disk.old disk.new }
+    ensures stands { (m : Meaning) (first : Base) (steps more : List Step) → StandsNow m first steps more (D.disk disk.old)
+        → StandsOn m first steps more (D.disk disk.old) (D.disk disk.new) }
     ensures told { (D.disk disk.new).told ≡ (D.disk disk.old).told }
     ensures failed { IsErr result → Rose (D.disk disk.old).faults (D.disk disk.new).faults }
     ensures count { (D.disk disk.old).faults ≤ (D.disk disk.new).faults }

@@ -32,12 +32,12 @@ pub fn complete<D: Disk, R: Rules, S: Sink>(
         → IsCompleted R.meaning files is_said result.0 (S.sink out.old) (S.sink out.new) }
 
     // At any moment of the call, and behind it, the disk stands for the history that it stood for.
-    ensures stands { (first : Base) (steps more : List Step) → StandsNow D.disk D.may_leave R.meaning first steps more disk
-        → StandsOn D.disk D.may_leave D.left_since R.meaning first steps more disk result.1 }
+    ensures stands { (first : Base) (steps more : List Step) → StandsNow R.meaning first steps more (D.disk disk)
+        → StandsOn R.meaning first steps more (D.disk disk) (D.disk result.1) }
 
     // Each output's file is all lines of the history that the disk stands for, where that began with nothing sealed.
-    ensures written { (first : Base) (history : List Step) → StandsNow D.disk D.may_leave R.meaning first history [] result.1 → HaveNoneSealed first.outs
-        → AreWrittenAt result.0 (AreWritten D.disk D.may_leave R.meaning first history result.1) }
+    ensures written { (first : Base) (history : List Step) → StandsNow R.meaning first history [] (D.disk result.1) → HaveNoneSealed first.outs
+        → AreWrittenAt result.0 (AreWritten R.meaning first history (D.disk result.1)) }
 
     // The outside failed, as its counts show.
     ensures disk { result.0 ≡ StoreEnd.Disk → Rose (D.disk disk).faults (D.disk result.1).faults }

@@ -38,13 +38,13 @@ pub fn redo<D: Disk, R: Rules, S: Sink>(
         → IsRedone R.meaning files dump now result.0 (S.sink out.old) (S.sink out.new) }
 
     // At any moment of the call, and behind it, the disk stands for the history that it stood for, or for that and the step.
-    ensures stands { (first : Base) (steps more : List Step) → StandsNow D.disk D.may_leave R.meaning first steps more disk
-        → IsRedoCall result.0 (StandsOn D.disk D.may_leave D.left_since R.meaning first steps more disk result.1)
-        (RedoesStep D.disk D.may_leave D.left_since R.meaning first steps more disk result.1 dump now) }
+    ensures stands { (first : Base) (steps more : List Step) → StandsNow R.meaning first steps more (D.disk disk)
+        → IsRedoCall result.0 (StandsOn R.meaning first steps more (D.disk disk) (D.disk result.1))
+        (RedoesStep R.meaning first steps more (D.disk disk) (D.disk result.1) dump now) }
 
     // Each output's file is all lines of the history that the disk stands for, where that began with nothing sealed.
-    ensures written { (first : Base) (history : List Step) → StandsNow D.disk D.may_leave R.meaning first history [] result.1 → HaveNoneSealed first.outs
-        → AreWrittenAt result.0 (AreWritten D.disk D.may_leave R.meaning first history result.1) }
+    ensures written { (first : Base) (history : List Step) → StandsNow R.meaning first history [] (D.disk result.1) → HaveNoneSealed first.outs
+        → AreWrittenAt result.0 (AreWritten R.meaning first history (D.disk result.1)) }
 
     // The outside failed, as its counts show.
     ensures disk { result.0 ≡ StoreEnd.Disk → Rose (D.disk disk).faults (D.disk result.1).faults }
@@ -68,10 +68,10 @@ fn redo_dump<D: Disk, R: Rules>(book: &mut Book<D, R>, dump: u64, now: u64) -> S
     requires whole { book.old.broken ≡ false }
     requires durable { book.old.kept ≡ length book.old.steps }
     ensures end { IsRedoEnd book.old.state (step_cause R.meaning book.old.state book.old.steps book.old.limit (redo_step book.old.state dump now)) (D.disk book.old.disk).told dump result }
-    ensures run { Redid D.disk D.may_leave D.left_since R.meaning book.old book.new (redo_step book.old.state dump now) result }
+    ensures run { Redid D.disk R.meaning book.old book.new (redo_step book.old.state dump now) result }
     ensures durable { (result ≢ StoreEnd.Disk) → book.new.kept ≡ length book.new.steps }
-    ensures written { (first : Base) (history : List Step) → StandsNow D.disk D.may_leave R.meaning first history [] book.new.disk → HaveNoneSealed first.outs
-        → AreWrittenAt result (AreWritten D.disk D.may_leave R.meaning first history book.new.disk) }
+    ensures written { (first : Base) (history : List Step) → StandsNow R.meaning first history [] (D.disk book.new.disk) → HaveNoneSealed first.outs
+        → AreWrittenAt result (AreWritten R.meaning first history (D.disk book.new.disk)) }
     ensures failed { result ≡ StoreEnd.Disk → Rose (D.disk book.old.disk).faults (D.disk book.new.disk).faults }
     ensures count { (D.disk book.old.disk).faults ≤ (D.disk book.new.disk).faults }
 {
@@ -86,10 +86,10 @@ fn complete<D: Disk, R: Rules>(book: &mut Book<D, R>, end: StoreEnd) -> StoreEnd
     requires whole { book.old.broken ≡ false }
     requires another { end ≢ StoreEnd.Disk }
     ensures end { EndsAs book.old.state.outs (D.disk book.old.disk).told end result }
-    ensures goes_on { GoesOn D.disk D.may_leave D.left_since R.meaning book.old book.new [] }
+    ensures goes_on { GoesOn D.disk R.meaning book.old book.new [] }
     ensures durable { (result ≢ StoreEnd.Disk) → book.new.kept ≡ length book.new.steps }
-    ensures written { (first : Base) (history : List Step) → StandsNow D.disk D.may_leave R.meaning first history [] book.new.disk → HaveNoneSealed first.outs
-        → AreWrittenAt result (AreWritten D.disk D.may_leave R.meaning first history book.new.disk) }
+    ensures written { (first : Base) (history : List Step) → StandsNow R.meaning first history [] (D.disk book.new.disk) → HaveNoneSealed first.outs
+        → AreWrittenAt result (AreWritten R.meaning first history (D.disk book.new.disk)) }
     ensures failed { result ≡ StoreEnd.Disk → Rose (D.disk book.old.disk).faults (D.disk book.new.disk).faults }
     ensures count { (D.disk book.old.disk).faults ≤ (D.disk book.new.disk).faults }
 {

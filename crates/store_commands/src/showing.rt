@@ -28,8 +28,8 @@ pub fn show<D: Disk, R: Rules, S: Sink>(
         → IsShown R.meaning files what result.0 (S.sink out.old) (S.sink out.new) }
 
     // At any moment of the call, and behind it, the disk stands for the history that it stood for.
-    ensures stands { (first : Base) (steps more : List Step) → StandsNow D.disk D.may_leave R.meaning first steps more disk
-        → StandsOn D.disk D.may_leave D.left_since R.meaning first steps more disk result.1 }
+    ensures stands { (first : Base) (steps more : List Step) → StandsNow R.meaning first steps more (D.disk disk)
+        → StandsOn R.meaning first steps more (D.disk disk) (D.disk result.1) }
 
     // The outside failed, as its counts show.
     ensures disk { result.0 ≡ StoreEnd.Disk → Rose (D.disk disk).faults (D.disk result.1).faults }

@@ -62,11 +62,7 @@ impl UntoldDisk {
 }
 
 impl Disk for UntoldDisk {
-    ghost disk = { λ d. record { told = None; faults = d.faults; moment = 0 } };
-
-    ghost may_leave = { λ _ _ _. ⊤ };
-
-    ghost left_since = { λ _ _ _. ⊤ };
+    ghost disk = { λ d. record { told = None; faults = d.faults; moment = 0; may_leave = λ _ _. ⊤; left_since = λ _ _. ⊤ } };
 
     fn len(&mut self, _file: u64) -> Result<u64, Failed> {
         self.note(b'l');

@@ -21,7 +21,7 @@ impl MemDisk {
 
         ensures left { IfOk result (λ image. IsImage (may_leave_after self.now call) (files_of image)) }
         ensures nothing_pending { IfOk result (λ image. (file : ℕ)
-            → Only (files_of image file) (⟦<MemDisk as Disk>⟧.may_leave image file)) }
+            → Only (files_of image file) ((⟦<MemDisk as Disk>⟧.disk image).may_leave file)) }
 
         // What is kept is what a read gave then.
         ensures kept { IsTrue choice.now.keep
@@ -86,9 +86,9 @@ fn restore(
 /// last call it is what a crash may leave now, and a read gave what it gives now.
 pub fn image_is_left_since(disk: &MemDisk)
     ensures since { (call t : ℕ) (image : Image) → t ≤ call → call ≤ (⟦<MemDisk as Disk>⟧.disk disk.now).moment
-        → IsImage (may_leave_after disk.now call) image → ⟦<MemDisk as Disk>⟧.left_since disk.now t image }
+        → IsImage (may_leave_after disk.now call) image → (⟦<MemDisk as Disk>⟧.disk disk.now).left_since t image }
     ensures now { (file : ℕ) (c : List ℕ) → may_leave_after disk.now (⟦<MemDisk as Disk>⟧.disk disk.now).moment file c
-        → ⟦<MemDisk as Disk>⟧.may_leave disk.now file c }
+        → (⟦<MemDisk as Disk>⟧.disk disk.now).may_leave file c }
     ensures files_now { (file : ℕ)
         → files_after disk.now (⟦<MemDisk as Disk>⟧.disk disk.now).moment file ≡ files_of disk.now file }
 {}

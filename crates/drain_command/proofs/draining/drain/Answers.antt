@@ -14,7 +14,7 @@ returns-in-Ok-clause-drained g c = λ files told.
     let shelf = g.H.Shelf.shelf c.args.shelf.now in let clock = g.C.Clock.told c.args.clock.now in
     let o = outside m shelf clock 67_108_864 in
     let opened = c.in-Ok.book in let mid = c.make_turns-last.new.book in let later = c.finish-end.new.book in
-    let is : Reopened g.D.Disk.disk g.D.Disk.may_leave g.D.Disk.left_since m files c.args.disk opened = record {
+    let is : Reopened g.D.Disk.disk m files c.args.disk opened = record {
       all = ap (λ (b : BookView _ _). b.kept) c.in-Ok.ensures.book;
       state = ap (λ (b : BookView _ _). b.state) c.in-Ok.ensures.book;
       opens = c.in-Ok.ensures.opens files told;
@@ -26,8 +26,8 @@ returns-in-Ok-clause-drained g c = λ files told.
       };
     } in
     let limit : opened.limit ≡ 67_108_864 = ap (λ (b : BookView _ _). b.limit) c.in-Ok.ensures.book in
-    let turned = subst (λ (n : ℕ). IsTurned g.D.Disk.disk g.D.Disk.may_leave g.D.Disk.left_since (outside m shelf clock n) c.args.asked opened mid c.make_turns-last.result) limit c.make_turns-last.ensures.turned in
-    subst (λ d. IsDrainCall g.D.Disk.disk g.D.Disk.may_leave g.D.Disk.left_since o files c.args.asked c.args.disk d c.finish-end.result (g.S.Sink.sink c.args.out.now) (g.S.Sink.sink c.finish-end.new.out)) (sym c.into_disk.ensures)
+    let turned = subst (λ (n : ℕ). IsTurned g.D.Disk.disk (outside m shelf clock n) c.args.asked opened mid c.make_turns-last.result) limit c.make_turns-last.ensures.turned in
+    subst (λ d. IsDrainCall o files c.args.asked (g.D.Disk.disk c.args.disk) (g.D.Disk.disk d) c.finish-end.result (g.S.Sink.sink c.args.out.now) (g.S.Sink.sink c.finish-end.new.out)) (sym c.into_disk.ensures)
     (drain_called o files c.args.asked c.args.disk opened mid later is c.make_turns-last.result turned c.finish-end.ensures.goes_on c.finish-end.result (g.S.Sink.sink c.args.out.now) (g.S.Sink.sink c.finish-end.new.out)
     c.finish-end.ensures.finished c.finish-end.ensures.durable c.finish-end.ensures.completed c.finish-end.ensures.written c.finish-end.ensures.sound c.finish-end.ensures.untold)
 
@@ -37,8 +37,8 @@ returns-in-Err-clause-drained g c = λ files told.
     let o = outside m (g.H.Shelf.shelf c.args.shelf.now) (g.C.Clock.told c.args.clock.now) 67_108_864 in
     let sink = g.S.Sink.sink c.args.out.now in
     let disk = c.in-Err.disk in
-    subst (λ (e : DrainEnd). IsDrainCall g.D.Disk.disk g.D.Disk.may_leave g.D.Disk.left_since o files c.args.asked c.args.disk disk e sink sink) (sym c.end_of.ensures)
-    (drain_closed o files c.args.asked c.args.disk disk (g.D.Disk.disk c.args.disk).told c.in-Err.fault sink told c.in-Err.ensures.fault
+    subst (λ (e : DrainEnd). IsDrainCall o files c.args.asked (g.D.Disk.disk c.args.disk) (g.D.Disk.disk disk) e sink sink) (sym c.end_of.ensures)
+    (drain_closed o files c.args.asked (g.D.Disk.disk c.args.disk) (g.D.Disk.disk disk) (g.D.Disk.disk c.args.disk).told c.in-Err.fault sink told c.in-Err.ensures.fault
     (λ first steps more was. record { any_moment = c.in-Err.ensures.any_moment_err first steps more was; now = c.in-Err.ensures.still_err first steps more was }))
 
 pub returns-in-Ok-clause-plain : goal.returns-in-Ok-clause-plain

@@ -6,7 +6,7 @@ use Rattle.drain_command.proofs.finishing.finish.Goals as goal
 
 pub returns-in-Ok-clause-completed : goal.returns-in-Ok-clause-completed
 returns-in-Ok-clause-completed g c = λ files after was now.
-    completed_at c.report.result (g.D.Disk.may_leave c.complete_outputs.new.book.disk) c.args.book.now.state.outs files after (c.in-Ok.ensures.completed files after was now)
+    completed_at c.report.result (g.D.Disk.disk c.complete_outputs.new.book.disk).may_leave c.args.book.now.state.outs files after (c.in-Ok.ensures.completed files after was now)
 
 pub returns-in-Ok-clause-written : goal.returns-in-Ok-clause-written
 returns-in-Ok-clause-written g c = λ first history now none. written_at c.report.result _ (c.in-Ok.ensures.written first history now none)

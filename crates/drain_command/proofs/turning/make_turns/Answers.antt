@@ -13,7 +13,7 @@ returns-in-Ok-clause-turned g c =
     let opened = c.in-Ok.ensures.opened shelf in
     let same : mid.limit ≡ old.limit = ap (λ (b : BookView _ _). b.limit) opened.goes_on.book in
     turned_on o c.args.asked old mid new c.in-Ok.left c.drain_book.result opened
-    (subst (λ (n : ℕ). IsDrained g.D.Disk.disk g.D.Disk.may_leave g.D.Disk.left_since (outside m shelf clock n) c.in-Ok.left mid new c.drain_book.result) same c.drain_book.ensures.drained)
+    (subst (λ (n : ℕ). IsDrained g.D.Disk.disk (outside m shelf clock n) c.in-Ok.left mid new c.drain_book.result) same c.drain_book.ensures.drained)
 
 pub returns-in-Err-clause-turned : goal.returns-in-Err-clause-turned
 returns-in-Err-clause-turned g c =

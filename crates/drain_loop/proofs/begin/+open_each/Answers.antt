@@ -17,7 +17,7 @@ pub returns-in-None-clause-opened : goal.returns-in-None-clause-opened
 returns-in-None-clause-opened g t c = λ first limit is.
     let book = c.args.book.now in
     let o = outside g.R.Rules.meaning first (g.C.Clock.told c.args.clock.now) limit in
-    subst (λ (ns : List (List ℕ)). IsOpened g.D.Disk.disk g.D.Disk.may_leave g.D.Disk.left_since o (place_with (map round_of ns) book c.args.left) [] book book (Ok c.args.left))
+    subst (λ (ns : List (List ℕ)). IsOpened g.D.Disk.disk o (place_with (map round_of ns) book c.args.left) [] book book (Ok c.args.left))
     (sym (no_names c.args.names.now c.in-None.ensures.cases)) (opens_none o [] c.args.left book (g.met.D.Disk.only_now book.disk))
 
 pub returns-in-Ok-clause-opened : goal.returns-in-Ok-clause-opened
@@ -25,15 +25,15 @@ returns-in-Ok-clause-opened g t c = λ first limit is.
     let m = g.R.Rules.meaning in let book = c.args.book.now in let mid = c.open_by.new.book in let new = c.open_each.new.book in
     let o = outside m first (g.C.Clock.told c.args.clock.now) limit in
     let later = map round_of c.in-Some.others.now in
-    let front = subst (λ (n : ℕ). IsOpened g.D.Disk.disk g.D.Disk.may_leave g.D.Disk.left_since (outside m first (g.C.Clock.told c.args.clock.now) n) (place_with (round_of c.in-Some.bot.now ∷ later) book c.args.left) later book mid (Ok c.in-Ok.left))
+    let front = subst (λ (n : ℕ). IsOpened g.D.Disk.disk (outside m first (g.C.Clock.told c.args.clock.now) n) (place_with (round_of c.in-Some.bot.now ∷ later) book c.args.left) later book mid (Ok c.in-Ok.left))
     (sym is) (c.in-Ok.ensures.opened first later) in
-    subst (λ (ns : List (List ℕ)). IsOpened g.D.Disk.disk g.D.Disk.may_leave g.D.Disk.left_since o (place_with (map round_of ns) book c.args.left) [] book new c.open_each.result) (sym c.in-Some.ensures.cases.0)
+    subst (λ (ns : List (List ℕ)). IsOpened g.D.Disk.disk o (place_with (map round_of ns) book c.args.left) [] book new c.open_each.result) (sym c.in-Some.ensures.cases.0)
     (opens_more o (place_with (round_of c.in-Some.bot.now ∷ later) book c.args.left) later [] c.in-Ok.left book mid new c.open_each.result front (c.open_each.ensures.opened first limit (is ∙ sym c.open_by.ensures.limit)))
 
 pub returns-in-Err-clause-opened : goal.returns-in-Err-clause-opened
 returns-in-Err-clause-opened g t c = λ first limit is.
     let m = g.R.Rules.meaning in let book = c.args.book.now in let mid = c.open_by.new.book in
     let later = map round_of c.in-Some.others.now in
-    subst (λ (n : ℕ). IsOpened g.D.Disk.disk g.D.Disk.may_leave g.D.Disk.left_since (outside m first (g.C.Clock.told c.args.clock.now) n) (place_with (map round_of c.args.names.now) book c.args.left) [] book mid (Err c.in-Err.end)) (sym is)
-    (subst (λ (ns : List (List ℕ)). IsOpened g.D.Disk.disk g.D.Disk.may_leave g.D.Disk.left_since (outside m first (g.C.Clock.told c.args.clock.now) book.limit) (place_with (map round_of ns) book c.args.left) [] book mid (Err c.in-Err.end)) (sym c.in-Some.ensures.cases.0)
+    subst (λ (n : ℕ). IsOpened g.D.Disk.disk (outside m first (g.C.Clock.told c.args.clock.now) n) (place_with (map round_of c.args.names.now) book c.args.left) [] book mid (Err c.in-Err.end)) (sym is)
+    (subst (λ (ns : List (List ℕ)). IsOpened g.D.Disk.disk (outside m first (g.C.Clock.told c.args.clock.now) book.limit) (place_with (map round_of ns) book c.args.left) [] book mid (Err c.in-Err.end)) (sym c.in-Some.ensures.cases.0)
     (ends_anyhow (outside m first (g.C.Clock.told c.args.clock.now) book.limit) (place_with (round_of c.in-Some.bot.now ∷ later) book c.args.left) later [] book mid c.in-Err.end (c.in-Err.ensures.opened first later)))

@@ -19,7 +19,7 @@ returns-in-Err-reload-clause-opened g c = λ first.
     let o = outside m first (g.C.Clock.told c.args.clock.now) book.limit in
     let rounds = rounds_of m (with_bundle m book.state bundle) asked in
     let later = reload_of bundle ++ rounds in
-    let rest = subst (λ (n : ℕ). IsOpened g.D.Disk.disk g.D.Disk.may_leave g.D.Disk.left_since (outside m first (g.C.Clock.told c.args.clock.now) n) (place_with later mid c.in-Ok.left) rounds mid new (Err c.in-Err-reload.end)) c.open_by.ensures.limit
+    let rest = subst (λ (n : ℕ). IsOpened g.D.Disk.disk (outside m first (g.C.Clock.told c.args.clock.now) n) (place_with later mid c.in-Ok.left) rounds mid new (Err c.in-Err-reload.end)) c.open_by.ensures.limit
     (c.in-Err-reload.ensures.opened first rounds) in
     ends_anyhow o (place_with (kind.Start ∷ later) book c.args.left) rounds [] book new c.in-Err-reload.end
     (opens_more o (place_with (kind.Start ∷ later) book c.args.left) later rounds c.in-Ok.left book mid new (Err c.in-Err-reload.end) (c.in-Ok.ensures.opened first later) rest)
@@ -32,15 +32,15 @@ returns-then-rounds-clause-opened g c = λ first.
     let rounds = rounds_of m (with_bundle m book.state bundle) asked in
     let later = reload_of bundle ++ rounds in
     let start = place_with (kind.Start ∷ later) book c.args.left in
-    let rest = subst (λ (n : ℕ). IsOpened g.D.Disk.disk g.D.Disk.may_leave g.D.Disk.left_since (outside m first (g.C.Clock.told c.args.clock.now) n) (place_with later mid c.in-Ok.left) rounds mid behind (Ok c.in-Ok-reload.left)) c.open_by.ensures.limit (c.in-Ok-reload.ensures.opened first rounds) in
+    let rest = subst (λ (n : ℕ). IsOpened g.D.Disk.disk (outside m first (g.C.Clock.told c.args.clock.now) n) (place_with later mid c.in-Ok.left) rounds mid behind (Ok c.in-Ok-reload.left)) c.open_by.ensures.limit (c.in-Ok-reload.ensures.opened first rounds) in
     let front = opens_more o start later rounds c.in-Ok.left book mid behind (Ok c.in-Ok-reload.left) (c.in-Ok.ensures.opened first later) rest in
     let step = c.in-Ok.ensures.step in
     let same = c.in-Ok-reload.ensures.rounds true ∙ rounds_started m book.state mid.state step.0 bundle true step.1 step.2 in
     let named = subst (λ (a : Bool). rounds_of m behind.state true ≡ rounds_of m (with_bundle m book.state bundle) a) (sym c.if-rounds.true) same in
-    let last = subst (λ (n : ℕ). IsOpened g.D.Disk.disk g.D.Disk.may_leave g.D.Disk.left_since (outside m first (g.C.Clock.told c.args.clock.now) n) (place_with (rounds_of m behind.state true) behind c.in-Ok-reload.left) [] behind new c.open_rounds.result)
+    let last = subst (λ (n : ℕ). IsOpened g.D.Disk.disk (outside m first (g.C.Clock.told c.args.clock.now) n) (place_with (rounds_of m behind.state true) behind c.in-Ok-reload.left) [] behind new c.open_rounds.result)
     (c.reload.ensures.limit ∙ c.open_by.ensures.limit) (c.open_rounds.ensures.opened first) in
     opens_more o start rounds [] c.in-Ok-reload.left book behind new c.open_rounds.result front
-    (subst (λ (ks : List StepKind). IsOpened g.D.Disk.disk g.D.Disk.may_leave g.D.Disk.left_since o (place_with ks behind c.in-Ok-reload.left) [] behind new c.open_rounds.result) named last)
+    (subst (λ (ks : List StepKind). IsOpened g.D.Disk.disk o (place_with ks behind c.in-Ok-reload.left) [] behind new c.open_rounds.result) named last)
 
 pub returns-else-rounds-clause-opened : goal.returns-else-rounds-clause-opened
 returns-else-rounds-clause-opened g c = λ first.
@@ -50,6 +50,6 @@ returns-else-rounds-clause-opened g c = λ first.
     let rounds = rounds_of m (with_bundle m book.state bundle) asked in
     let later = reload_of bundle ++ rounds in
     let start = place_with (kind.Start ∷ later) book c.args.left in
-    let rest = subst (λ (n : ℕ). IsOpened g.D.Disk.disk g.D.Disk.may_leave g.D.Disk.left_since (outside m first (g.C.Clock.told c.args.clock.now) n) (place_with later mid c.in-Ok.left) rounds mid behind (Ok c.in-Ok-reload.left)) c.open_by.ensures.limit (c.in-Ok-reload.ensures.opened first rounds) in
+    let rest = subst (λ (n : ℕ). IsOpened g.D.Disk.disk (outside m first (g.C.Clock.told c.args.clock.now) n) (place_with later mid c.in-Ok.left) rounds mid behind (Ok c.in-Ok-reload.left)) c.open_by.ensures.limit (c.in-Ok-reload.ensures.opened first rounds) in
     let front = opens_more o start later rounds c.in-Ok.left book mid behind (Ok c.in-Ok-reload.left) (c.in-Ok.ensures.opened first later) rest in
-    subst (λ (a : Bool). IsOpened g.D.Disk.disk g.D.Disk.may_leave g.D.Disk.left_since o start (rounds_of m (with_bundle m book.state bundle) a) book behind (Ok c.in-Ok-reload.left)) c.if-rounds.false front
+    subst (λ (a : Bool). IsOpened g.D.Disk.disk o start (rounds_of m (with_bundle m book.state bundle) a) book behind (Ok c.in-Ok-reload.left)) c.if-rounds.false front

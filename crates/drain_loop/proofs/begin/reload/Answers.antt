@@ -10,5 +10,5 @@ pub returns-in-None-clause-opened : goal.returns-in-None-clause-opened
 returns-in-None-clause-opened g c = λ first later.
     let book = c.args.book.now in
     let o = outside g.R.Rules.meaning first (g.C.Clock.told c.args.clock.now) book.limit in
-    subst (λ (b : Option (List ℕ)). IsOpened g.D.Disk.disk g.D.Disk.may_leave g.D.Disk.left_since o (place_with (reload_of b ++ later) book c.args.left) later book book (Ok c.args.left)) (sym c.in-None.is)
+    subst (λ (b : Option (List ℕ)). IsOpened g.D.Disk.disk o (place_with (reload_of b ++ later) book c.args.left) later book book (Ok c.args.left)) (sym c.in-None.is)
     (opens_none o later c.args.left book (g.met.D.Disk.only_now book.disk))

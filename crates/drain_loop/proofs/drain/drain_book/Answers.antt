@@ -24,7 +24,7 @@ pub returns-clause-drained : goal.returns-clause-drained
 returns-clause-drained g c =
     let o = outside g.R.Rules.meaning (g.H.Shelf.shelf c.args.shelf.now) (g.C.Clock.told c.args.clock.now) c.args.book.now.limit in
     let all = still_drained o c.args.left c.args.book.now c.drain_feeds-end.new.book c.close.new.book c.drain_feeds-end.result c.drain_feeds-end.ensures.drained c.close.ensures.goes_on in
-    ended_as (IsDrained g.D.Disk.disk g.D.Disk.may_leave g.D.Disk.left_since o c.args.left c.args.book.now c.close.new.book) c.drain_feeds-end.result c.close.result c.close.ensures.same all
+    ended_as (IsDrained g.D.Disk.disk o c.args.left c.args.book.now c.close.new.book) c.drain_feeds-end.result c.close.result c.close.ensures.same all
     (cut_short o c.args.left c.args.book.now c.close.new.book c.drain_feeds-end.result all)
 
 pub returns-clause-failed : goal.returns-clause-failed

@@ -29,7 +29,7 @@ turns-preserved g c =
       run = λ first told.
           let o = outside m first (g.C.Clock.told c.args.clock.now) c.args.book.now.limit in
           turn_more o (place_of c.args.book.now c.args.left) c.turns.left c.one_less-left.result c.args.book.now c.turns.book c.turn.new.book (inv.run first told)
-          (subst (λ (n : ℕ). OneStep g.D.Disk.disk g.D.Disk.may_leave g.D.Disk.left_since (outside m first (g.C.Clock.told c.args.clock.now) n) c.turns.left c.turns.book c.turn.new.book) inv.limit
+          (subst (λ (n : ℕ). OneStep g.D.Disk.disk (outside m first (g.C.Clock.told c.args.clock.now) n) c.turns.left c.turns.book c.turn.new.book) inv.limit
           (c.in-Ok.ensures.made first (told ∙ sym inv.looked.shelf.told)))
           c.one_less-left.ensures;
       whole = c.in-Ok.ensures.whole;

@@ -10,7 +10,7 @@ use Rattle.drain_loop.proofs.drain.turns.Given as goal
 abbrev pub invariant-turns : goal.invariant-turns
 invariant-turns g l = record {
   run : (first : ShelfView) → first.told ≡ (g.H.Shelf.shelf l.initial.shelf).told
-      → Running g.D.Disk.disk g.D.Disk.may_leave g.D.Disk.left_since (outside g.R.Rules.meaning first (g.C.Clock.told l.clock) l.initial.book.limit) (place_of l.initial.book l.initial.left) (place_of l.book l.left) l.initial.book l.book;
+      → Running g.D.Disk.disk (outside g.R.Rules.meaning first (g.C.Clock.told l.clock) l.initial.book.limit) (place_of l.initial.book l.initial.left) (place_of l.book l.left) l.initial.book l.book;
   whole : l.book.broken ≡ false;
   bundle : l.book.state.bundle ≡ l.initial.book.state.bundle;
   limit : l.book.limit ≡ l.initial.book.limit;

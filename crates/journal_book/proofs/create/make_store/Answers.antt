@@ -17,7 +17,7 @@ returns-in-Ok-make_files-clause-at_rest g c = λ files after told now.
       given = (omega arith, tt);
       root_rests = c.in-Ok-make_files.ensures.root files after before now;
       records = [];
-      journal_rests = subst (λ (b : List ℕ). IsAtRest c.in-Ok-make_files.journal (g.D.Disk.may_leave c.make_files.new.disk) (b ∷ []) after) code (c.in-Ok-make_files.ensures.journal files after before now);
+      journal_rests = subst (λ (b : List ℕ). IsAtRest c.in-Ok-make_files.journal (g.D.Disk.disk c.make_files.new.disk).may_leave (b ∷ []) after) code (c.in-Ok-make_files.ensures.journal files after before now);
       content = refl;
     }
 

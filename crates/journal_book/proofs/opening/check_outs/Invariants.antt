@@ -6,7 +6,7 @@ use Rattle.journal_book.proofs.opening.check_outs.Given as goal
 
 abbrev pub invariant-outs : goal.invariant-outs
 invariant-outs g l =
-    OnlyReads g.D.Disk.disk g.D.Disk.may_leave g.D.Disk.left_since l.initial.disk l.disk
+    OnlyReads (g.D.Disk.disk l.initial.disk) (g.D.Disk.disk l.disk)
     × ((files : Image) → (g.D.Disk.disk l.initial.disk).told ≡ Some files → AreLong 0 (take l.k l.core.state.outs) files)
     × (l.k ≤ length l.core.state.outs)
 

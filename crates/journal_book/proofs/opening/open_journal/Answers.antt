@@ -12,7 +12,7 @@ returns-in-Ok-clause-recovers g c = record {
   elsewhere = c.reopen.ensures.elsewhere;
   untold = c.reopen.ensures.untold;
   crash_elsewhere = c.reopen.ensures.crash_elsewhere;
-  histories = histories_kept g.D.Disk.disk g.D.Disk.may_leave g.D.Disk.left_since c.args.disk.now c.reopen.new.disk c.args.file (heading_of c.args.generation) c.requires (g.met.D.Disk.honest c.args.disk.now) (g.met.D.Disk.counts_now c.reopen.new.disk)
+  histories = histories_kept (g.D.Disk.disk c.args.disk.now) (g.D.Disk.disk c.reopen.new.disk) c.args.file (heading_of c.args.generation) c.requires (g.met.D.Disk.honest c.args.disk.now) (g.met.D.Disk.counts_now c.reopen.new.disk)
       c.reopen.ensures.elsewhere c.reopen.ensures.any_moment;
   count = c.reopen.ensures.count;
 }
@@ -22,7 +22,7 @@ returns-in-Err-clause-recovers g c = record {
   elsewhere = c.reopen.ensures.elsewhere;
   untold = c.reopen.ensures.untold;
   crash_elsewhere = c.reopen.ensures.crash_elsewhere;
-  histories = histories_kept g.D.Disk.disk g.D.Disk.may_leave g.D.Disk.left_since c.args.disk.now c.reopen.new.disk c.args.file (heading_of c.args.generation) c.requires (g.met.D.Disk.honest c.args.disk.now) (g.met.D.Disk.counts_now c.reopen.new.disk)
+  histories = histories_kept (g.D.Disk.disk c.args.disk.now) (g.D.Disk.disk c.reopen.new.disk) c.args.file (heading_of c.args.generation) c.requires (g.met.D.Disk.honest c.args.disk.now) (g.met.D.Disk.counts_now c.reopen.new.disk)
       c.reopen.ensures.elsewhere c.reopen.ensures.any_moment;
   count = c.reopen.ensures.count;
 }

@@ -10,7 +10,7 @@ returns-in-Ok-generation_named-clause-at_rest g c = λ files after told now.
     let named = c.in-Ok-generation_named.ensures.ok in (
       named.before,
       named.given,
-      subst (λ (bodies : List (List ℕ)). IsAtRest c.in-Ok.found.0 (g.D.Disk.may_leave c.open_journal.new.disk) bodies after) (sym c.as_slice.ensures ∙ named.is) (c.in-Ok.ensures.at_rest files after told now),
+      subst (λ (bodies : List (List ℕ)). IsAtRest c.in-Ok.found.0 (g.D.Disk.disk c.open_journal.new.disk).may_leave bodies after) (sym c.as_slice.ensures ∙ named.is) (c.in-Ok.ensures.at_rest files after told now),
     )
 
 pub returns-in-Err-generation_named-clause-fault : goal.returns-in-Err-generation_named-clause-fault

@@ -71,7 +71,7 @@ returns-in-Ok-check_outs-clause-at_rest g c = λ files after told now.
     let reads = c.check_outs.ensures.reads in
     let last = sym reads.told ∙ now in
     let root = c.in-Ok.ensures.at_rest files mid.0 told_len mid.1 in
-    store_rests g.D.Disk.disk g.D.Disk.may_leave g.D.Disk.left_since c.open_root.new.disk c.open_generation.new.disk c.check_outs.new.disk m c.in-Ok.found.0 c.in-Ok-open_generation.found.0 c.in-Ok.found.1 history.base.value history.steps root.0
+    store_rests (g.D.Disk.disk c.open_root.new.disk) (g.D.Disk.disk c.open_generation.new.disk) (g.D.Disk.disk c.check_outs.new.disk) m c.in-Ok.found.0 c.in-Ok-open_generation.found.0 c.in-Ok.found.1 history.base.value history.steps root.0
     found.0 mid.0 after c.in-Ok.ensures.journal.0 root.1 root.2 mid.1 c.open_generation.ensures.recovers last found.1 (found.4 mid.0 after mid.1 last) reads.crash
 
 pub returns-in-Ok-check_outs-clause-histories : goal.returns-in-Ok-check_outs-clause-histories

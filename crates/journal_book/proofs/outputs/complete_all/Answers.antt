@@ -22,7 +22,7 @@ returns-in-Err-clause-run g c =
     let outs = c.args.core.now.state.outs in
     let found = output_at outs c.outputs.k (omega (arith, c.outputs-test.true, c.outputs.invariant.end)) in
     over_all (c.outputs.k + 1)
-    (one_output g.D.Disk.disk g.D.Disk.may_leave g.D.Disk.left_since c.args.disk.now c.outputs.disk c.complete_one.new.disk outs c.outputs.k found.0 found.1
+    (one_output (g.D.Disk.disk c.args.disk.now) (g.D.Disk.disk c.outputs.disk) (g.D.Disk.disk c.complete_one.new.disk) outs c.outputs.k found.0 found.1
     (g.met.D.Disk.honest c.complete_one.new.disk) (λ image later left. g.met.D.Disk.counts_now c.complete_one.new.disk _ image later left)
     c.outputs.invariant.run (c.complete_one.ensures.run found.0 found.1))
 
@@ -39,10 +39,10 @@ outputs-preserved g c =
     let run = c.complete_one.ensures.run found.0 found.1 in
     record {
       end = c.outputs.invariant.end;
-      run = one_output g.D.Disk.disk g.D.Disk.may_leave g.D.Disk.left_since c.args.disk.now c.outputs.disk c.complete_one.new.disk outs c.outputs.k found.0 found.1 honest
+      run = one_output (g.D.Disk.disk c.args.disk.now) (g.D.Disk.disk c.outputs.disk) (g.D.Disk.disk c.complete_one.new.disk) outs c.outputs.k found.0 found.1 honest
           (λ image later left. g.met.D.Disk.counts_now c.complete_one.new.disk _ image later left) c.outputs.invariant.run run;
       done = λ files after told now j out below is.
-          done_more g.D.Disk.disk g.D.Disk.may_leave g.D.Disk.left_since c.args.disk.now c.outputs.disk c.complete_one.new.disk outs c.outputs.k found.0 found.1 honest
+          done_more (g.D.Disk.disk c.args.disk.now) (g.D.Disk.disk c.outputs.disk) (g.D.Disk.disk c.complete_one.new.disk) outs c.outputs.k found.0 found.1 honest
           (λ image later left. g.met.D.Disk.counts_now c.complete_one.new.disk _ image later left) c.outputs.invariant.run run files after told now
           (λ done before here was. c.in-Ok.ensures.completed done before after here was now)
           (λ before was. c.outputs.invariant.done files before told was) j out below is (j == c.outputs.k) refl;

@@ -10,7 +10,7 @@ use Rattle.journal_book.proofs.outputs.complete_all.Given as goal
 abbrev pub invariant-outputs : goal.invariant-outputs
 invariant-outputs g l = record {
   end : l.k-end ≡ length l.core.state.outs;
-  run : RunsOut g.D.Disk.disk g.D.Disk.may_leave g.D.Disk.left_since l.fn.disk l.disk l.core.state.outs (IsNoneOf l.k);
+  run : RunsOut (g.D.Disk.disk l.fn.disk) (g.D.Disk.disk l.disk) l.core.state.outs (IsNoneOf l.k);
   done : (files after : Image) → (g.D.Disk.disk l.fn.disk).told ≡ Some files → (g.D.Disk.disk l.disk).told ≡ Some after
-      → (j : ℕ) (out : Output) → j < l.k → slice_get l.core.state.outs j ≡ Some out → IsCompleted (g.D.Disk.may_leave l.disk) (out_file j) out files after;
+      → (j : ℕ) (out : Output) → j < l.k → slice_get l.core.state.outs j ≡ Some out → IsCompleted (g.D.Disk.disk l.disk).may_leave (out_file j) out files after;
 }

@@ -20,7 +20,7 @@ returns-in_err-cut-clause-any_moment g c =
     let lined = then_run looked c.write_lines.ensures.run in
     let above : c.args.sealed ≤ c.in_ok-end.end = omega (arith, c.in_ok-end.ensures.end) in
     let cut = then_run lined (one_call c.args.file c.args.sealed (g.met.D.Disk.only_now c.write_lines.new.disk) c.cut.ensures.time c.cut.ensures.elsewhere c.cut.ensures.untold c.cut.ensures.crash_elsewhere
-    (shortening_keeps g.D.Disk.may_leave _ _ c.args.file c.args.sealed c.in_ok-end.end above c.cut.ensures.crash) c.cut.ensures.count) in
+    (shortening_keeps (g.D.Disk.disk c.write_lines.new.disk) (g.D.Disk.disk c.cut.new.self) c.args.file c.args.sealed c.in_ok-end.end above c.cut.ensures.crash) c.cut.ensures.count) in
     cut.any_moment
 
 pub returns-in_err-sync-clause-any_moment : goal.returns-in_err-sync-clause-any_moment
@@ -29,7 +29,7 @@ returns-in_err-sync-clause-any_moment g c =
     let lined = then_run looked c.write_lines.ensures.run in
     let above : c.args.sealed ≤ c.in_ok-end.end = omega (arith, c.in_ok-end.ensures.end) in
     let cut = then_run lined (one_call c.args.file c.args.sealed (g.met.D.Disk.only_now c.write_lines.new.disk) c.cut.ensures.time c.cut.ensures.elsewhere c.cut.ensures.untold c.cut.ensures.crash_elsewhere
-    (shortening_keeps g.D.Disk.may_leave _ _ c.args.file c.args.sealed c.in_ok-end.end above c.cut.ensures.crash) c.cut.ensures.count) in
+    (shortening_keeps (g.D.Disk.disk c.write_lines.new.disk) (g.D.Disk.disk c.cut.new.self) c.args.file c.args.sealed c.in_ok-end.end above c.cut.ensures.crash) c.cut.ensures.count) in
     let synced = then_run cut (one_look c.args.file c.args.sealed (g.met.D.Disk.only_now c.cut.new.self) c.sync.ensures.time c.sync.ensures.told c.sync.ensures.crash c.sync.ensures.count) in
     synced.any_moment
 
@@ -46,6 +46,6 @@ returns-clause-any_moment g c =
     let lined = then_run looked c.write_lines.ensures.run in
     let above : c.args.sealed ≤ c.in_ok-end.end = omega (arith, c.in_ok-end.ensures.end) in
     let cut = then_run lined (one_call c.args.file c.args.sealed (g.met.D.Disk.only_now c.write_lines.new.disk) c.cut.ensures.time c.cut.ensures.elsewhere c.cut.ensures.untold c.cut.ensures.crash_elsewhere
-    (shortening_keeps g.D.Disk.may_leave _ _ c.args.file c.args.sealed c.in_ok-end.end above c.cut.ensures.crash) c.cut.ensures.count) in
+    (shortening_keeps (g.D.Disk.disk c.write_lines.new.disk) (g.D.Disk.disk c.cut.new.self) c.args.file c.args.sealed c.in_ok-end.end above c.cut.ensures.crash) c.cut.ensures.count) in
     let synced = then_run cut (one_look c.args.file c.args.sealed (g.met.D.Disk.only_now c.cut.new.self) c.sync.ensures.time c.sync.ensures.told c.sync.ensures.crash c.sync.ensures.count) in
     synced.any_moment

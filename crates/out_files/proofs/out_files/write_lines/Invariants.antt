@@ -13,5 +13,5 @@ invariant-lines g l = record {
       → IsSoFar (after l.file) l.at l.buffer.items (completed (files l.file) l.sealed (take l.line-index l.lines));
   less : length l.buffer.items < piece_length;
   room : vec_capacity l.fn.buffer ≤ vec_capacity l.buffer;
-  run : RunsAbove g.D.Disk.disk g.D.Disk.may_leave g.D.Disk.left_since l.fn.disk l.disk l.file l.sealed;
+  run : RunsAbove (g.D.Disk.disk l.fn.disk) (g.D.Disk.disk l.disk) l.file l.sealed;
 }

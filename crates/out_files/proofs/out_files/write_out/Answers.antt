@@ -8,7 +8,7 @@ pub returns-in_err-write_at-clause-run : goal.returns-in_err-write_at-clause-run
 returns-in_err-write_at-clause-run g c sealed above =
     one_call c.args.file sealed (g.met.D.Disk.only_now c.args.disk.now)
     c.write_at.ensures.time c.write_at.ensures.elsewhere c.write_at.ensures.untold c.write_at.ensures.crash_elsewhere
-    (write_keeps g.D.Disk.may_leave _ _ c.args.file sealed c.args.at _ above c.write_at.ensures.crash) c.write_at.ensures.count
+    (write_keeps (g.D.Disk.disk c.args.disk.now) (g.D.Disk.disk c.write_at.new.self) c.args.file sealed c.args.at _ above c.write_at.ensures.crash) c.write_at.ensures.count
 
 pub returns-clause-written : goal.returns-clause-written
 returns-clause-written g c files after text told told_after before =
@@ -21,4 +21,4 @@ pub returns-clause-run : goal.returns-clause-run
 returns-clause-run g c sealed above =
     one_call c.args.file sealed (g.met.D.Disk.only_now c.args.disk.now)
     c.write_at.ensures.time c.write_at.ensures.elsewhere c.write_at.ensures.untold c.write_at.ensures.crash_elsewhere
-    (write_keeps g.D.Disk.may_leave _ _ c.args.file sealed c.args.at _ above c.write_at.ensures.crash) c.write_at.ensures.count
+    (write_keeps (g.D.Disk.disk c.args.disk.now) (g.D.Disk.disk c.write_at.new.self) c.args.file sealed c.args.at _ above c.write_at.ensures.crash) c.write_at.ensures.count

@@ -11,5 +11,5 @@ returns-in-Err-clause-made g c = λ seen before after. record {
   end_is = refl;
   made = λ files told. subst (λ (s : SinkView). Took seen.sink s []) (before ∙ sym after) (Took-nothing seen.sink);
   begun = λ files told whole. absurd whole;
-  left_alone = still_here g.D.Disk.disk g.D.Disk.may_leave g.D.Disk.left_since c.args.disk (g.met.D.Disk.only_now c.args.disk);
+  left_alone = still_here (g.D.Disk.disk c.args.disk) (g.met.D.Disk.only_now c.args.disk);
 }

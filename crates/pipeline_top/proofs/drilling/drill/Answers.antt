@@ -10,6 +10,6 @@ returns-in-Err-clause-drilled g c = λ shelf. record {
   making = end.Memory;
   made = λ files told. tt;
   begun = λ files told done. absurd (cc (done));
-  left_alone = still_here g.D.Disk.disk g.D.Disk.may_leave g.D.Disk.left_since c.args.disk (g.met.D.Disk.only_now c.args.disk);
+  left_alone = still_here (g.D.Disk.disk c.args.disk) (g.met.D.Disk.only_now c.args.disk);
   done = (refl, refl, Took-nothing (g.S.Sink.sink c.args.out.now));
 }

@@ -19,9 +19,9 @@ returns-then-lacks_store-clause-drilled g c = λ other lines number is.
       mid = mid;
       making = making;
       made = λ files told. subst (λ (code : List ℕ). IsNewStore intel files code making) c.requires.bundle (c.make_store-end.ensures.made files told);
-      begun = λ files told done. subst (λ (code : List ℕ). IsBegun g.D.Disk.disk g.D.Disk.may_leave intel code mid) c.requires.bundle (c.make_store-end.ensures.stands files told done);
+      begun = λ files told done. subst (λ (code : List ℕ). IsBegun intel code (g.D.Disk.disk mid)) c.requires.bundle (c.make_store-end.ensures.stands files told done);
       left_alone = λ first steps more was. c.make_store-end.ensures.left_alone first steps more was;
-      done = not_drilled g.D.Disk.disk g.D.Disk.may_leave g.D.Disk.left_since lines number (record { shelf = other; sink = sink; sink_now = sink; clock = g.C.Clock.told c.args.clock.now }) mid mid c.store_status.result making lacks
+      done = not_drilled g.D.Disk.disk lines number (record { shelf = other; sink = sink; sink_now = sink; clock = g.C.Clock.told c.args.clock.now }) mid mid c.store_status.result making lacks
           (c.store_status.ensures, refl, Took-nothing sink);
     }
 
@@ -38,9 +38,9 @@ returns-clause-drilled g c = λ other lines number is.
       mid = mid;
       making = making;
       made = λ files told. subst (λ (code : List ℕ). IsNewStore intel files code making) c.requires.bundle (c.make_store-end.ensures.made files told);
-      begun = λ files told done. subst (λ (code : List ℕ). IsBegun g.D.Disk.disk g.D.Disk.may_leave intel code mid) c.requires.bundle (c.make_store-end.ensures.stands files told done);
+      begun = λ files told done. subst (λ (code : List ℕ). IsBegun intel code (g.D.Disk.disk mid)) c.requires.bundle (c.make_store-end.ensures.stands files told done);
       left_alone = λ first steps more was. c.make_store-end.ensures.left_alone first steps more was;
-      done = subst (λ (e : StoreEnd). IsDrillEnd g.D.Disk.disk g.D.Disk.may_leave g.D.Disk.left_since lines number
+      done = subst (λ (e : StoreEnd). IsDrillEnd g.D.Disk.disk lines number
           (record { shelf = other; sink = g.S.Sink.sink c.args.out.now; sink_now = g.S.Sink.sink drained.new.out; clock = g.C.Clock.told c.args.clock.now }) mid drained.result.1 drained.result.0 e) (sym made_one)
           (drained.ensures.drained (drill_shelf lines number) (ap (λ v. v.told) is));
     }

@@ -13,7 +13,7 @@ returns-in-Ok-clause-made g c = λ files told.
 pub returns-in-Ok-clause-stands : goal.returns-in-Ok-clause-stands
 returns-in-Ok-clause-stands g c = λ files told done.
     let made = c.in-Ok.ensures.book in
-    subst (λ d. IsBegun g.D.Disk.disk g.D.Disk.may_leave g.R.Rules.meaning c.args.bundle.now d) (sym c.into_disk.ensures) (begun_by c.args.bundle.now made.0 c.args.rules 67_108_864 c.in-Ok.book made.1 made.2 (c.in-Ok.ensures.kept files told))
+    subst (λ d. IsBegun g.R.Rules.meaning c.args.bundle.now (g.D.Disk.disk d)) (sym c.into_disk.ensures) (begun_by c.args.bundle.now made.0 c.args.rules 67_108_864 c.in-Ok.book made.1 made.2 (c.in-Ok.ensures.kept files told))
 
 pub returns-in-Ok-clause-left_alone : goal.returns-in-Ok-clause-left_alone
 returns-in-Ok-clause-left_alone g c = λ first steps more was. absurd (no_store g.R.Rules.meaning first steps more was.files (was.each was.files (g.met.D.Disk.honest c.args.disk was.files was.tells)) (c.in-Ok.ensures.empty was.files was.tells))

@@ -32,9 +32,9 @@ pub returns-in-Ok-complete_outputs-clause-stands : goal.returns-in-Ok-complete_o
 returns-in-Ok-complete_outputs-clause-stands g c = λ first steps more was.
     let m = g.R.Rules.meaning in
     let opened = c.in-Ok.book in let later = c.complete_outputs.new.book in
-    let is : IsOpened g.D.Disk.disk g.D.Disk.may_leave g.D.Disk.left_since m first steps more c.args.disk opened =
+    let is : IsOpened g.D.Disk.disk m first steps more c.args.disk opened =
     opened_so first steps more c.args.disk c.args.rules _ opened c.in-Ok.ensures.book (c.in-Ok.ensures.kept first steps more was) (c.in-Ok.ensures.any_moment first steps more was) in
-    subst (λ d. StandsOn g.D.Disk.disk g.D.Disk.may_leave g.D.Disk.left_since m first steps more c.args.disk d) (sym c.into_disk.ensures)
+    subst (λ d. StandsOn m first steps more (g.D.Disk.disk c.args.disk) (g.D.Disk.disk d)) (sym c.into_disk.ensures)
     (still_stands first steps more [] c.args.disk opened later is c.complete_outputs.ensures.goes_on refl)
 
 pub returns-in-Err-complete_outputs-clause-completed : goal.returns-in-Err-complete_outputs-clause-completed
@@ -49,9 +49,9 @@ pub returns-in-Err-complete_outputs-clause-stands : goal.returns-in-Err-complete
 returns-in-Err-complete_outputs-clause-stands g c = λ first steps more was.
     let m = g.R.Rules.meaning in
     let opened = c.in-Ok.book in let later = c.complete_outputs.new.book in
-    let is : IsOpened g.D.Disk.disk g.D.Disk.may_leave g.D.Disk.left_since m first steps more c.args.disk opened =
+    let is : IsOpened g.D.Disk.disk m first steps more c.args.disk opened =
     opened_so first steps more c.args.disk c.args.rules _ opened c.in-Ok.ensures.book (c.in-Ok.ensures.kept first steps more was) (c.in-Ok.ensures.any_moment first steps more was) in
-    subst (λ d. StandsOn g.D.Disk.disk g.D.Disk.may_leave g.D.Disk.left_since m first steps more c.args.disk d) (sym c.into_disk-in-Err-complete_outputs.ensures)
+    subst (λ d. StandsOn m first steps more (g.D.Disk.disk c.args.disk) (g.D.Disk.disk d)) (sym c.into_disk-in-Err-complete_outputs.ensures)
     (still_stands first steps more [] c.args.disk opened later is c.complete_outputs.ensures.goes_on refl)
 
 pub returns-in-Err-clause-completed : goal.returns-in-Err-clause-completed
@@ -68,13 +68,13 @@ pub returns-in-Ok-complete_outputs-clause-written : goal.returns-in-Ok-complete_
 returns-in-Ok-complete_outputs-clause-written g c = λ first history now none.
     let m = g.R.Rules.meaning in
     let is = c.into_disk.ensures in
-    written_at c.say-end.result _ (subst (λ d. AreWritten g.D.Disk.disk g.D.Disk.may_leave m first history d) (sym is)
-    (c.in-Ok-complete_outputs.ensures.written first history (subst (λ d. StandsNow g.D.Disk.disk g.D.Disk.may_leave m first history [] d) is now) none))
+    written_at c.say-end.result _ (subst (λ d. AreWritten m first history (g.D.Disk.disk d)) (sym is)
+    (c.in-Ok-complete_outputs.ensures.written first history (subst (λ d. StandsNow m first history [] (g.D.Disk.disk d)) is now) none))
 
 pub returns-in-Err-complete_outputs-clause-written : goal.returns-in-Err-complete_outputs-clause-written
 returns-in-Err-complete_outputs-clause-written g c = λ first history now none.
-    unwritten_end c.in-Err-complete_outputs.fault c.end_of.result (AreWritten g.D.Disk.disk g.D.Disk.may_leave g.R.Rules.meaning first history c.into_disk-in-Err-complete_outputs.result) c.end_of.ensures
+    unwritten_end c.in-Err-complete_outputs.fault c.end_of.result (AreWritten g.R.Rules.meaning first history (g.D.Disk.disk c.into_disk-in-Err-complete_outputs.result)) c.end_of.ensures
 
 pub returns-in-Err-clause-written : goal.returns-in-Err-clause-written
 returns-in-Err-clause-written g c = λ first history now none.
-    unwritten_end c.in-Err.fault c.end_of-in-Err.result (AreWritten g.D.Disk.disk g.D.Disk.may_leave g.R.Rules.meaning first history c.in-Err.disk) c.end_of-in-Err.ensures
+    unwritten_end c.in-Err.fault c.end_of-in-Err.result (AreWritten g.R.Rules.meaning first history (g.D.Disk.disk c.in-Err.disk)) c.end_of-in-Err.ensures

@@ -7,4 +7,4 @@ returns-in-Ok-clause-written g c = λ first history now none. written_at c.args.
 
 pub returns-in-Err-clause-written : goal.returns-in-Err-clause-written
 returns-in-Err-clause-written g c = λ first history now none.
-    unwritten_end c.in-Err.fault c.end_of.result (AreWritten g.D.Disk.disk g.D.Disk.may_leave g.R.Rules.meaning first history c.complete_outputs.new.book.disk) c.end_of.ensures
+    unwritten_end c.in-Err.fault c.end_of.result (AreWritten g.R.Rules.meaning first history (g.D.Disk.disk c.complete_outputs.new.book.disk)) c.end_of.ensures

@@ -42,14 +42,14 @@ returns-in-Ok-clause-stands g c = λ first steps more was.
     let later = c.redo_dump-end.new.book in
     let step = redo_step opened.state c.args.dump c.args.now in
     let run = c.redo_dump-end.ensures.run in
-    let is : IsOpened g.D.Disk.disk g.D.Disk.may_leave g.D.Disk.left_since m first steps more c.args.disk opened =
+    let is : IsOpened g.D.Disk.disk m first steps more c.args.disk opened =
     opened_so first steps more c.args.disk c.args.rules _ opened c.in-Ok.ensures.book (c.in-Ok.ensures.kept first steps more was) (c.in-Ok.ensures.any_moment first steps more was) in
     let e = c.redo_dump-end.result in
     let call = call_open step run.made e _ _ (no_damage opened.state _ (g.D.Disk.disk opened.disk).told c.args.dump e c.redo_dump-end.ensures.end (c.in-Ok.ensures.long was.files was.tells)) run.made_is
     (stands first steps more c.args.disk opened later is c.args.dump c.args.now e run) (λ one. (later.kept - opened.kept, makes first steps more c.args.disk opened later is c.args.dump c.args.now e run one))
     (λ other one. makes_durably first steps more c.args.disk opened later is c.args.dump c.args.now e run (c.redo_dump-end.ensures.durable other) one) in
-    subst (λ d. IsRedoCall c.report-end.result (StandsOn g.D.Disk.disk g.D.Disk.may_leave g.D.Disk.left_since m first steps more c.args.disk d)
-    (RedoesStep g.D.Disk.disk g.D.Disk.may_leave g.D.Disk.left_since m first steps more c.args.disk d c.args.dump c.args.now))
+    subst (λ d. IsRedoCall c.report-end.result (StandsOn m first steps more (g.D.Disk.disk c.args.disk) (g.D.Disk.disk d))
+    (RedoesStep m first steps more (g.D.Disk.disk c.args.disk) (g.D.Disk.disk d) c.args.dump c.args.now))
     (sym c.into_disk.ensures)
     (call_told e c.report-end.result _ _ _ _ _ c.report-end.ensures.printed c.report-end.ensures.kept call)
 
@@ -64,8 +64,8 @@ pub returns-in-Err-clause-stands : goal.returns-in-Err-clause-stands
 returns-in-Err-clause-stands g c = λ first steps more was.
     let m = g.R.Rules.meaning in
     let disk = c.in-Err.disk in
-    subst (λ (e : StoreEnd). IsRedoCall e (StandsOn g.D.Disk.disk g.D.Disk.may_leave g.D.Disk.left_since m first steps more c.args.disk disk)
-    (RedoesStep g.D.Disk.disk g.D.Disk.may_leave g.D.Disk.left_since m first steps more c.args.disk disk c.args.dump c.args.now))
+    subst (λ (e : StoreEnd). IsRedoCall e (StandsOn m first steps more (g.D.Disk.disk c.args.disk) (g.D.Disk.disk disk))
+    (RedoesStep m first steps more (g.D.Disk.disk c.args.disk) (g.D.Disk.disk disk) c.args.dump c.args.now))
     (sym c.end_of.ensures)
     (call_closed c.in-Err.fault _ _ (record { any_moment = c.in-Err.ensures.any_moment_err first steps more was; now = c.in-Err.ensures.still_err first steps more was }))
 
@@ -73,10 +73,10 @@ pub returns-in-Ok-clause-written : goal.returns-in-Ok-clause-written
 returns-in-Ok-clause-written g c = λ first history now none.
     let m = g.R.Rules.meaning in
     let is = c.into_disk.ensures in
-    subst (λ d. AreWrittenAt c.report-end.result (AreWritten g.D.Disk.disk g.D.Disk.may_leave m first history d)) (sym is)
+    subst (λ d. AreWrittenAt c.report-end.result (AreWritten m first history (g.D.Disk.disk d))) (sym is)
     (written_behind c.redo_dump-end.result c.report-end.result _ c.report-end.ensures.kept
-    (c.redo_dump-end.ensures.written first history (subst (λ d. StandsNow g.D.Disk.disk g.D.Disk.may_leave m first history [] d) is now) none))
+    (c.redo_dump-end.ensures.written first history (subst (λ d. StandsNow m first history [] (g.D.Disk.disk d)) is now) none))
 
 pub returns-in-Err-clause-written : goal.returns-in-Err-clause-written
 returns-in-Err-clause-written g c = λ first history now none.
-    unwritten_end c.in-Err.fault c.end_of.result (AreWritten g.D.Disk.disk g.D.Disk.may_leave g.R.Rules.meaning first history c.in-Err.disk) c.end_of.ensures
+    unwritten_end c.in-Err.fault c.end_of.result (AreWritten g.R.Rules.meaning first history (g.D.Disk.disk c.in-Err.disk)) c.end_of.ensures

@@ -50,7 +50,7 @@ returns-in-Err-clause-run g c =
     let step = redo_step old.state c.args.dump c.args.now in
     record {
       made = [];
-      run = subst (λ (b : BookView _ _). GoesOn g.D.Disk.disk g.D.Disk.may_leave g.D.Disk.left_since g.R.Rules.meaning b c.complete-in-Err.new.book []) c.in-Err.ensures.err c.complete-in-Err.ensures.goes_on;
+      run = subst (λ (b : BookView _ _). GoesOn g.D.Disk.disk g.R.Rules.meaning b c.complete-in-Err.new.book []) c.in-Err.ensures.err c.complete-in-Err.ensures.goes_on;
       made_is = made_so mid.state.outs (g.D.Disk.disk mid.disk).told step [] c.refusal_end.result c.complete-in-Err.result c.complete-in-Err.ensures.end
           (subst (λ (e : StoreEnd). AreMadeAt e step []) (sym c.refusal_end.ensures) (none_made c.args.dump step c.in-Err.refusal)) (inl refl);
     }

@@ -27,8 +27,8 @@ returns-in-Ok-clause-stands g c = λ first steps more was.
     let book = c.in-Ok.book in
     let all : book.kept ≡ length book.steps = ap (λ (b : BookView _ _). b.kept) c.in-Ok.ensures.book in
     record {
-      any_moment = subst (λ d. Leaves g.D.Disk.disk g.D.Disk.left_since c.args.disk d (StandsFor g.R.Rules.meaning first steps more)) (sym c.into_disk.ensures) (c.in-Ok.ensures.any_moment first steps more was);
-      now = subst (λ d. StandsNow g.D.Disk.disk g.D.Disk.may_leave g.R.Rules.meaning first steps more d) (sym c.into_disk.ensures) (stands_read first steps more book all (c.in-Ok.ensures.kept first steps more was));
+      any_moment = subst (λ d. Leaves (g.D.Disk.disk c.args.disk) (g.D.Disk.disk d) (StandsFor g.R.Rules.meaning first steps more)) (sym c.into_disk.ensures) (c.in-Ok.ensures.any_moment first steps more was);
+      now = subst (λ d. StandsNow g.R.Rules.meaning first steps more (g.D.Disk.disk d)) (sym c.into_disk.ensures) (stands_read first steps more book all (c.in-Ok.ensures.kept first steps more was));
     }
 
 pub returns-in-Err-clause-shown : goal.returns-in-Err-clause-shown

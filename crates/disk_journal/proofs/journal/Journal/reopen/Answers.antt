@@ -15,7 +15,7 @@ returns-in_err-cut_durably-clause-any_moment g c = λ files told.
     let found = c.in_ok-bodies.ensures.bodies files (c.in_ok-sync.ensures.told ∙ told) in
     let reads = c.in_ok-bodies.ensures.reads in
     run_on
-    (before_cut c.args.file (HaveSameBodies (heading_of c.args.generation) (files c.args.file)) c.sync.ensures.time reads g.met.D.Disk.only_now c.sync.ensures.crash)
+    (before_cut c.args.file (HaveSameBodies (heading_of c.args.generation) (files c.args.file)) c.sync.ensures.time reads (g.met.D.Disk.only_now c.args.disk.now) (g.met.D.Disk.only_now c.sync.new.self) c.sync.ensures.crash)
     (widened (λ image left. (inr (same_bodies (heading_of c.args.generation) c.in_ok-bodies.bodies c.in_ok-bodies.gate (files c.args.file) found.0 found.1 _ (λ d may. c.in_ok-sync.ensures.durable files told d (reads.crash c.args.file tt d may)) (image c.args.file) left.0), λ other ne. c.sync.ensures.crash other tt (image other) (reads.crash other tt (image other) (left.1 other ne)))) c.cut_durably.ensures.any_moment)
 
 pub returns-clause-any_moment : goal.returns-clause-any_moment
@@ -23,7 +23,7 @@ returns-clause-any_moment g c = λ files told.
     let found = c.in_ok-bodies.ensures.bodies files (c.in_ok-sync.ensures.told ∙ told) in
     let reads = c.in_ok-bodies.ensures.reads in
     run_on
-    (before_cut c.args.file (HaveSameBodies (heading_of c.args.generation) (files c.args.file)) c.sync.ensures.time reads g.met.D.Disk.only_now c.sync.ensures.crash)
+    (before_cut c.args.file (HaveSameBodies (heading_of c.args.generation) (files c.args.file)) c.sync.ensures.time reads (g.met.D.Disk.only_now c.args.disk.now) (g.met.D.Disk.only_now c.sync.new.self) c.sync.ensures.crash)
     (widened (λ image left. (inr (same_bodies (heading_of c.args.generation) c.in_ok-bodies.bodies c.in_ok-bodies.gate (files c.args.file) found.0 found.1 _ (λ d may. c.in_ok-sync.ensures.durable files told d (reads.crash c.args.file tt d may)) (image c.args.file) left.0), λ other ne. c.sync.ensures.crash other tt (image other) (reads.crash other tt (image other) (left.1 other ne)))) c.cut_durably.ensures.any_moment)
 
 pub returns-clause-bodies : goal.returns-clause-bodies

@@ -3,7 +3,7 @@ use Rattle.edge_memory.proofs.Steps.{elapses, keeps_past}
 use Rattle.edge_memory.proofs.disk.MemDiskDisk.sync.Goals as goal
 
 pub returns-clause-time : goal.returns-clause-time
-returns-clause-time c = elapses _ _ c.change.ensures.time
+returns-clause-time c = elapses c.args.self.now c.change.new.self c.change.ensures.time
 
 pub returns-clause-past : goal.returns-clause-past
 returns-clause-past c = keeps_past _ _ c.change.ensures.time

@@ -3,10 +3,10 @@ use Rattle.file_disk.proofs.Anything.{time_stands}
 use Rattle.file_disk.proofs.folder_disk.FolderDiskDisk.write_at.Goals as goal
 
 pub returns-in-Ok-clause-time : goal.returns-in-Ok-clause-time
-returns-in-Ok-clause-time g c = time_stands (λ d. d.faults) c.args.self.now c.try_write.new.self
+returns-in-Ok-clause-time g c = time_stands c.args.self.now.faults c.try_write.new.self.faults
 
 pub returns-in-Err-clause-time : goal.returns-in-Err-clause-time
-returns-in-Err-clause-time g c = time_stands (λ d. d.faults) c.args.self.now c.fail.new.self
+returns-in-Err-clause-time g c = time_stands c.args.self.now.faults c.fail.new.self.faults
 
 pub returns-in-Ok-clause-crash : goal.returns-in-Ok-clause-crash
 returns-in-Ok-clause-crash g c = λ content left. (content, tt, torn_itself c.args.at _ content)

@@ -17,7 +17,7 @@ returns-in-Ok-clause-fault g c =
 
 pub returns-in-Ok-clause-completed : goal.returns-in-Ok-clause-completed
 returns-in-Ok-clause-completed g c = λ files after told now.
-    completed_before c.complete_outputs.result (g.D.Disk.may_leave c.complete_outputs.new.self.disk) c.args.self.now.state.outs c.flush.new.self.state.outs (g.D.Disk.disk c.args.self.now.disk).told (g.D.Disk.disk c.flush.new.self.disk).told
+    completed_before c.complete_outputs.result (g.D.Disk.disk c.complete_outputs.new.self.disk).may_leave c.args.self.now.state.outs c.flush.new.self.state.outs (g.D.Disk.disk c.args.self.now.disk).told (g.D.Disk.disk c.flush.new.self.disk).told
     files after (ap (λ b. b.state.outs) c.in-Ok.ensures.ok) (outs_rest c.args.self.now.generation _ _ c.flush.ensures.elsewhere) told (λ before was. c.complete_outputs.ensures.completed before after was now)
 
 pub returns-in-Ok-clause-sound : goal.returns-in-Ok-clause-sound
@@ -31,7 +31,7 @@ pub returns-in-Ok-clause-any_moment : goal.returns-in-Ok-clause-any_moment
 returns-in-Ok-clause-any_moment g c = λ first past kept.
     let old = c.args.self.now in
     let rest = c.complete_outputs.ensures.any_moment first past (c.flush.ensures.kept first past kept) in
-    let behind = subst (λ (b : BookView g.row.D.Denot g.row.R.Denot). Leaves g.D.Disk.disk g.D.Disk.left_since c.flush.new.self.disk c.complete_outputs.new.self.disk (StandsFor g.R.Rules.meaning first (past ++ durable_steps b) (waiting_steps b)))
+    let behind = subst (λ (b : BookView g.row.D.Denot g.row.R.Denot). Leaves (g.D.Disk.disk c.flush.new.self.disk) (g.D.Disk.disk c.complete_outputs.new.self.disk) (StandsFor g.R.Rules.meaning first (past ++ durable_steps b) (waiting_steps b)))
     c.in-Ok.ensures.ok rest in
     run_on (c.flush.ensures.any_moment first past kept) (widened (λ image. all_or_fewer g.R.Rules.meaning first past old.kept old.steps image) behind)
 
@@ -39,6 +39,6 @@ pub returns-in-Ok-clause-lines_last : goal.returns-in-Ok-clause-lines_last
 returns-in-Ok-clause-lines_last g c = λ first past kept.
     let old = c.args.self.now in
     let rest = c.complete_outputs.ensures.any_moment first past (c.flush.ensures.kept first past kept) in
-    let behind = subst (λ (b : BookView g.row.D.Denot g.row.R.Denot). Leaves g.D.Disk.disk g.D.Disk.left_since c.flush.new.self.disk c.complete_outputs.new.self.disk (StandsFor g.R.Rules.meaning first (past ++ durable_steps b) (waiting_steps b)))
+    let behind = subst (λ (b : BookView g.row.D.Denot g.row.R.Denot). Leaves (g.D.Disk.disk c.flush.new.self.disk) (g.D.Disk.disk c.complete_outputs.new.self.disk) (StandsFor g.R.Rules.meaning first (past ++ durable_steps b) (waiting_steps b)))
     c.in-Ok.ensures.ok rest in
     run_on (widened (λ image left. inl left) (c.flush.ensures.outputs kept.files kept.tells)) (widened (λ image stands. inr (all_durable g.R.Rules.meaning first past old.steps image stands)) behind)

@@ -37,7 +37,7 @@ invariant_of-self g c =
       subst (λ (s : Base). AreShort s.outs) (sym state_is) (short_outs m i.core.state step nothing.1),
       λ whole. ap (λ j. j.broken) journal ∙ c.self.invariant.4 whole,
       λ whole files told.
-          rest_roomier i.root i.journal c.enter.new.journal (g.D.Disk.may_leave i.disk) i.generation i.base.value (take i.durable i.steps) (take i.durable c.in_ok-steps.steps) files (c.self.invariant.5 whole files told) journal
+          rest_roomier i.root i.journal c.enter.new.journal (g.D.Disk.disk i.disk).may_leave i.generation i.base.value (take i.durable i.steps) (take i.durable c.in_ok-steps.steps) files (c.self.invariant.5 whole files told) journal
           (durable_more i.durable i.steps c.in_ok-steps.steps step c.self.invariant.1.within pushed),
     )
 
@@ -53,5 +53,5 @@ invariant_of-self-in-Err g c =
       subst (λ (s : Base). AreShort s.outs) (sym state_is) c.self.invariant.3,
       λ whole. ap (λ j. j.broken) journal ∙ c.self.invariant.4 whole,
       λ whole files told.
-          rest_roomier i.root i.journal c.enter.new.journal (g.D.Disk.may_leave i.disk) i.generation i.base.value (take i.durable i.steps) (take i.durable i.steps) files (c.self.invariant.5 whole files told) journal refl,
+          rest_roomier i.root i.journal c.enter.new.journal (g.D.Disk.disk i.disk).may_leave i.generation i.base.value (take i.durable i.steps) (take i.durable i.steps) files (c.self.invariant.5 whole files told) journal refl,
     )

@@ -24,7 +24,7 @@ invariant_of-self g c =
       c.self.invariant.3,
       c.self.invariant.4,
       λ whole after told.
-          rest_completed g.D.Disk.disk g.D.Disk.may_leave g.D.Disk.left_since i.disk c.complete_all.new.disk i.core.state.outs i.root i.journal i.generation i.base.value (take i.durable i.steps) after (g.D.Disk.disk i.disk).told
+          rest_completed (g.D.Disk.disk i.disk) (g.D.Disk.disk c.complete_all.new.disk) i.core.state.outs i.root i.journal i.generation i.base.value (take i.durable i.steps) after (g.D.Disk.disk i.disk).told
           refl told c.self.invariant.0 c.complete_all.ensures.run (c.self.invariant.5 whole),
     )
 
@@ -38,13 +38,13 @@ invariant_of-self-in-Err g c =
       c.self.invariant.3,
       λ whole. c.self.invariant.4 before,
       λ whole after told.
-          rest_completed g.D.Disk.disk g.D.Disk.may_leave g.D.Disk.left_since i.disk c.complete_all.new.disk i.core.state.outs i.root i.journal i.generation i.base.value (take i.durable i.steps) after (g.D.Disk.disk i.disk).told
+          rest_completed (g.D.Disk.disk i.disk) (g.D.Disk.disk c.complete_all.new.disk) i.core.state.outs i.root i.journal i.generation i.base.value (take i.durable i.steps) after (g.D.Disk.disk i.disk).told
           refl told c.self.invariant.0 c.complete_all.ensures.run (c.self.invariant.5 before),
     )
 
 pub returns-in-Ok-clause-completed : goal.returns-in-Ok-clause-completed
 returns-in-Ok-clause-completed g c = λ files after told now.
-    subst (λ (b : BookView g.row.D.Denot g.row.R.Denot). AreCompleted (g.D.Disk.may_leave c.complete_all.new.disk) b.state.outs files after) c.self.view_is
+    subst (λ (b : BookView g.row.D.Denot g.row.R.Denot). AreCompleted (g.D.Disk.disk c.complete_all.new.disk).may_leave b.state.outs files after) c.self.view_is
     (c.in-Ok.ensures.completed files after (ap (λ b. (g.D.Disk.disk b.disk).told) c.self.view_is ∙ told) now)
 
 pub returns-in-Ok-clause-written : goal.returns-in-Ok-clause-written
@@ -52,10 +52,10 @@ returns-in-Ok-clause-written g c = λ first history durable now none.
     let m = g.R.Rules.meaning in
     let i = c.self.inside in
     let disk = c.complete_all.new.disk in
-    let leaves = g.D.Disk.may_leave disk in
+    let leaves = (g.D.Disk.disk disk).may_leave in
     let honest = g.met.D.Disk.honest disk now.files now.tells in
     let rest =
-    rest_completed g.D.Disk.disk g.D.Disk.may_leave g.D.Disk.left_since i.disk disk i.core.state.outs i.root i.journal i.generation i.base.value (take i.durable i.steps) now.files (g.D.Disk.disk i.disk).told
+    rest_completed (g.D.Disk.disk i.disk) (g.D.Disk.disk disk) i.core.state.outs i.root i.journal i.generation i.base.value (take i.durable i.steps) now.files (g.D.Disk.disk i.disk).told
     refl now.tells c.self.invariant.0 c.complete_all.ensures.run (c.self.invariant.5 (ap (λ b. b.broken) c.self.view_is ∙ c.requires.whole)) in
     let all : take i.durable i.steps ≡ i.steps =
     take_all i.durable i.steps (omega (arith, ap (λ b. b.kept) c.self.view_is, ap (λ b. length b.steps) c.self.view_is, durable)) in
@@ -74,21 +74,21 @@ returns-in-Ok-clause-written g c = λ first history durable now none.
 pub returns-in-Ok-clause-kept : goal.returns-in-Ok-clause-kept
 returns-in-Ok-clause-kept g c = λ first past kept.
     let i = c.self.inside in
-    let here = subst (λ (b : BookView g.row.D.Denot g.row.R.Denot). IsKept g.D.Disk.disk g.D.Disk.may_leave g.R.Rules.meaning first past b) (sym c.self.view_is) kept in
+    let here = subst (λ (b : BookView g.row.D.Denot g.row.R.Denot). IsKept g.D.Disk.disk g.R.Rules.meaning first past b) (sym c.self.view_is) kept in
     let rest = c.self.invariant.5 (ap (λ b. b.broken) c.self.view_is ∙ c.requires.whole) here.files here.tells in
-    let run = outs_leave g.D.Disk.disk g.D.Disk.may_leave g.D.Disk.left_since g.R.Rules.meaning _ i.root i.journal here.files (g.met.D.Disk.honest i.disk here.files here.tells) c.self.invariant.0 c.self.invariant.1.writable rest
+    let run = outs_leave g.D.Disk.disk g.R.Rules.meaning _ i.root i.journal here.files (g.met.D.Disk.honest i.disk here.files here.tells) c.self.invariant.0 c.self.invariant.1.writable rest
     first past here c.complete_all.new.disk i.core.state i.steps here.tells c.self.invariant.1.behind c.complete_all.ensures.run in
     let changes = c.complete_all.ensures.run.elsewhere here.files here.tells in
-    kept_later g.D.Disk.disk g.D.Disk.may_leave g.D.Disk.left_since g.R.Rules.meaning first past _ c.complete_all.new.disk i.broken changes.0 here changes.1 (λ image le left. g.met.D.Disk.counts_now c.complete_all.new.disk _ image le left) run
+    kept_later g.D.Disk.disk g.R.Rules.meaning first past _ c.complete_all.new.disk i.broken changes.0 here changes.1 (λ image le left. g.met.D.Disk.counts_now c.complete_all.new.disk _ image le left) run
 
 pub returns-in-Ok-clause-any_moment : goal.returns-in-Ok-clause-any_moment
 returns-in-Ok-clause-any_moment g c = λ first past kept.
     let i = c.self.inside in
-    let here = subst (λ (b : BookView g.row.D.Denot g.row.R.Denot). IsKept g.D.Disk.disk g.D.Disk.may_leave g.R.Rules.meaning first past b) (sym c.self.view_is) kept in
+    let here = subst (λ (b : BookView g.row.D.Denot g.row.R.Denot). IsKept g.D.Disk.disk g.R.Rules.meaning first past b) (sym c.self.view_is) kept in
     let rest = c.self.invariant.5 (ap (λ b. b.broken) c.self.view_is ∙ c.requires.whole) here.files here.tells in
-    let run = outs_leave g.D.Disk.disk g.D.Disk.may_leave g.D.Disk.left_since g.R.Rules.meaning _ i.root i.journal here.files (g.met.D.Disk.honest i.disk here.files here.tells) c.self.invariant.0 c.self.invariant.1.writable rest
+    let run = outs_leave g.D.Disk.disk g.R.Rules.meaning _ i.root i.journal here.files (g.met.D.Disk.honest i.disk here.files here.tells) c.self.invariant.0 c.self.invariant.1.writable rest
     first past here c.complete_all.new.disk i.core.state i.steps here.tells c.self.invariant.1.behind c.complete_all.ensures.run in
-    subst (λ (b : BookView g.row.D.Denot g.row.R.Denot). Leaves g.D.Disk.disk g.D.Disk.left_since b.disk c.complete_all.new.disk (StandsFor g.R.Rules.meaning first (past ++ durable_steps b) (waiting_steps b))) c.self.view_is run
+    subst (λ (b : BookView g.row.D.Denot g.row.R.Denot). Leaves (g.D.Disk.disk b.disk) (g.D.Disk.disk c.complete_all.new.disk) (StandsFor g.R.Rules.meaning first (past ++ durable_steps b) (waiting_steps b))) c.self.view_is run
 
 pub returns-in-Err-clause-disk : goal.returns-in-Err-clause-disk
 returns-in-Err-clause-disk g c = λ is.
@@ -108,30 +108,30 @@ returns-in-Err-clause-fault g c = subst (λ (b : BookView g.row.D.Denot g.row.R.
 pub returns-in-Err-clause-kept : goal.returns-in-Err-clause-kept
 returns-in-Err-clause-kept g c = λ first past kept.
     let i = c.self.inside in
-    let here = subst (λ (b : BookView g.row.D.Denot g.row.R.Denot). IsKept g.D.Disk.disk g.D.Disk.may_leave g.R.Rules.meaning first past b) (sym c.self.view_is) kept in
+    let here = subst (λ (b : BookView g.row.D.Denot g.row.R.Denot). IsKept g.D.Disk.disk g.R.Rules.meaning first past b) (sym c.self.view_is) kept in
     let rest = c.self.invariant.5 (ap (λ b. b.broken) c.self.view_is ∙ c.requires.whole) here.files here.tells in
-    let run = outs_leave g.D.Disk.disk g.D.Disk.may_leave g.D.Disk.left_since g.R.Rules.meaning _ i.root i.journal here.files (g.met.D.Disk.honest i.disk here.files here.tells) c.self.invariant.0 c.self.invariant.1.writable rest
+    let run = outs_leave g.D.Disk.disk g.R.Rules.meaning _ i.root i.journal here.files (g.met.D.Disk.honest i.disk here.files here.tells) c.self.invariant.0 c.self.invariant.1.writable rest
     first past here c.complete_all.new.disk i.core.state i.steps here.tells c.self.invariant.1.behind c.complete_all.ensures.run in
     let changes = c.complete_all.ensures.run.elsewhere here.files here.tells in
-    kept_later g.D.Disk.disk g.D.Disk.may_leave g.D.Disk.left_since g.R.Rules.meaning first past _ c.complete_all.new.disk c.is_disk-self-inside.result changes.0 here changes.1 (λ image le left. g.met.D.Disk.counts_now c.complete_all.new.disk _ image le left) run
+    kept_later g.D.Disk.disk g.R.Rules.meaning first past _ c.complete_all.new.disk c.is_disk-self-inside.result changes.0 here changes.1 (λ image le left. g.met.D.Disk.counts_now c.complete_all.new.disk _ image le left) run
 
 pub returns-in-Err-clause-any_moment : goal.returns-in-Err-clause-any_moment
 returns-in-Err-clause-any_moment g c = λ first past kept.
     let i = c.self.inside in
-    let here = subst (λ (b : BookView g.row.D.Denot g.row.R.Denot). IsKept g.D.Disk.disk g.D.Disk.may_leave g.R.Rules.meaning first past b) (sym c.self.view_is) kept in
+    let here = subst (λ (b : BookView g.row.D.Denot g.row.R.Denot). IsKept g.D.Disk.disk g.R.Rules.meaning first past b) (sym c.self.view_is) kept in
     let rest = c.self.invariant.5 (ap (λ b. b.broken) c.self.view_is ∙ c.requires.whole) here.files here.tells in
-    let run = outs_leave g.D.Disk.disk g.D.Disk.may_leave g.D.Disk.left_since g.R.Rules.meaning _ i.root i.journal here.files (g.met.D.Disk.honest i.disk here.files here.tells) c.self.invariant.0 c.self.invariant.1.writable rest
+    let run = outs_leave g.D.Disk.disk g.R.Rules.meaning _ i.root i.journal here.files (g.met.D.Disk.honest i.disk here.files here.tells) c.self.invariant.0 c.self.invariant.1.writable rest
     first past here c.complete_all.new.disk i.core.state i.steps here.tells c.self.invariant.1.behind c.complete_all.ensures.run in
-    subst (λ (b : BookView g.row.D.Denot g.row.R.Denot). Leaves g.D.Disk.disk g.D.Disk.left_since b.disk c.complete_all.new.disk (StandsFor g.R.Rules.meaning first (past ++ durable_steps b) (waiting_steps b))) c.self.view_is run
+    subst (λ (b : BookView g.row.D.Denot g.row.R.Denot). Leaves (g.D.Disk.disk b.disk) (g.D.Disk.disk c.complete_all.new.disk) (StandsFor g.R.Rules.meaning first (past ++ durable_steps b) (waiting_steps b))) c.self.view_is run
 
 pub returns-in-Err-clause-sound : goal.returns-in-Err-clause-sound
 returns-in-Err-clause-sound g c = λ first past kept.
     let m = g.R.Rules.meaning in
     let i = c.self.inside in
-    let here = subst (λ (b : BookView g.row.D.Denot g.row.R.Denot). IsKept g.D.Disk.disk g.D.Disk.may_leave m first past b) (sym c.self.view_is) kept in
+    let here = subst (λ (b : BookView g.row.D.Denot g.row.R.Denot). IsKept g.D.Disk.disk m first past b) (sym c.self.view_is) kept in
     let rest = c.self.invariant.5 (ap (λ b. b.broken) c.self.view_is ∙ c.requires.whole) here.files here.tells in
     let honest = g.met.D.Disk.honest i.disk here.files here.tells in
-    let begins = begin g.D.Disk.disk g.D.Disk.may_leave g.D.Disk.left_since m _ i.root i.journal here.files honest c.self.invariant.0 c.self.invariant.1.writable rest first past here in
-    let long = are_fronts g.D.Disk.disk g.D.Disk.may_leave g.D.Disk.left_since m _ i.root i.journal here.files honest c.self.invariant.0 c.self.invariant.1.writable rest first past here
+    let begins = begin g.D.Disk.disk m _ i.root i.journal here.files honest c.self.invariant.0 c.self.invariant.1.writable rest first past here in
+    let long = are_fronts g.D.Disk.disk m _ i.root i.journal here.files honest c.self.invariant.0 c.self.invariant.1.writable rest first past here
     i.core.state i.steps c.self.invariant.1.behind in
     no_damage i.core.state.outs _ here.files (g.D.Disk.disk i.disk).told c.in-Err.fault here.tells long (λ k. begins k (here.files (out_file k)) (honest (out_file k))) c.in-Err.ensures.fault

@@ -14,16 +14,16 @@ invariant_of-result g c =
       new_outs_short g.R.Rules.meaning made.base.value made.core.state c.in-Ok.ensures.base.0 _ c.in-Ok.ensures.sound c.in-Ok.ensures.base.2 state_is,
       λ whole. c.in-Ok.ensures.whole,
       λ whole after told.
-          rest_created g.D.Disk.disk g.D.Disk.may_leave c.args.disk c.make_store.new.disk made.root made.journal made.base.value after (g.D.Disk.disk c.args.disk).told refl told c.in-Ok.ensures.untold c.in-Ok.ensures.at_rest,
+          rest_created (g.D.Disk.disk c.args.disk) (g.D.Disk.disk c.make_store.new.disk) made.root made.journal made.base.value after (g.D.Disk.disk c.args.disk).told refl told c.in-Ok.ensures.untold c.in-Ok.ensures.at_rest,
     )
 
 pub returns-in-Ok-clause-kept : goal.returns-in-Ok-clause-kept
 returns-in-Ok-clause-kept g c = λ files told.
     let made = c.in-Ok.field-0 in
     let after = c.in-Ok.ensures.tells files told in
-    let kept = kept_created g.D.Disk.disk g.D.Disk.may_leave g.R.Rules.meaning c.in-Ok.ensures.base.0 _ made.base.value c.args.rules c.args.limit c.make_store.new.disk made.root made.journal after.0 c.in-Ok.ensures.base.2
+    let kept = kept_created g.D.Disk.disk g.R.Rules.meaning c.in-Ok.ensures.base.0 _ made.base.value c.args.rules c.args.limit c.make_store.new.disk made.root made.journal after.0 c.in-Ok.ensures.base.2
     (g.met.D.Disk.honest c.make_store.new.disk after.0 after.1) after.1 c.in-Ok.ensures.files c.in-Ok.ensures.writable (c.in-Ok.ensures.at_rest files after.0 told after.1) in
-    subst (λ (b : BookView g.row.D.Denot g.row.R.Denot). IsKept g.D.Disk.disk g.D.Disk.may_leave g.R.Rules.meaning made.base.value [] b)
+    subst (λ (b : BookView g.row.D.Denot g.row.R.Denot). IsKept g.D.Disk.disk g.R.Rules.meaning made.base.value [] b)
     (sym (view_created c.args.rules made.core.rules made.base.value made.core.state c.new.result c.args.limit c.make_store.new.disk (ap (λ core. core.rules) c.in-Ok.ensures.core) (ap (λ core. core.state) c.in-Ok.ensures.core) c.new.ensures))
     kept
 

@@ -21,7 +21,7 @@ invariant_of-result g c =
       subst (λ (b : Base). AreShort b.outs) (sym state_is) (history_small m _ _ c.in-Ok.ensures.history).short,
       λ whole. c.in-Ok.ensures.whole,
       λ whole after told.
-          rest_reopened g.D.Disk.disk g.D.Disk.may_leave c.args.disk c.open_store.new.disk _ _ _ _ _ c.len-durable.result after (g.D.Disk.disk c.args.disk).told refl told
+          rest_reopened (g.D.Disk.disk c.args.disk) (g.D.Disk.disk c.open_store.new.disk) _ _ _ _ _ c.len-durable.result after (g.D.Disk.disk c.args.disk).told refl told
           c.open_store.ensures.untold c.in-Ok.ensures.at_rest c.len-durable.ensures,
     )
 
@@ -29,9 +29,9 @@ pub returns-in-Ok-clause-kept : goal.returns-in-Ok-clause-kept
 returns-in-Ok-clause-kept g c = λ first steps more was.
     let m = g.R.Rules.meaning in
     let now = c.open_store.ensures.histories.now m first steps more was in
-    let kept = kept_reopened g.D.Disk.disk g.D.Disk.may_leave m first steps more c.args.rules c.args.limit c.open_store.new.disk _ _ _ _ _ now
+    let kept = kept_reopened g.D.Disk.disk m first steps more c.args.rules c.args.limit c.open_store.new.disk _ _ _ _ _ now
     (g.met.D.Disk.honest c.open_store.new.disk now.files now.tells) c.in-Ok.ensures.files c.in-Ok.ensures.history.writable (c.in-Ok.ensures.at_rest was.files now.files was.tells now.tells) in
-    subst (λ (b : BookView g.row.D.Denot g.row.R.Denot). IsReopened g.D.Disk.disk g.D.Disk.may_leave m first steps more b)
+    subst (λ (b : BookView g.row.D.Denot g.row.R.Denot). IsReopened g.D.Disk.disk m first steps more b)
     (sym (view_reopened m c.args.rules _ _ _ _ _ c.len-durable.result c.args.limit c.open_store.new.disk (ap (λ core. core.rules) c.in-Ok.ensures.core)
     (ap (λ core. core.state) c.in-Ok.ensures.core) c.len-durable.ensures))
     kept
