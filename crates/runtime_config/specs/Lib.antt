@@ -8,5 +8,6 @@ pub mod Within
 -- what private contracts use
 pub mod Sums
 pub mod Paths
+pub mod Shared
 pub mod Whole
 pub mod Found

@@ -1,5 +1,5 @@
 //! What a bundle means: the plan of its bots, or the first fault.
-ghost use Rattle.std.specs.Prelude.{◌≡◌, ◌<◌, ◌≤◌, ◌+◌, ◌++◌, ◌∷◌, ◌||◌, [], true, false, length, take, map, nat_lt, option_map, slice_get, None, Some, IfOk, MatchResult, OnOk, if◌then◌else◌};
+ghost use Rattle.std.specs.Prelude.{◌≡◌, ◌<◌, ◌≤◌, ◌+◌, ◌++◌, ◌∷◌, ◌||◌, [], true, false, length, take, map, nat_lt, option_and_then, option_map, slice_get, None, Some, IfOk, MatchResult, OnOk, if◌then◌else◌};
 ghost use Rattle.std.specs.Option.{option_or};
 ghost use Rattle.std.specs.FinMap.{is_sorted};
 ghost use Rattle.std.specs.Ordering.{nat_cmp};
@@ -9,10 +9,10 @@ ghost use Rattle.event_model.specs.Lenient.{least};
 ghost use Rattle.event_model.specs.Trees.{tree_in};
 ghost use Rattle.runtime_config.specs.Faults.{bad_names, bot_sieve, cycle_fault, fault_of, file_fault, first_fault, limit_fault, missing_names, module_fault, pass_together, passes_own, passes_patterns, path_fault, queue_fault, sieve_fault, table_fault};
 ghost use Rattle.runtime_config.specs.Found.{IsFault, IsFound, IsPlannedAs, IsSieveOf};
-ghost use Rattle.runtime_config.specs.Load.{load, longest_runtime, planned, IsLoaded};
+ghost use Rattle.runtime_config.specs.Load.{load, longest_runtime, of_runtime, planned, IsLoaded};
 ghost use Rattle.runtime_text.specs.Read.{entries_of, entry_of, members_of};
 ghost use Rattle.runtime_text.specs.Reaches.{reaches};
-ghost use Rattle.runtime_text.specs.Runtime.{Entry};
+ghost use Rattle.runtime_text.specs.Runtime.{object_of, runtime_in, Entry};
 ghost use Rattle.runtime_config.specs.Sums.{AreSmall, AreSums};
 ghost use Rattle.runtime_config.specs.Whole.{place_at, runtime_as, IsWhole};
 ghost use Rattle.runtime_text.specs.Wires.{graph_of};
@@ -296,16 +296,13 @@ fn tree_of(alloc: Global, runtime: &[u8]) -> Result<Option<Tree>, OutOfMemory>
     tree_in(alloc, runtime)
 }
 
-/// The bots of a bundle with their checked parameters, in byte order of their names; or its first fault: `Json`, or of the
-/// first bot that has one the first in the order of `LoadFault`.
-#[tactic(auto, unfolding(crate::specs::Load::load, crate::specs::Load::runtime_of))]
-pub fn load(alloc: Global, bundle: &Bundle) -> Result<Plan, LoadFault>
-    ensures { IsLoaded (load bundle.now) result }
+// The plan of the bots of this tree, or their first fault. The tree is the caller's, so that its drop isn't proved at each of
+// these ends.
+fn load_tree(alloc: Global, bundle: &Bundle, tree: &Tree) -> Result<Plan, LoadFault>
+    requires { length bundle.now.runtime ≤ 1048576 }
+    ensures { IsLoaded (of_runtime bundle.now (option_and_then runtime_in (object_of (view tree.now)))) result }
 {
-    let Some(tree) = tree_of(alloc, bundle.runtime.bytes())? else {
-        return Err(LoadFault::Json);
-    };
-    let Some(members) = object_of(&tree) else {
+    let Some(members) = object_of(tree) else {
         return Err(LoadFault::Json);
     };
     let Some(bots) = bots_in(alloc, members)? else {
@@ -320,4 +317,16 @@ pub fn load(alloc: Global, bundle: &Bundle) -> Result<Plan, LoadFault>
         graph: &graph,
     };
     load_bots(alloc, &whole)
+}
+
+/// The bots of a bundle with their checked parameters, in byte order of their names; or its first fault: `Json`, or of the
+/// first bot that has one the first in the order of `LoadFault`.
+#[tactic(auto, unfolding(crate::specs::Load::load, crate::specs::Load::runtime_of))]
+pub fn load(alloc: Global, bundle: &Bundle) -> Result<Plan, LoadFault>
+    ensures { IsLoaded (load bundle.now) result }
+{
+    let Some(tree) = tree_of(alloc, bundle.runtime.bytes())? else {
+        return Err(LoadFault::Json);
+    };
+    load_tree(alloc, bundle, &tree)
 }

@@ -5,6 +5,7 @@ ghost use Rattle.std.specs.Str.{bytes_eq};
 ghost use Rattle.config_bundle.specs.declared.bundle.Bundle.{Bundle as AnyBundle};
 ghost use Rattle.runtime_config.specs.Faults.{bot_sieve, instances, table_fault, table_text};
 ghost use Rattle.runtime_config.specs.Found.{IsFault, IsPlannedAs};
+ghost use Rattle.runtime_config.specs.Shared.{AreShared};
 ghost use Rattle.runtime_config.specs.Load.{is_allowing, module_as, names_of, planned, route_of, table_of};
 ghost use Rattle.runtime_text.specs.Read.{entry_of, members_of};
 ghost use Rattle.runtime_text.specs.Runtime.{line, module_of, routes, set_as, whole_in};
@@ -193,6 +194,15 @@ fn module_of(
 
 // ---- the parameters of all bots
 
+/// Those of a bot, as `Planned` has them.
+#[derive(Clone, Copy)]
+pub(crate) struct Shared {
+    instances: u8,
+    retries: u32,
+    delay: u64,
+    stop: bool,
+}
+
 fn instances(alloc: Global, global: &Object, bot: &Bot) -> Result<u8, OutOfMemory>
     ensures { IfOk result (λ n. n ≡ instances (members_of global.now) (entry_of bot.now)) }
 {
@@ -214,6 +224,18 @@ fn stops(alloc: Global, global: &Object, bot: &Bot) -> Result<bool, OutOfMemory>
     Ok(procedure.as_str() == "stop")
 }
 
+// The parameters that all bots have.
+fn shared_of(alloc: Global, global: &Object, bot: &Bot) -> Result<Shared, OutOfMemory>
+    ensures { IfOk result (AreShared (members_of global.now) (entry_of bot.now)) }
+{
+    Ok(Shared {
+        instances: instances(alloc, global, bot)?,
+        retries: retries(alloc, global, bot)?,
+        delay: whole(alloc, global, bot, "error_retry_delay")?,
+        stop: stops(alloc, global, bot)?,
+    })
+}
+
 /// A bot with its checked parameters, these paths and this sieve.
 #[tactic(auto, unfolding(crate::specs::Load::planned))]
 pub(crate) fn planned(
@@ -228,14 +250,16 @@ pub(crate) fn planned(
     requires sieve { sieve ≡ bot_sieve bundle.now (members_of global.now) (entry_of bot.now) }
     ensures { IsPlannedAs (table_fault bundle.now (members_of global.now) (entry_of bot.now)) (planned bundle.now (members_of global.now) (entry_of bot.now)) result }
 {
+    let shared = shared_of(alloc, global, bot)?;
+    // Nothing fails behind the module: at each such end its drop would be proved over all modules.
     let module = module_of(alloc, bundle, global, bot, sieve)?;
     Ok(Planned {
         bot: bot.name(),
         module,
-        instances: instances(alloc, global, bot)?,
-        retries: retries(alloc, global, bot)?,
-        delay: whole(alloc, global, bot, "error_retry_delay")?,
-        stop: stops(alloc, global, bot)?,
+        instances: shared.instances,
+        retries: shared.retries,
+        delay: shared.delay,
+        stop: shared.stop,
         paths,
     })
 }

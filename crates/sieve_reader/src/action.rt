@@ -6,6 +6,7 @@ ghost use Rattle.sieve_reader.specs.Parse as spec;
 use crate::cursor::Cursor;
 use crate::fault::{Cause, Fault};
 use crate::leaf::{field, literal, refused, sees, take};
+use crate::list::push;
 use crate::symbol::Symbol;
 use base_types::{ListOf, Text, TextList};
 use field_types::FieldName;
@@ -38,7 +39,7 @@ fn path_names(alloc: Global, tokens: &mut Cursor<'_>) -> Result<TextList, Fault>
             Ok(name) => name,
             Err(fault) => return Err(fault),
         };
-        let Ok(()) = found.push(name) else {
+        let Ok(()) = push(&mut found, name) else {
             return Err(Fault::OutOfMemory);
         };
         if !sees(tokens, Sign::Comma) {

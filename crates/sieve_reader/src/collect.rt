@@ -5,6 +5,7 @@ ghost use Rattle.sieve_reader.specs.Parse as spec;
 ghost use Rattle.sieve_reader.specs.Reads.{goes_on, is_path, opens_row, path_spots, paths_in, patterns_in, row_spots, text_at};
 
 use crate::cursor::Cursor;
+use crate::list::push;
 use crate::symbol::Symbol;
 use base_types::{ListOf, OutOfMemory, TextList};
 use sieve_tokens::{Keyword, Sign, content};
@@ -57,10 +58,7 @@ fn push_text(
         return Ok(());
     };
     let text = content(alloc, piece)?;
-    match found.push(text) {
-        Ok(()) => Ok(()),
-        Err((e, _)) => Err(e),
-    }
+    push(found, text)
 }
 
 /// The texts behind `=~` and `!~`.
@@ -85,10 +83,7 @@ fn push_spot(alloc: Global, tokens: &Cursor<'_>, found: &mut PathSpots) -> Resul
         return Ok(());
     };
     let name = content(alloc, piece)?;
-    match found.push((name, at)) {
-        Ok(()) => Ok(()),
-        Err((e, _)) => Err(e),
-    }
+    push(found, (name, at))
 }
 
 // Those with commas between.

@@ -6,6 +6,7 @@ ghost use Rattle.sieve_reader.specs.Parse as spec;
 use crate::cursor::Cursor;
 use crate::fault::{Cause, Fault};
 use crate::leaf::{refused, sees, take};
+use crate::list::push;
 use crate::symbol::Symbol;
 use crate::test::tested;
 use base_types::{ListOf, OutOfMemory};
@@ -73,7 +74,7 @@ fn both(alloc: Global, tokens: &mut Cursor<'_>, left: u32) -> Result<Cond, Fault
             Ok(item) => item,
             Err(fault) => return Err(fault),
         };
-        let Ok(()) = found.push(item) else {
+        let Ok(()) = push(&mut found, item) else {
             return Err(Fault::OutOfMemory);
         };
         if !sees(tokens, Sign::And) {
@@ -95,7 +96,7 @@ pub fn cond(alloc: Global, tokens: &mut Cursor<'_>, left: u32) -> Result<Cond, F
             Ok(item) => item,
             Err(fault) => return Err(fault),
         };
-        let Ok(()) = found.push(item) else {
+        let Ok(()) = push(&mut found, item) else {
             return Err(Fault::OutOfMemory);
         };
         if !sees(tokens, Sign::Or) {

@@ -4,7 +4,7 @@ ghost use Rattle.sieve_reader.specs.declared.fault.Fault.TheVariants.{OutOfMemor
 use base_types::OutOfMemory;
 
 /// What is wrong with a token.
-#[derive(Clone, Copy, Debug, PartialEq, Eq)]
+#[derive(Clone, Copy)]
 pub enum Cause {
     Expected,
     Field,
@@ -14,7 +14,7 @@ pub enum Cause {
 }
 
 /// Why nothing was read: the cause, and how many tokens are left from the refused one on.
-#[derive(Clone, Copy, Debug, PartialEq, Eq)]
+#[derive(Clone, Copy)]
 pub enum Fault {
     Refused { cause: Cause, left: usize },
     OutOfMemory,

@@ -1,5 +1,8 @@
-ghost use Rattle.std.specs.Prelude.{◌≡◌, IfErr, IfOk, IsUtf8, length};
+ghost use Rattle.std.specs.Prelude.{◌≡◌, IfErr, IfOk, IsUtf8, is_some, length, option_and_then};
+ghost use Rattle.field_types.specs.Cleaning.{clean};
+ghost use Rattle.field_types.specs.Field.{type_of};
 ghost use Rattle.sieve_reader.specs.Ahead.{stands_for, IsWhole};
+ghost use Rattle.sieve_reader.specs.Leaf as leaf;
 ghost use Rattle.sieve_reader.specs.Leaf.{has_addresses, is_ordered, is_time, judged, kind_passes, network_of};
 ghost use Rattle.sieve_reader.specs.Lexeme.{amount_of, literal_of};
 ghost use Rattle.sieve_reader.specs.Outcome.{Gives};
@@ -156,6 +159,48 @@ fn value_of(alloc: Global, symbol: Symbol<'_>) -> Result<Option<Value>, OutOfMem
     })
 }
 
+// Whether a symbol is a literal.
+fn is_literal(symbol: Symbol<'_>) -> bool
+    ensures { result ≡ is_some (literal_of (stands_for symbol.entry)) }
+{
+    matches!(
+        symbol,
+        Symbol::Quoted(_)
+            | Symbol::Whole(_)
+            | Symbol::Decimal(_)
+            | Symbol::Key(Keyword::True | Keyword::False)
+    )
+}
+
+// The canonical value of the field's kind for this one, if there is one.
+fn cleaned(alloc: Global, key: &FieldName, value: &Value) -> Result<Option<Value>, OutOfMemory>
+    ensures { IfOk result (λ cleaned. cleaned ≡ option_and_then (λ k. clean k value.now) (type_of key.now)) }
+{
+    let Some(kind) = key.kind() else {
+        return Ok(None);
+    };
+    match sanitise(alloc, kind, value) {
+        Ok(cleaned) => Ok(Some(cleaned)),
+        Err(FieldFault::BadValue) => Ok(None),
+        Err(FieldFault::OutOfMemory) => Err(OutOfMemory),
+    }
+}
+
+// The canonical value of the field's kind that a literal writes, if there is one.
+fn value_for(
+    alloc: Global,
+    key: &FieldName,
+    symbol: Symbol<'_>,
+) -> Result<Option<Value>, OutOfMemory>
+    requires { IsWhole symbol }
+    ensures { IfOk result (λ value. value ≡ spec.value_in (judged (leaf.value key.now (stands_for symbol.entry)))) }
+{
+    match value_of(alloc, symbol)? {
+        Some(value) => cleaned(alloc, key, &value),
+        None => Ok(None),
+    }
+}
+
 /// A literal, as the canonical value of the field's kind.
 #[tactic(auto, unfolding(crate::specs::Parse::literal))]
 pub fn literal(alloc: Global, key: &FieldName, tokens: &mut Cursor<'_>) -> Result<Value, Fault>
@@ -164,20 +209,14 @@ pub fn literal(alloc: Global, key: &FieldName, tokens: &mut Cursor<'_>) -> Resul
     let Some(symbol) = tokens.peek() else {
         return Err(refused(tokens, Cause::Expected));
     };
-    let Some(value) = value_of(alloc, symbol)? else {
+    if !is_literal(symbol) {
         return Err(refused(tokens, Cause::Expected));
-    };
-    let Some(kind) = key.kind() else {
+    }
+    let Some(value) = value_for(alloc, key, symbol)? else {
         return Err(refused(tokens, Cause::Value));
     };
-    match sanitise(alloc, kind, &value) {
-        Ok(cleaned) => {
-            tokens.skip();
-            Ok(cleaned)
-        }
-        Err(FieldFault::BadValue) => Err(refused(tokens, Cause::Value)),
-        Err(FieldFault::OutOfMemory) => Err(Fault::OutOfMemory),
-    }
+    tokens.skip();
+    Ok(value)
 }
 
 fn network_of(text: &[u8]) -> Option<Network>

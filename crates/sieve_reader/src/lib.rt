@@ -8,6 +8,7 @@ mod cursor;
 mod fault;
 mod laws;
 mod leaf;
+mod list;
 mod sieve;
 mod span;
 mod statements;

@@ -8,6 +8,7 @@ use crate::conds::cond;
 use crate::cursor::Cursor;
 use crate::fault::{Cause, Fault};
 use crate::leaf::{refused, sees, take};
+use crate::list::push;
 use crate::symbol::Symbol;
 use base_types::ListOf;
 use sieve_tokens::{Keyword, Sign};
@@ -49,7 +50,7 @@ fn enclosed(alloc: Global, tokens: &mut Cursor<'_>, left: u32) -> Result<SieveIt
             Ok(item) => item,
             Err(fault) => return Err(fault),
         };
-        let Ok(()) = found.push(item) else {
+        let Ok(()) = push(&mut found, item) else {
             return Err(Fault::OutOfMemory);
         };
     }
@@ -102,7 +103,7 @@ fn cases(alloc: Global, tokens: &mut Cursor<'_>, left: u32) -> Result<CaseList, 
             Ok(case) => case,
             Err(fault) => return Err(fault),
         };
-        let Ok(()) = found.push(case) else {
+        let Ok(()) = push(&mut found, case) else {
             return Err(Fault::OutOfMemory);
         };
         if !sees_elif(tokens) {
@@ -196,7 +197,7 @@ pub fn file(alloc: Global, tokens: &mut Cursor<'_>, left: u32) -> Result<SieveIt
             Ok(item) => item,
             Err(fault) => return Err(fault),
         };
-        let Ok(()) = found.push(item) else {
+        let Ok(()) = push(&mut found, item) else {
             return Err(Fault::OutOfMemory);
         };
     }

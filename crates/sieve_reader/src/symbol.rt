@@ -1,7 +1,7 @@
 use sieve_tokens::{Keyword, Sign};
 
 /// What a token stands for. Of a quoted text it has the bytes with their quotes.
-#[derive(Clone, Copy, Debug)]
+#[derive(Clone, Copy)]
 pub enum Symbol<'t> {
     Key(Keyword),
     Name(&'t [u8]),

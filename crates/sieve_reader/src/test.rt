@@ -7,6 +7,7 @@ ghost use Rattle.sieve_reader.specs.Parse.{read_map};
 use crate::cursor::Cursor;
 use crate::fault::{Cause, Fault};
 use crate::leaf::{amount, field, literal, network, pattern, refused, sees, span, take, text};
+use crate::list::push;
 use crate::symbol::Symbol;
 use base_types::ListOf;
 use field_types::FieldName;
@@ -24,7 +25,7 @@ fn literals(alloc: Global, key: &FieldName, tokens: &mut Cursor<'_>) -> Result<V
             Ok(value) => value,
             Err(fault) => return Err(fault),
         };
-        let Ok(()) = found.push(value) else {
+        let Ok(()) = push(&mut found, value) else {
             return Err(Fault::OutOfMemory);
         };
         if !sees(tokens, Sign::Comma) {

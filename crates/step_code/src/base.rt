@@ -53,16 +53,15 @@ struct Heads {
     bundle: Blob,
 }
 
+// They are read as one nested pair, by the reader of pairs: `heads_at` is made of the same.
+type HeadFields = (((((u64, u64), u64), Moment), u64), Blob);
+
 #[tactic(auto, unfolding(crate::specs::Reading::heads_at))]
 fn heads_of(alloc: Global, bytes: &[u8]) -> Result<(Heads, &[u8]), CodeFault>
     ensures { Gives (λ x. (x.0, x.1.now)) result (heads_at bytes.now) }
 {
-    let (steps, rest) = u64::take(alloc, bytes)?;
-    let (next_message, rest) = u64::take(alloc, rest)?;
-    let (next_dump, rest) = u64::take(alloc, rest)?;
-    let (latest, rest) = Moment::take(alloc, rest)?;
-    let (bundle_no, rest) = u64::take(alloc, rest)?;
-    let (bundle, rest) = Blob::take(alloc, rest)?;
+    let (fields, rest) = HeadFields::take(alloc, bytes)?;
+    let (((((steps, next_message), next_dump), latest), bundle_no), bundle) = fields;
     let heads = Heads {
         steps,
         next_message,

@@ -1,5 +1,5 @@
 ghost use Rattle.std.specs.Prelude.{◌≡◌, ◌+◌, ◌++◌, ◌∷◌, length, min, OnOk, IfOk};
-ghost use Rattle.stored_types.specs.Code.{byte, flag, list, name, number, optional, IsBot, IsList, IsOptional};
+ghost use Rattle.stored_types.specs.Code.{flag, list, optional, IsList, IsOptional};
 ghost use Rattle.stored_types.specs.Coded.{Begins, Gives};
 ghost use Rattle.base_types.specs.Number.{last_u64};
 ghost use Rattle.step_code.specs.Code.{bad_part, code_of_step, kind_byte, kind_fields, send, IsBadPart, IsSend, IsWritable, IsWritableKind};
@@ -184,20 +184,15 @@ fn put_kind(to: &mut Blob, what: &StepKind) -> Result<(), OutOfMemory>
             upto,
             piece,
         } => {
-            bot.put(to)?;
-            from.put(to)?;
-            upto.put(to)?;
+            ((*bot, *from), *upto).put(to)?;
             piece.put(to)
         }
-        StepKind::FeedEnd { bot, position } => {
-            bot.put(to)?;
-            position.put(to)
-        }
+        StepKind::FeedEnd { bot, position } => (*bot, *position).put(to),
         StepKind::Take {
             bot,
             instance,
             message,
-        } => put_taken(to, bot, *instance, *message),
+        } => ((*bot, *instance), *message).put(to),
         StepKind::Done {
             bot,
             instance,
@@ -208,8 +203,7 @@ fn put_kind(to: &mut Blob, what: &StepKind) -> Result<(), OutOfMemory>
             key,
             line,
         } => {
-            put_taken(to, bot, *instance, *message)?;
-            bundle.put(to)?;
+            (((*bot, *instance), *message), *bundle).put(to)?;
             put_given(to, sends, dumps, key, *line)
         }
         StepKind::Retry {
@@ -219,8 +213,7 @@ fn put_kind(to: &mut Blob, what: &StepKind) -> Result<(), OutOfMemory>
             bundle,
             note,
         } => {
-            put_taken(to, bot, *instance, *message)?;
-            bundle.put(to)?;
+            (((*bot, *instance), *message), *bundle).put(to)?;
             note.put(to)
         }
         StepKind::Fail {
@@ -232,8 +225,7 @@ fn put_kind(to: &mut Blob, what: &StepKind) -> Result<(), OutOfMemory>
             queues,
             halts,
         } => {
-            put_taken(to, bot, *instance, *message)?;
-            bundle.put(to)?;
+            (((*bot, *instance), *message), *bundle).put(to)?;
             note.put(to)?;
             queues.put(to)?;
             halts.put(to)
@@ -242,18 +234,6 @@ fn put_kind(to: &mut Blob, what: &StepKind) -> Result<(), OutOfMemory>
         StepKind::Redo { dump } => dump.put(to),
         StepKind::Round { bot } => bot.put(to),
     }
-}
-
-// A bot's instance, and the message that it has.
-#[tactic(auto, using(stored_types::proofs::Begins::begins))]
-fn put_taken(to: &mut Blob, bot: &BotName, instance: u8, message: u64) -> Result<(), OutOfMemory>
-    ensures code { OnOk result (to.new ≡ to.old ++ name bot.now ++ byte instance ++ number message) }
-    ensures bot { OnOk result (IsBot bot.now) }
-    ensures kept { Begins to.old to.new }
-{
-    bot.put(to)?;
-    instance.put(to)?;
-    message.put(to)
 }
 
 // What a bot made of a message.
@@ -276,6 +256,20 @@ fn put_given(
     key.put(to)?;
     line.put(to)
 }
+
+// The fields of a kind are read as nested pairs, by the reader of pairs: the definitions are made of the same. Each `?`
+// less makes a proof shorter. Pairs that own no memory are read field by field, since the borrow checker has no rule for
+// a `?` on them.
+type CollectFields = (((BotName, u64), u64), Blob);
+
+// A bot's instance, the message that it had, and the number of the bundle in force.
+type WorkedFields = (((BotName, u8), u64), u64);
+
+type DoneFields = ((((WorkedFields, SendList), NoteList), Option<Blob>), bool);
+
+type RetryFields = (WorkedFields, FaultNote);
+
+type FailFields = ((RetryFields, QueueList), bool);
 
 #[tactic(auto, unfolding(crate::specs::Reading::kind_at))]
 fn kind_of(alloc: Global, byte: u8, bytes: &[u8]) -> Result<(StepKind, &[u8]), CodeFault>
@@ -300,13 +294,8 @@ fn kind_of(alloc: Global, byte: u8, bytes: &[u8]) -> Result<(StepKind, &[u8]), C
 fn collect_of(alloc: Global, bytes: &[u8]) -> Result<(StepKind, &[u8]), CodeFault>
     ensures { Gives (λ x. (x.0, x.1.now)) result (collect_at bytes.now) }
 {
-    let (bot, rest) = match BotName::take(alloc, bytes) {
-        Ok(found) => found,
-        Err(fault) => return Err(fault),
-    };
-    let (from, rest) = u64::take(alloc, rest)?;
-    let (upto, rest) = u64::take(alloc, rest)?;
-    let (piece, rest) = Blob::take(alloc, rest)?;
+    let (fields, rest) = CollectFields::take(alloc, bytes)?;
+    let (((bot, from), upto), piece) = fields;
     let what = StepKind::Collect {
         bot,
         from,
@@ -350,17 +339,8 @@ fn take_of(alloc: Global, bytes: &[u8]) -> Result<(StepKind, &[u8]), CodeFault>
 fn done_of(alloc: Global, bytes: &[u8]) -> Result<(StepKind, &[u8]), CodeFault>
     ensures { Gives (λ x. (x.0, x.1.now)) result (done_at bytes.now) }
 {
-    let (bot, rest) = match BotName::take(alloc, bytes) {
-        Ok(found) => found,
-        Err(fault) => return Err(fault),
-    };
-    let (instance, rest) = u8::take(alloc, rest)?;
-    let (message, rest) = u64::take(alloc, rest)?;
-    let (bundle, rest) = u64::take(alloc, rest)?;
-    let (sends, rest) = SendList::take(alloc, rest)?;
-    let (dumps, rest) = NoteList::take(alloc, rest)?;
-    let (key, rest) = <Option<Blob> as Coded>::take(alloc, rest)?;
-    let (line, rest) = bool::take(alloc, rest)?;
+    let (fields, rest) = DoneFields::take(alloc, bytes)?;
+    let (((((((bot, instance), message), bundle), sends), dumps), key), line) = fields;
     let what = StepKind::Done {
         bot,
         instance,
@@ -378,14 +358,8 @@ fn done_of(alloc: Global, bytes: &[u8]) -> Result<(StepKind, &[u8]), CodeFault>
 fn retry_of(alloc: Global, bytes: &[u8]) -> Result<(StepKind, &[u8]), CodeFault>
     ensures { Gives (λ x. (x.0, x.1.now)) result (retry_at bytes.now) }
 {
-    let (bot, rest) = match BotName::take(alloc, bytes) {
-        Ok(found) => found,
-        Err(fault) => return Err(fault),
-    };
-    let (instance, rest) = u8::take(alloc, rest)?;
-    let (message, rest) = u64::take(alloc, rest)?;
-    let (bundle, rest) = u64::take(alloc, rest)?;
-    let (note, rest) = FaultNote::take(alloc, rest)?;
+    let (fields, rest) = RetryFields::take(alloc, bytes)?;
+    let ((((bot, instance), message), bundle), note) = fields;
     let what = StepKind::Retry {
         bot,
         instance,
@@ -400,16 +374,8 @@ fn retry_of(alloc: Global, bytes: &[u8]) -> Result<(StepKind, &[u8]), CodeFault>
 fn fail_of(alloc: Global, bytes: &[u8]) -> Result<(StepKind, &[u8]), CodeFault>
     ensures { Gives (λ x. (x.0, x.1.now)) result (fail_at bytes.now) }
 {
-    let (bot, rest) = match BotName::take(alloc, bytes) {
-        Ok(found) => found,
-        Err(fault) => return Err(fault),
-    };
-    let (instance, rest) = u8::take(alloc, rest)?;
-    let (message, rest) = u64::take(alloc, rest)?;
-    let (bundle, rest) = u64::take(alloc, rest)?;
-    let (note, rest) = FaultNote::take(alloc, rest)?;
-    let (queues, rest) = QueueList::take(alloc, rest)?;
-    let (halts, rest) = bool::take(alloc, rest)?;
+    let (fields, rest) = FailFields::take(alloc, bytes)?;
+    let ((((((bot, instance), message), bundle), note), queues), halts) = fields;
     let what = StepKind::Fail {
         bot,
         instance,
@@ -553,16 +519,19 @@ fn copy_of_kind(alloc: Global, what: &StepKind) -> Result<StepKind, OutOfMemory>
             dumps,
             key,
             line,
-        } => Ok(StepKind::Done {
-            bot: *bot,
-            instance: *instance,
-            message: *message,
-            bundle: *bundle,
-            sends: sends.copy(alloc)?,
-            dumps: dumps.copy(alloc)?,
-            key: key.copy(alloc)?,
-            line: *line,
-        }),
+        } => {
+            let (sends, dumps, key) = copy_of_given(alloc, sends, dumps, key)?;
+            Ok(StepKind::Done {
+                bot: *bot,
+                instance: *instance,
+                message: *message,
+                bundle: *bundle,
+                sends,
+                dumps,
+                key,
+                line: *line,
+            })
+        }
         StepKind::Retry {
             bot,
             instance,
@@ -599,4 +568,16 @@ fn copy_of_kind(alloc: Global, what: &StepKind) -> Result<StepKind, OutOfMemory>
         StepKind::Redo { dump } => Ok(StepKind::Redo { dump: *dump }),
         StepKind::Round { bot } => Ok(StepKind::Round { bot: *bot }),
     }
+}
+
+// A copy of what a bot made of a message.
+fn copy_of_given(
+    alloc: Global,
+    sends: &SendList,
+    dumps: &NoteList,
+    key: &Option<Blob>,
+) -> Result<(SendList, NoteList, Option<Blob>), OutOfMemory>
+    ensures { IfOk result (λ copy. copy ≡ (sends.now, dumps.now, key.now)) }
+{
+    Ok((sends.copy(alloc)?, dumps.copy(alloc)?, key.copy(alloc)?))
 }

@@ -7,5 +7,5 @@ pub returns : goal.returns
 unfolding planned
 returns c = (
   c.in_ok-module.ensures.0,
-  planned_is c.args.bundle.now (members_of c.args.global.now) (entry_of c.args.bot.now) _ c.name.ensures c.in_ok-module.ensures.1 c.in_ok-instances.ensures c.in_ok-retries.ensures c.in_ok-whole.ensures c.in_ok-stops.ensures c.requires.paths,
+  planned_is c.args.bundle.now (members_of c.args.global.now) (entry_of c.args.bot.now) _ c.name.ensures c.in_ok-module.ensures.1 c.in_ok-shared.ensures.instances_are c.in_ok-shared.ensures.retries_are c.in_ok-shared.ensures.delay_is c.in_ok-shared.ensures.stop_is c.requires.paths,
 )

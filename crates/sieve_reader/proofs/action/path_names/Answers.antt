@@ -14,13 +14,13 @@ returns-in-Err c =
 pub returns-then-not-sees : goal.returns-then-not-sees
 returns-then-not-sees c =
     turn_ends (is_sign Comma) (path_name judged) c.left-turn-end.result c.turns._turn c.turns.found c.turns.tokens _ c.turns-test.true c.turns.invariant c.in-Ok.name c.path_name.new.tokens
-    c.in-Ok.ensures c.if-not-sees.ensures ∙ ap (λ (f : List (List ℕ)). Ok (f, c.path_name.new.tokens)) (sym c.in-Ok-push.ensures.ok)
+    c.in-Ok.ensures c.if-not-sees.ensures ∙ ap (λ (f : List (List ℕ)). Ok (f, c.path_name.new.tokens)) (sym c.in-Ok-push.ensures)
 
 pub turns-preserved : goal.turns-preserved
 turns-preserved c =
     turn_goes_on (is_sign Comma) (path_name judged) c.left-turn-end.result c.turns._turn c.turns.found c.turns.tokens _ c.turns-test.true c.turns.invariant c.in-Ok.name c.path_name.new.tokens
     c.in-Ok.ensures c.if-not-sees.ensures
-    ∙ (λ i. separated (is_sign Comma) (path_name judged) (c.left-turn-end.result - (c.turns._turn + 1)) (sym c.in-Ok-push.ensures.ok i) (sym c.skip.ensures i))
+    ∙ (λ i. separated (is_sign Comma) (path_name judged) (c.left-turn-end.result - (c.turns._turn + 1)) (sym c.in-Ok-push.ensures i) (sym c.skip.ensures i))
 
 pub returns : goal.returns
 returns c =

@@ -21,12 +21,12 @@ unfolding both
 both-returns-then-not-sees t c =
     ap (read_map cond.All)
     (turn_ends (is_sign signs.And) (one judged c.args.left) c.left-turn-end.result c.turns._turn c.turns.found c.turns.tokens _ c.turns-test.true c.turns.invariant c.in-Ok.item c.one.new.tokens c.in-Ok.ensures c.if-not-sees.ensures
-    ∙ ap (λ (f : List Cond). Ok (f, c.one.new.tokens)) (sym c.in-Ok-push.ensures.ok))
+    ∙ ap (λ (f : List Cond). Ok (f, c.one.new.tokens)) (sym c.in-Ok-push.ensures))
 
 pub both-turns-preserved : goal.both-turns-preserved
 both-turns-preserved t c =
     turn_goes_on (is_sign signs.And) (one judged c.args.left) c.left-turn-end.result c.turns._turn c.turns.found c.turns.tokens _ c.turns-test.true c.turns.invariant c.in-Ok.item c.one.new.tokens c.in-Ok.ensures c.if-not-sees.ensures
-    ∙ (λ i. separated (is_sign signs.And) (one judged c.args.left) (c.left-turn-end.result - (c.turns._turn + 1)) (sym c.in-Ok-push.ensures.ok i) (sym c.skip.ensures i))
+    ∙ (λ i. separated (is_sign signs.And) (one judged c.args.left) (c.left-turn-end.result - (c.turns._turn + 1)) (sym c.in-Ok-push.ensures i) (sym c.skip.ensures i))
 
 pub both-returns : goal.both-returns
 unfolding both
@@ -45,12 +45,12 @@ unfolding cond_of
 cond-returns-then-not-sees t c =
     ap (read_map cond.Any)
     (turn_ends (is_sign signs.Or) (both (one judged c.args.left)) c.left-turn-end.result c.turns._turn c.turns.found c.turns.tokens _ c.turns-test.true c.turns.invariant c.in-Ok.item c.both.new.tokens c.in-Ok.ensures c.if-not-sees.ensures
-    ∙ ap (λ (f : List Cond). Ok (f, c.both.new.tokens)) (sym c.in-Ok-push.ensures.ok))
+    ∙ ap (λ (f : List Cond). Ok (f, c.both.new.tokens)) (sym c.in-Ok-push.ensures))
 
 pub cond-turns-preserved : goal.cond-turns-preserved
 cond-turns-preserved t c =
     turn_goes_on (is_sign signs.Or) (both (one judged c.args.left)) c.left-turn-end.result c.turns._turn c.turns.found c.turns.tokens _ c.turns-test.true c.turns.invariant c.in-Ok.item c.both.new.tokens c.in-Ok.ensures c.if-not-sees.ensures
-    ∙ (λ i. separated (is_sign signs.Or) (both (one judged c.args.left)) (c.left-turn-end.result - (c.turns._turn + 1)) (sym c.in-Ok-push.ensures.ok i) (sym c.skip.ensures i))
+    ∙ (λ i. separated (is_sign signs.Or) (both (one judged c.args.left)) (c.left-turn-end.result - (c.turns._turn + 1)) (sym c.in-Ok-push.ensures i) (sym c.skip.ensures i))
 
 pub cond-returns : goal.cond-returns
 unfolding cond_of

@@ -48,7 +48,7 @@ enclosed-returns-in-Err t c =
 pub enclosed-turns-preserved : goal.enclosed-turns-preserved
 enclosed-turns-preserved t c =
     items_go_on (sees (is_sign signs.CloseBrace)) (an_item judged c.args.left) _ c.turns._turn c.turns.found c.turns.tokens _ c.turns-test.true c.turns.invariant c.if-sees.ensures c.in-Ok.item c.item.new.tokens c.in-Ok.ensures
-    ∙ ap (λ (f : List SieveItem). items (sees (is_sign signs.CloseBrace)) (an_item judged c.args.left) (c.left-turn-end.result + 1 - (c.turns._turn + 1)) f c.item.new.tokens) (sym c.in-Ok-push.ensures.ok)
+    ∙ ap (λ (f : List SieveItem). items (sees (is_sign signs.CloseBrace)) (an_item judged c.args.left) (c.left-turn-end.result + 1 - (c.turns._turn + 1)) f c.item.new.tokens) (sym c.in-Ok-push.ensures)
 
 pub enclosed-returns : goal.enclosed-returns
 enclosed-returns t c =
@@ -76,13 +76,13 @@ cases-returns-in-Err t c =
 pub cases-returns-then-not-sees_elif : goal.cases-returns-then-not-sees_elif
 cases-returns-then-not-sees_elif t c =
     turn_ends is_elif (case (condition judged c.args.left) (part judged c.args.left)) c.left-turn-end.result c.turns._turn c.turns.found c.turns.tokens _ c.turns-test.true c.turns.invariant c.in-Ok.case c.case.new.tokens
-    c.in-Ok.ensures c.if-not-sees_elif.ensures ∙ ap (λ (f : List (Cond × List SieveItem)). Ok (f, c.case.new.tokens)) (sym c.in-Ok-push.ensures.ok)
+    c.in-Ok.ensures c.if-not-sees_elif.ensures ∙ ap (λ (f : List (Cond × List SieveItem)). Ok (f, c.case.new.tokens)) (sym c.in-Ok-push.ensures)
 
 pub cases-turns-preserved : goal.cases-turns-preserved
 cases-turns-preserved t c =
     turn_goes_on is_elif (case (condition judged c.args.left) (part judged c.args.left)) c.left-turn-end.result c.turns._turn c.turns.found c.turns.tokens _ c.turns-test.true c.turns.invariant c.in-Ok.case c.case.new.tokens
     c.in-Ok.ensures c.if-not-sees_elif.ensures
-    ∙ (λ i. separated is_elif (case (condition judged c.args.left) (part judged c.args.left)) (c.left-turn-end.result - (c.turns._turn + 1)) (sym c.in-Ok-push.ensures.ok i) (sym c.skip.ensures i))
+    ∙ (λ i. separated is_elif (case (condition judged c.args.left) (part judged c.args.left)) (c.left-turn-end.result - (c.turns._turn + 1)) (sym c.in-Ok-push.ensures i) (sym c.skip.ensures i))
 
 pub cases-returns : goal.cases-returns
 cases-returns t c =

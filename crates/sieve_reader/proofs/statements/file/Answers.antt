@@ -17,7 +17,7 @@ returns-in-Err c =
 pub turns-preserved : goal.turns-preserved
 turns-preserved c =
     items_go_on is_end (an_item judged c.args.left) _ c.turns._turn c.turns.found c.turns.tokens _ c.turns-test.true c.turns.invariant c.if-is_end.ensures c.in-Ok.item c.item.new.tokens c.in-Ok.ensures
-    ∙ ap (λ (f : List SieveItem). items is_end (an_item judged c.args.left) (c.left-turn-end.result + 1 - (c.turns._turn + 1)) f c.item.new.tokens) (sym c.in-Ok-push.ensures.ok)
+    ∙ ap (λ (f : List SieveItem). items is_end (an_item judged c.args.left) (c.left-turn-end.result + 1 - (c.turns._turn + 1)) f c.item.new.tokens) (sym c.in-Ok-push.ensures)
 
 pub returns : goal.returns
 returns c =

@@ -15,13 +15,13 @@ returns-in-Err c =
 pub returns-then-not-sees : goal.returns-then-not-sees
 returns-then-not-sees c =
     turn_ends (is_sign Comma) (literal judged c.args.key.now) c.left-turn-end.result c.turns._turn c.turns.found c.turns.tokens _ c.turns-test.true c.turns.invariant c.in-Ok.value c.literal.new.tokens
-    c.in-Ok.ensures c.if-not-sees.ensures ∙ ap (λ (f : List Value). Ok (f, c.literal.new.tokens)) (sym c.in-Ok-push.ensures.ok)
+    c.in-Ok.ensures c.if-not-sees.ensures ∙ ap (λ (f : List Value). Ok (f, c.literal.new.tokens)) (sym c.in-Ok-push.ensures)
 
 pub turns-preserved : goal.turns-preserved
 turns-preserved c =
     turn_goes_on (is_sign Comma) (literal judged c.args.key.now) c.left-turn-end.result c.turns._turn c.turns.found c.turns.tokens _ c.turns-test.true c.turns.invariant c.in-Ok.value c.literal.new.tokens
     c.in-Ok.ensures c.if-not-sees.ensures
-    ∙ (λ i. separated (is_sign Comma) (literal judged c.args.key.now) (c.left-turn-end.result - (c.turns._turn + 1)) (sym c.in-Ok-push.ensures.ok i) (sym c.skip.ensures i))
+    ∙ (λ i. separated (is_sign Comma) (literal judged c.args.key.now) (c.left-turn-end.result - (c.turns._turn + 1)) (sym c.in-Ok-push.ensures i) (sym c.skip.ensures i))
 
 pub returns : goal.returns
 returns c =
