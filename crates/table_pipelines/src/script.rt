@@ -21,13 +21,17 @@ use crate::files::{
 use crate::outside::{Outside, push_number};
 use crate::trials::{DiskTrouble, each_call};
 use base_types::{NumberList, OutOfMemory};
-use std::alloc::Global;
+use std::alloc::{AllocError, Global};
 
 /// What came of a line, in lines.
-pub fn answer(alloc: Global, outside: &mut Outside, line: &str) -> Result<String, OutOfMemory> {
-    if line.is_empty() || line.starts_with('#') {
-        return Ok(String::new(alloc));
+pub fn answer(alloc: Global, outside: &mut Outside, line: &str) -> Result<String, AllocError> {
+    match came_of(alloc, outside, line) {
+        Ok(text) => Ok(text),
+        Err(OutOfMemory) => Err(AllocError),
     }
+}
+
+fn came_of(alloc: Global, outside: &mut Outside, line: &str) -> Result<String, OutOfMemory> {
     let (call, rest) = line.split_once(' ').unwrap_or((line, ""));
     match call {
         ">" => command(alloc, outside, rest),

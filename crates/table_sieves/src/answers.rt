@@ -5,7 +5,7 @@ use crate::verdicts::{holders, verdict};
 use base_types::OutOfMemory;
 use std::alloc::{AllocError, Global};
 
-/// The lines of the answer to a case, `CALL: INPUT`. A heading has none.
+/// The lines of the answer to a case, `CALL: INPUT`.
 ///
 /// | Call | Input | Answer |
 /// |---|---|---|
@@ -20,9 +20,6 @@ use std::alloc::{AllocError, Global};
 /// | `find among` | an address and a number of networks | the same of that many |
 /// | `allow`, `deny` | names and an event | the fields that tell it from others |
 pub fn answer(alloc: Global, line: &str) -> Result<String, AllocError> {
-    if line.is_empty() || line.starts_with('#') {
-        return Ok(String::new(alloc));
-    }
     let Some((call, input)) = line.split_once(": ") else {
         return "no case".to_string(alloc);
     };

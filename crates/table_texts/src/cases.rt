@@ -2,11 +2,18 @@
 use crate::{edits, fields, inputs, messages, numbers, sieves, statuses, values, words};
 use base_types::OutOfMemory;
 use event_json::Cleaner;
-use std::alloc::Global;
+use std::alloc::{AllocError, Global};
 use table_lines::unescaped;
 
-/// The lines of the answer to a case.
-pub fn answer(alloc: Global, cleaner: &mut Cleaner, case: &str) -> Result<String, OutOfMemory> {
+/// The lines of the answer to a case. All cases may share one cleaner, as the lines of a feed do.
+pub fn answer(alloc: Global, cleaner: &mut Cleaner, case: &str) -> Result<String, AllocError> {
+    match answer_to(alloc, cleaner, case) {
+        Ok(answer) => Ok(answer),
+        Err(OutOfMemory) => Err(AllocError),
+    }
+}
+
+fn answer_to(alloc: Global, cleaner: &mut Cleaner, case: &str) -> Result<String, OutOfMemory> {
     let Some((call, input)) = case.split_once(':') else {
         return Ok(String::from_str(alloc, "no case")?);
     };
