@@ -1,5 +1,5 @@
 use crate::fixtures::{NOW, break_book, fill, flush_two, latest_behind};
-use crate::same::same;
+use crate::same::{same, same_in};
 use base_types::Blob;
 use edge_memory::MemDisk;
 use journal_book::BookFault;
@@ -68,7 +68,7 @@ fn no_store_is_made_where_a_call_fails(rt: HostRuntime) -> Result<(), Fail> {
         let mut disk = MemDisk::new(alloc);
         fail_at(alloc, &mut disk, call)?;
         let fault = create_fault(alloc, disk, TinyRules, &tiny(alloc)?);
-        assert_eq!(rt; fault, Some(BookFault::Disk), "call {call}");
+        same_in(&rt, call, fault, Some(BookFault::Disk));
     }
     Ok(())
 }
@@ -114,7 +114,7 @@ fn a_clock_that_goes_back_is_not_followed(rt: HostRuntime) -> Result<(), Fail> {
     let alloc = rt.alloc();
     'clocks: for (clock, moment) in &MOMENTS {
         let latest = latest_behind(alloc, MemDisk::new(alloc), TinyRules, &tiny(alloc)?, *clock)?;
-        assert_eq!(rt; latest, *moment, "a clock at {clock}");
+        same_in(&rt, *clock, latest, *moment);
     }
     Ok(())
 }

@@ -1,7 +1,7 @@
 //! What books do, over any disk and any rules, so that no proof looks into those of the tests: each of these makes a store, lets a
 //! book do something, and gives the disk back.
 
-use crate::same::same;
+use crate::same::{same, same_in};
 use base_types::Blob;
 use edge_traits::Disk;
 use journal_book::Book;
@@ -88,10 +88,10 @@ pub fn break_book<D: Disk + Drop, R: Rules>(
     call: u64,
 ) -> Result<(), Fail> {
     let mut book = created(alloc, disk, rules, bundle, 1_000)?;
-    assert_eq!(rt; start(&mut book, NOW), Answer::Number(1), "call {call}");
-    assert_eq!(rt; flush(&mut book), Answer::Disk, "call {call}");
-    assert_eq!(rt; flush(&mut book), Answer::Broken, "call {call}");
-    assert_eq!(rt; start(&mut book, NOW), Answer::Broken, "call {call}");
-    assert_eq!(rt; book.durable(), 0, "call {call}");
+    same_in(rt, call, start(&mut book, NOW), Answer::Number(1));
+    same_in(rt, call, flush(&mut book), Answer::Disk);
+    same_in(rt, call, flush(&mut book), Answer::Broken);
+    same_in(rt, call, start(&mut book, NOW), Answer::Broken);
+    same_in(rt, call, book.durable(), 0);
     Ok(())
 }

@@ -1,5 +1,6 @@
 //! Stores whose first state has sealed lines, with an output's file of every length.
 
+use crate::same::same_in;
 use base_types::Blob;
 use disk_journal::Journal;
 use edge_memory::MemDisk;
@@ -50,18 +51,12 @@ fn check_short(rt: &(impl Abort + Alloc<A = Global>), len: usize) -> Result<(), 
     let output = SEALED.get(..len).unwrap_or(SEALED);
     let at = len as u64;
     let (seen, disk) = reopen(alloc, store_with(alloc, output)?, TinyRules);
-    assert_eq!(rt;
-        seen?.found,
-        Found::Damaged { file: OUT, at },
-        "{len} bytes"
-    );
+    let seen = seen?;
     let (end, disk) = complete(alloc, disk, TinyRules);
-    assert_eq!(rt;
-        end,
-        Err(BookFault::Damaged { file: OUT, at }),
-        "{len} bytes"
-    );
-    assert_eq!(rt; disk.file(alloc, OUT)?.as_slice(), output, "{len} bytes");
+    same_in(rt, len, end, Err(BookFault::Damaged { file: OUT, at }));
+    let left = disk.file(alloc, OUT)?;
+    same_in(rt, len, left.as_slice(), output);
+    same_in(rt, len, seen.found, Found::Damaged { file: OUT, at });
     Ok(())
 }
 
@@ -83,13 +78,20 @@ const OUTPUTS: [&str; 4] = [
 
 #[test]
 fn an_output_is_completed_behind_what_is_sealed(rt: HostRuntime) -> Result<(), Fail> {
-    let alloc = rt.alloc();
     'outputs: for output in &OUTPUTS {
-        let (seen, disk) = reopen(alloc, store_with(alloc, output.as_bytes())?, TinyRules);
-        assert_eq!(rt; seen?.found, Found::Steps(9), "{output}");
-        let (end, disk) = complete(alloc, disk, TinyRules);
-        assert_eq!(rt; end, Ok(()), "{output}");
-        assert_eq!(rt; disk.file(alloc, OUT)?.as_slice(), WHOLE, "{output}");
+        check_completed(&rt, *output)?;
     }
+    Ok(())
+}
+
+fn check_completed(rt: &(impl Abort + Alloc<A = Global>), output: &str) -> Result<(), Fail> {
+    let alloc = rt.alloc();
+    let (seen, disk) = reopen(alloc, store_with(alloc, output.as_bytes())?, TinyRules);
+    let seen = seen?;
+    let (end, disk) = complete(alloc, disk, TinyRules);
+    same_in(rt, output, end, Ok(()));
+    let left = disk.file(alloc, OUT)?;
+    same_in(rt, output, left.as_slice(), WHOLE);
+    same_in(rt, output, seen.found, Found::Steps(9));
     Ok(())
 }

@@ -1,5 +1,5 @@
 use crate::fixtures::{numbers, sink, store_of};
-use crate::same::same;
+use crate::same::{holds_in, same};
 use base_types::NumberList;
 use edge_memory::MemDisk;
 use std::alloc::Global;
@@ -75,17 +75,16 @@ fn a_disk_that_fails_leaves_the_dump_or_its_step(rt: HostRuntime) -> Result<(), 
     let alloc = rt.alloc();
     let made = store_of(alloc, DUMPED)?.calls();
     for call in 1..=20u64 {
+        let failing = numbers(alloc, made.saturating_add(call))?;
         let mut disk = store_of(alloc, DUMPED)?;
-        disk.plan(numbers(alloc, made.saturating_add(call))?, None);
+        disk.plan(failing, None);
         let (end, mut disk) = redo(alloc, disk, TinyRules, 1, 200, &mut sink(alloc));
         disk.plan(NumberList::new(alloc), None);
         let (again, _disk) = redo(alloc, disk, TinyRules, 1, 200, &mut sink(alloc));
         let left = again == StoreEnd::Done || again == StoreEnd::NoDump { no: 1 };
-        assert!(rt;
-            end == StoreEnd::Disk || end == StoreEnd::Done,
-            "call {call}"
-        );
-        assert!(rt; left, "call {call}");
+        let ended = end == StoreEnd::Disk || end == StoreEnd::Done;
+        holds_in(&rt, call, ended);
+        holds_in(&rt, call, left);
     }
     Ok(())
 }

@@ -1,6 +1,6 @@
 ghost use Rattle.std.specs.Prelude.{◌≡◌};
 
-use crate::same::same;
+use crate::same::{same, same_in};
 use base_types::{Blob, NumberList, Text};
 use edge_memory::{Choice, MemClock, MemDisk, MemShelf, MemSink, MemSource, NoGate};
 use edge_traits::{Clock, Disk, Failed, Shelf, ShelfFault, Sink, Source};
@@ -223,47 +223,62 @@ fn check_image(
     if after > disk.calls() {
         return Err(Fail::from("an image of a call that wasn't made"));
     }
-    let image = disk.image(alloc, after, choice)?;
-    assert_eq!(rt;
-        image.file(alloc, FILE)?.as_slice(),
-        want.as_bytes(),
-        "after {after} calls, {choice:?}"
-    );
+    check_file(rt, alloc, &disk.image(alloc, after, choice)?, after, want)
+}
+
+// An image has this file, has made no call, and nothing of it is pending.
+fn check_file(
+    rt: &impl Abort,
+    alloc: Global,
+    image: &MemDisk,
+    after: u64,
+    want: &str,
+) -> Result<(), Fail> {
+    let found = image.file(alloc, FILE)?;
+    same_in(rt, after, found.as_slice(), want.as_bytes());
     same(rt, image.calls(), 0);
-    let again = image.image(alloc, 0, &LONGEST)?;
-    assert_eq!(rt;
-        again.file(alloc, FILE)?.as_slice(),
-        want.as_bytes(),
-        "nothing of an image is pending"
-    );
+    let again = image.image(alloc, 0, &LONGEST)?.file(alloc, FILE)?;
+    same_in(rt, after, again.as_slice(), want.as_bytes());
     Ok(())
 }
 
-fn check_row(rt: &impl Abort, alloc: Global, row: &Row) -> Result<(), Fail> {
-    let mut disk = MemDisk::new(alloc);
+fn check_row(rt: &impl Abort, alloc: Global, disk: &mut MemDisk, row: &Row) -> Result<(), Fail> {
     for call in &row.calls {
-        make(alloc, &mut disk, *call)??;
+        make(alloc, disk, *call)??;
     }
-    check_image(rt, alloc, &disk, row.after, &KEPT, row.kept)?;
-    check_image(rt, alloc, &disk, row.after, &LONGEST, row.longest)?;
-    check_image(rt, alloc, &disk, row.after, &SHORTEST, row.shortest)
+    check_image(rt, alloc, disk, row.after, &KEPT, row.kept)?;
+    check_image(rt, alloc, disk, row.after, &LONGEST, row.longest)?;
+    check_image(rt, alloc, disk, row.after, &SHORTEST, row.shortest)
 }
 
 #[test]
 fn images(rt: HostRuntime) -> Result<(), Fail> {
+    let alloc = rt.alloc();
     for row in &ROWS {
-        check_row(&rt, rt.alloc(), row)?;
+        check_row(&rt, alloc, &mut MemDisk::new(alloc), row)?;
     }
     Ok(())
 }
 
+// A disk whose call with this number fails.
+fn failing(alloc: Global, number: u64) -> Result<MemDisk, Fail> {
+    let fail = numbers(alloc, &[number])?;
+    let mut disk = MemDisk::new(alloc);
+    disk.plan(fail, None);
+    Ok(disk)
+}
+
 // What the call with this number answers on a disk with a plan.
 fn answers(alloc: Global, fail: &[u64], stop: Option<u64>, number: u64) -> Result<bool, Fail> {
-    let mut disk = MemDisk::new(alloc);
     let fail = numbers(alloc, fail)?;
+    let mut disk = MemDisk::new(alloc);
     disk.plan(fail, stop);
+    answer_of(alloc, &mut disk, number)
+}
+
+fn answer_of(alloc: Global, disk: &mut MemDisk, number: u64) -> Result<bool, Fail> {
     for call in &[Call::Sync, Call::Write(0, "ab"), Call::Cut(0), Call::Sync] {
-        let answer = make(alloc, &mut disk, *call)?;
+        let answer = make(alloc, disk, *call)?;
         if disk.calls() == number {
             return Ok(answer.is_ok());
         }
@@ -276,11 +291,7 @@ fn calls_fail_at_each_number(rt: HostRuntime) -> Result<(), Fail> {
     for failing in 1..5u64 {
         for number in 1..5u64 {
             let ok = answers(rt.alloc(), &[failing], None, number)?;
-            assert_eq!(rt;
-                ok,
-                number != failing,
-                "call {number} of a disk where {failing} fails"
-            );
+            same_in(&rt, number, ok, number != failing);
         }
     }
     Ok(())
@@ -291,46 +302,56 @@ fn stops_at_each_number(rt: HostRuntime) -> Result<(), Fail> {
     for stop in 0..5u64 {
         for number in 1..5u64 {
             let ok = answers(rt.alloc(), &[], Some(stop), number)?;
-            assert_eq!(rt;
-                ok,
-                number <= stop,
-                "call {number} of a disk that stops after {stop}"
-            );
+            same_in(&rt, number, ok, number <= stop);
         }
     }
     Ok(())
 }
 
+// Makes a durable file of this text, and has the next call fail.
+fn fail_behind(
+    rt: &impl Abort,
+    alloc: Global,
+    disk: &mut MemDisk,
+    text: &'static str,
+    call: Call,
+) -> Result<(), Fail> {
+    make(alloc, disk, Call::Write(0, text))??;
+    make(alloc, disk, Call::Sync)??;
+    assert!(rt; make(alloc, disk, call)?.is_err());
+    assert!(rt; !disk.starved());
+    assert!(rt; !disk.unnoted());
+    Ok(())
+}
+
+// What a crash behind the call that failed leaves.
+fn check_left(
+    rt: &impl Abort,
+    alloc: Global,
+    disk: &MemDisk,
+    kept: &str,
+    longest: &str,
+    shortest: &str,
+) -> Result<(), Fail> {
+    check_image(rt, alloc, disk, 3, &KEPT, kept)?;
+    check_image(rt, alloc, disk, 3, &LONGEST, longest)?;
+    check_image(rt, alloc, disk, 3, &SHORTEST, shortest)
+}
+
 #[test]
 fn a_failed_write_is_pending(rt: HostRuntime) -> Result<(), Fail> {
     let alloc = rt.alloc();
-    let mut disk = MemDisk::new(alloc);
-    let fail = numbers(alloc, &[3])?;
-    disk.plan(fail, None);
-    make(alloc, &mut disk, Call::Write(0, "abc"))??;
-    make(alloc, &mut disk, Call::Sync)??;
-    assert!(rt; make(alloc, &mut disk, Call::Write(2, "XYZ"))?.is_err());
-    assert!(rt; !disk.starved());
-    assert!(rt; !disk.unnoted());
-    check_image(&rt, alloc, &disk, 3, &KEPT, "abc")?;
-    check_image(&rt, alloc, &disk, 3, &LONGEST, "ab???")?;
-    check_image(&rt, alloc, &disk, 3, &SHORTEST, "ab?")
+    let mut disk = failing(alloc, 3)?;
+    fail_behind(&rt, alloc, &mut disk, "abc", Call::Write(2, "XYZ"))?;
+    check_left(&rt, alloc, &disk, "abc", "ab???", "ab?")
 }
 
 #[test]
 fn a_failed_cut_is_pending(rt: HostRuntime) -> Result<(), Fail> {
     let alloc = rt.alloc();
-    let mut disk = MemDisk::new(alloc);
-    let fail = numbers(alloc, &[3])?;
-    disk.plan(fail, None);
-    make(alloc, &mut disk, Call::Write(0, "abcd"))??;
-    make(alloc, &mut disk, Call::Sync)??;
-    assert!(rt; make(alloc, &mut disk, Call::Cut(1))?.is_err());
-    assert!(rt; !disk.starved());
-    assert!(rt; !disk.unnoted());
-    check_image(&rt, alloc, &disk, 3, &KEPT, "abcd")?;
-    check_image(&rt, alloc, &disk, 3, &LONGEST, "abcd")?;
-    check_image(&rt, alloc, &disk, 3, &SHORTEST, "a")
+    let mut disk = failing(alloc, 3)?;
+    fail_behind(&rt, alloc, &mut disk, "abcd", Call::Cut(1))?;
+    check_left(&rt, alloc, &disk, "abcd", "abcd", "a")
 }
 
 // A write of one letter at the end of a file, or a cut to half.
@@ -352,32 +373,30 @@ fn halve(alloc: Global, disk: &mut MemDisk, file: u64) -> Result<(), Fail> {
 // Files that are written in turn, and what a read gives of each: now, and on an image.
 const FILES: [(u64, &str); 4] = [(3, "ab"), (900, "cde"), (4, ""), (u64::MAX, "f")];
 
-#[test]
-fn files_stand_apart(rt: HostRuntime) -> Result<(), Fail> {
-    let alloc = rt.alloc();
-    let mut disk = MemDisk::new(alloc);
+// The letters of all files in turn.
+fn grow_all(alloc: Global, disk: &mut MemDisk) -> Result<(), Fail> {
     for i in 0..6usize {
         for (file, text) in &FILES {
             if let Some(letter) = text.as_bytes().get(i) {
-                grow(alloc, &mut disk, *file, *letter)?;
+                grow(alloc, disk, *file, *letter)?;
             }
         }
     }
-    grow(alloc, &mut disk, 4, b'x')?;
-    halve(alloc, &mut disk, 4)?;
-    let image = disk.image(alloc, disk.calls(), &KEPT)?;
+    grow(alloc, disk, 4, b'x')?;
+    halve(alloc, disk, 4)
+}
+
+fn check_apart(rt: &impl Abort, alloc: Global, disk: &mut MemDisk) -> Result<(), Fail> {
+    grow_all(alloc, disk)?;
+    check_all(rt, alloc, disk)?;
+    check_all(rt, alloc, &mut disk.image(alloc, disk.calls(), &KEPT)?)
+}
+
+fn check_all(rt: &impl Abort, alloc: Global, disk: &mut MemDisk) -> Result<(), Fail> {
     for (file, text) in &FILES {
-        assert_eq!(rt;
-            disk.file(alloc, *file)?.as_slice(),
-            text.as_bytes(),
-            "file {file}"
-        );
-        assert_eq!(rt;
-            image.file(alloc, *file)?.as_slice(),
-            text.as_bytes(),
-            "file {file} of the image"
-        );
-        assert_eq!(rt; disk.len(*file)?, text.len() as u64, "file {file}");
+        let found = disk.file(alloc, *file)?;
+        same_in(rt, *file, found.as_slice(), text.as_bytes());
+        same_in(rt, *file, disk.len(*file)?, text.len() as u64);
     }
     assert!(rt; disk.file(alloc, 5)?.is_empty());
     assert!(rt; !disk.starved());
@@ -385,46 +404,58 @@ fn files_stand_apart(rt: HostRuntime) -> Result<(), Fail> {
 }
 
 #[test]
+fn files_stand_apart(rt: HostRuntime) -> Result<(), Fail> {
+    check_apart(&rt, rt.alloc(), &mut MemDisk::new(rt.alloc()))
+}
+
+// The sync with the number 2 fails.
+fn check_unsynced(rt: &impl Abort, alloc: Global, disk: &mut MemDisk) -> Result<(), Fail> {
+    make(alloc, disk, Call::Write(0, "abc"))??;
+    assert!(rt; make(alloc, disk, Call::Sync)?.is_err());
+    check_image(rt, alloc, disk, 2, &LONGEST, "???")
+}
+
+#[test]
 fn a_failed_sync_leaves_all_pending(rt: HostRuntime) -> Result<(), Fail> {
     let alloc = rt.alloc();
-    let mut disk = MemDisk::new(alloc);
-    let fail = numbers(alloc, &[2])?;
-    disk.plan(fail, None);
-    make(alloc, &mut disk, Call::Write(0, "abc"))??;
-    assert!(rt; make(alloc, &mut disk, Call::Sync)?.is_err());
-    check_image(&rt, alloc, &disk, 2, &LONGEST, "???")
+    let mut disk = failing(alloc, 2)?;
+    check_unsynced(&rt, alloc, &mut disk)
 }
 
 #[test]
 fn reads_fall_short(rt: HostRuntime) -> Result<(), Fail> {
-    let alloc = rt.alloc();
-    let mut disk = MemDisk::new(alloc);
-    make(alloc, &mut disk, Call::Write(0, "abcde"))??;
-    same(&rt, disk.len(FILE)?, 5);
-    same(&rt, disk.len(FILE + 1)?, 0);
+    check_reads(&rt, rt.alloc(), &mut MemDisk::new(rt.alloc()))
+}
+
+fn check_reads(rt: &impl Abort, alloc: Global, disk: &mut MemDisk) -> Result<(), Fail> {
+    make(alloc, disk, Call::Write(0, "abcde"))??;
+    same(rt, disk.len(FILE)?, 5);
+    same(rt, disk.len(FILE + 1)?, 0);
     for at in 0..8u64 {
         let mut buf = [0u8; 3];
         let n = disk.read_at(FILE, at, &mut buf)?;
         let want = &b"abcde"[(at as usize).min(5)..];
-        same(&rt, n, want.len().min(3));
+        same(rt, n, want.len().min(3));
         if n <= 3 && n <= want.len() {
-            same(&rt, &buf[..n], &want[..n]);
+            same(rt, &buf[..n], &want[..n]);
         }
     }
-    same(&rt, disk.calls(), 11);
+    same(rt, disk.calls(), 11);
     Ok(())
 }
 
 #[test]
 fn a_sink_takes_what_is_not_to_fail(rt: HostRuntime) -> Result<(), Fail> {
-    let alloc = rt.alloc();
-    let fail = numbers(alloc, &[2])?;
-    let mut sink = MemSink::new(alloc, fail);
-    same(&rt, sink.write(b"abc")?, 3);
+    let fail = numbers(rt.alloc(), &[2])?;
+    check_writes(&rt, &mut MemSink::new(rt.alloc(), fail))
+}
+
+fn check_writes(rt: &impl Abort, sink: &mut MemSink) -> Result<(), Fail> {
+    same(rt, sink.write(b"abc")?, 3);
     assert!(rt; sink.write(b"def").is_err());
-    same(&rt, sink.write(b"")?, 0);
-    same(&rt, sink.write(b"gh")?, 2);
-    same(&rt, sink.bytes(), b"abcgh".as_slice());
+    same(rt, sink.write(b"")?, 0);
+    same(rt, sink.write(b"gh")?, 2);
+    same(rt, sink.bytes(), b"abcgh".as_slice());
     assert!(rt; !sink.starved());
     Ok(())
 }
@@ -474,43 +505,42 @@ fn fetch_and_read(
     }
 }
 
+// A shelf whose first and third fetch fail, with a file whose first read fails.
+fn failing_shelf(alloc: Global, name: &Text) -> Result<MemShelf, Fail> {
+    let content = blob(alloc, "abc")?;
+    let reads = numbers(alloc, &[1])?;
+    let fetches = numbers(alloc, &[1, 3])?;
+    let mut shelf = MemShelf::new(alloc, fetches);
+    shelf.put(alloc, name, &content, reads)?;
+    Ok(shelf)
+}
+
 #[test]
 fn a_shelf_counts_by_name(rt: HostRuntime) -> Result<(), Fail> {
     let alloc = rt.alloc();
-    let fail = numbers(alloc, &[1, 3])?;
-    let mut shelf = MemShelf::new(alloc, fail);
     let name = text(alloc, "feed.csv")?;
     let other = text(alloc, "other")?;
-    let content = blob(alloc, "abc")?;
-    let reads = numbers(alloc, &[1])?;
-    shelf.put(alloc, &name, &content, reads)?;
-
-    // An absent name comes before the list: this is the first fetch.
-    same(
-        &rt,
-        fetch_and_read(alloc, &mut shelf, &other),
-        Err(ShelfFault::Absent),
-    );
-    assert_eq!(rt;
-        fetch_and_read(alloc, &mut shelf, &name),
-        Ok(None),
-        "its first read is to fail"
-    );
-    same(&rt, shelf.faults(&name), 1);
-    same(
-        &rt,
-        fetch_and_read(alloc, &mut shelf, &name),
-        Err(ShelfFault::Failed),
-    );
-    same(&rt, shelf.faults(&name), 2);
-    assert_eq!(rt;
-        fetch_and_read(alloc, &mut shelf, &name),
-        Ok(Some(*b"bc-")),
-        "only the first source fails"
-    );
-    same(&rt, shelf.faults(&name), 2);
-    same(&rt, shelf.faults(&other), 0);
+    let mut shelf = failing_shelf(alloc, &name)?;
+    check_counts(&rt, alloc, &mut shelf, &name, &other);
     Ok(())
+}
+
+fn check_counts(rt: &impl Abort, alloc: Global, shelf: &mut MemShelf, name: &Text, other: &Text) {
+    // An absent name comes before the list: this is the first fetch.
+    let absent = fetch_and_read(alloc, shelf, other);
+    same(rt, absent, Err(ShelfFault::Absent));
+    let unread = fetch_and_read(alloc, shelf, name);
+    same(rt, unread, Ok(None));
+    same(rt, shelf.faults(name), 1);
+    let failed = fetch_and_read(alloc, shelf, name);
+    same(rt, failed, Err(ShelfFault::Failed));
+    same(rt, shelf.faults(name), 2);
+
+    // Only the first source fails.
+    let read = fetch_and_read(alloc, shelf, name);
+    same(rt, read, Ok(Some(*b"bc-")));
+    same(rt, shelf.faults(name), 2);
+    same(rt, shelf.faults(other), 0);
 }
 
 #[test]

@@ -1,6 +1,7 @@
 //! Crashes of the run after each call of its disk, and crashes while what they left is opened.
 
 use crate::runs::{Ran, bounds, calls_of_making, forty_steps};
+use crate::same::same_in;
 use crate::stores::{check_store, files_of};
 use edge_memory::{Choice, MemDisk};
 use std::alloc::Global;
@@ -23,10 +24,9 @@ fn check_crashes(
     let mut more = 0u64;
     'choices: for (name, choice) in &CHOICES {
         let row = row_text(alloc, "a crash after so many calls,", calls, *name)?;
-        let left = crashed(alloc, &ran.disk, calls, choice)?;
-        let found = check_store(rt, &row, ran, left)?;
+        let found = check_store(rt, &row, ran, crashed(alloc, &ran.disk, calls, choice)?)?;
         if found != Found::Steps(least) {
-            assert_eq!(rt; found, Found::Steps(most), "{row}");
+            same_in(rt, row.as_str(), found, Found::Steps(most));
             more = more.saturating_add(1);
         }
     }
@@ -36,9 +36,13 @@ fn check_crashes(
 #[test]
 fn a_crash_after_each_call_leaves_a_front_of_the_steps(rt: HostRuntime) -> Result<(), Fail> {
     let ran = forty_steps(rt.alloc())?;
+    check_each_crash(&rt, &ran)
+}
+
+fn check_each_crash(rt: &(impl Abort + Alloc<A = Global>), ran: &Ran) -> Result<(), Fail> {
     let mut more = 0u64;
     'calls: for calls in calls_of_making(&ran.marks)..=ran.disk.calls() {
-        more = more.saturating_add(check_crashes(&rt, &ran, calls)?);
+        more = more.saturating_add(check_crashes(rt, ran, calls)?);
     }
 
     // Each of ten flushes has a crash that leaves its record before it has ended.
@@ -73,7 +77,7 @@ fn check_again(
     'choices: for (name, choice) in &AGAIN {
         let row = row_text(alloc, outer, calls, *name)?;
         let found = check_store(rt, &row, ran, crashed(alloc, opened, calls, choice)?)?;
-        assert_eq!(rt; found, want, "{row}");
+        same_in(rt, row.as_str(), found, want);
     }
     Ok(())
 }
@@ -89,11 +93,22 @@ fn check_opening(
     let alloc = rt.alloc();
     let (seen, opened) = reopen(alloc, copy_of(alloc, left)?, TinyRules);
     let want = seen?.found;
-    if !is_changed(alloc, left, &opened)? {
+    check_opened(rt, row, ran, left, &opened, want)
+}
+
+fn check_opened(
+    rt: &(impl Abort + Alloc<A = Global>),
+    row: &str,
+    ran: &Ran,
+    left: &MemDisk,
+    opened: &MemDisk,
+    want: Found,
+) -> Result<bool, Fail> {
+    if !is_changed(rt.alloc(), left, opened)? {
         return Ok(false);
     }
     'calls: for calls in 0..=opened.calls() {
-        check_again(rt, row, ran, &opened, calls, want)?;
+        check_again(rt, row, ran, opened, calls, want)?;
     }
     Ok(true)
 }
@@ -108,8 +123,7 @@ fn check_openings(
     let mut changed = 0u64;
     'choices: for (name, choice) in &CHOICES {
         let row = row_text(alloc, "a crash after so many calls,", calls, *name)?;
-        let left = crashed(alloc, &ran.disk, calls, choice)?;
-        if check_opening(rt, &row, ran, &left)? {
+        if check_opening(rt, &row, ran, &crashed(alloc, &ran.disk, calls, choice)?)? {
             changed = changed.saturating_add(1);
         }
     }
@@ -119,9 +133,13 @@ fn check_openings(
 #[test]
 fn a_crash_while_a_store_is_opened_changes_no_step(rt: HostRuntime) -> Result<(), Fail> {
     let ran = forty_steps(rt.alloc())?;
+    check_each_opening(&rt, &ran)
+}
+
+fn check_each_opening(rt: &(impl Abort + Alloc<A = Global>), ran: &Ran) -> Result<(), Fail> {
     let mut changed = 0u64;
     'calls: for calls in calls_of_making(&ran.marks)..=ran.disk.calls() {
-        changed = changed.saturating_add(check_openings(&rt, &ran, calls)?);
+        changed = changed.saturating_add(check_openings(rt, ran, calls)?);
     }
 
     // Each of ten flushes has a crash that leaves bytes behind a closed gate, which opening cuts.

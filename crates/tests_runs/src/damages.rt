@@ -1,6 +1,7 @@
 //! The files of the run, opened after each byte of a header, a gate or a length was changed, and cut within each of these.
 
 use crate::runs::{Ran, forty_steps, no_steps};
+use crate::same::{holds_in, same_in};
 use crate::stores::{Files, check_store, disk_with, files_of};
 use edge_memory::MemDisk;
 use std::alloc::Global;
@@ -86,11 +87,17 @@ fn check_places(
 
 #[test]
 fn each_byte_of_a_frame_is_changed(rt: HostRuntime) -> Result<(), Fail> {
-    let alloc = rt.alloc();
-    let ran = forty_steps(alloc)?;
-    let files = files_of(alloc, &ran.disk)?;
-    let places = frames(alloc, &files.generation)?;
-    let tally = check_places(&rt, &ran, &files, (Changed::Generation, 40), &places)?;
+    let ran = forty_steps(rt.alloc())?;
+    check_frames(&rt, &ran, &files_of(rt.alloc(), &ran.disk)?)
+}
+
+fn check_frames(
+    rt: &(impl Abort + Alloc<A = Global>),
+    ran: &Ran,
+    files: &Files,
+) -> Result<(), Fail> {
+    let places = frames(rt.alloc(), &files.generation)?;
+    let tally = check_places(rt, ran, files, (Changed::Generation, 40), &places)?;
 
     // Each of ten gates is closed by four of the bytes.
     assert!(rt; tally.fewer >= 40);
@@ -101,11 +108,17 @@ fn each_byte_of_a_frame_is_changed(rt: HostRuntime) -> Result<(), Fail> {
 
 #[test]
 fn each_byte_of_the_frames_of_the_root_is_changed(rt: HostRuntime) -> Result<(), Fail> {
-    let alloc = rt.alloc();
-    let ran = no_steps(alloc)?;
-    let files = files_of(alloc, &ran.disk)?;
-    let places = frames(alloc, &files.root)?;
-    let tally = check_places(&rt, &ran, &files, (Changed::Root, 0), &places)?;
+    let ran = no_steps(rt.alloc())?;
+    check_root_frames(&rt, &ran, &files_of(rt.alloc(), &ran.disk)?)
+}
+
+fn check_root_frames(
+    rt: &(impl Abort + Alloc<A = Global>),
+    ran: &Ran,
+    files: &Files,
+) -> Result<(), Fail> {
+    let places = frames(rt.alloc(), &files.root)?;
+    let tally = check_places(rt, ran, files, (Changed::Root, 0), &places)?;
     assert!(rt; tally.damaged > 0);
     assert!(rt; tally.all > 0);
     Ok(())
@@ -113,14 +126,17 @@ fn each_byte_of_the_frames_of_the_root_is_changed(rt: HostRuntime) -> Result<(),
 
 #[test]
 fn a_generation_is_cut_within_each_frame(rt: HostRuntime) -> Result<(), Fail> {
+    let ran = forty_steps(rt.alloc())?;
+    check_cuts(&rt, &ran, &files_of(rt.alloc(), &ran.disk)?)
+}
+
+fn check_cuts(rt: &(impl Abort + Alloc<A = Global>), ran: &Ran, files: &Files) -> Result<(), Fail> {
     let alloc = rt.alloc();
-    let ran = forty_steps(alloc)?;
-    let files = files_of(alloc, &ran.disk)?;
     'places: for place in &frames(alloc, &files.generation)? {
         let row = row_text(alloc, "the generation cut to", *place as u64, "bytes")?;
         let disk = disk_with(alloc, &files.root, front(&files.generation, *place))?;
-        let found = check_store(&rt, &row, &ran, disk)?;
-        assert!(rt; matches!(found, Found::Damaged { .. }), "{row}");
+        let found = check_store(rt, &row, ran, disk)?;
+        holds_in(rt, row.as_str(), matches!(found, Found::Damaged { .. }));
     }
     Ok(())
 }
@@ -128,38 +144,45 @@ fn a_generation_is_cut_within_each_frame(rt: HostRuntime) -> Result<(), Fail> {
 // A root without bytes is none.
 #[test]
 fn a_root_is_cut(rt: HostRuntime) -> Result<(), Fail> {
+    let ran = no_steps(rt.alloc())?;
+    check_root_cuts(&rt, &ran, &files_of(rt.alloc(), &ran.disk)?)
+}
+
+fn check_root_cuts(
+    rt: &(impl Abort + Alloc<A = Global>),
+    ran: &Ran,
+    files: &Files,
+) -> Result<(), Fail> {
     let alloc = rt.alloc();
-    let ran = no_steps(alloc)?;
-    let files = files_of(alloc, &ran.disk)?;
     'lengths: for len in 1..files.root.len() {
         let row = row_text(alloc, "the root cut to", len as u64, "bytes")?;
         let disk = disk_with(alloc, front(&files.root, len), &files.generation)?;
-        let found = check_store(&rt, &row, &ran, disk)?;
+        let found = check_store(rt, &row, ran, disk)?;
         let at = if len < 16 { 0 } else { 16 };
-        assert_eq!(rt; found, Found::Damaged { file: ROOT, at }, "{row}");
+        same_in(rt, row.as_str(), found, Found::Damaged { file: ROOT, at });
     }
     Ok(())
 }
 
 #[test]
 fn no_kind_of_step_is_0(rt: HostRuntime) -> Result<(), Fail> {
+    let ran = forty_steps(rt.alloc())?;
+    check_kinds(&rt, &ran, &files_of(rt.alloc(), &ran.disk)?)
+}
+
+fn check_kinds(
+    rt: &(impl Abort + Alloc<A = Global>),
+    ran: &Ran,
+    files: &Files,
+) -> Result<(), Fail> {
     let alloc = rt.alloc();
-    let ran = forty_steps(alloc)?;
-    let files = files_of(alloc, &ran.disk)?;
     'places: for place in &first_bytes(alloc, &files.generation, &ran.stored)? {
         let at = *place as u64;
         let row = row_text(alloc, "no kind in byte", at, "0")?;
-        let changed = changed(alloc, &files.generation, *place, 0)?;
-        let disk = disk_with(alloc, &files.root, &changed)?;
-        let found = check_store(&rt, &row, &ran, disk)?;
-        assert_eq!(rt;
-            found,
-            Found::Damaged {
-                file: GENERATION,
-                at
-            },
-            "{row}"
-        );
+        let disk = changed_store(alloc, files, Changed::Generation, *place, 0)?;
+        let found = check_store(rt, &row, ran, disk)?;
+        let file = GENERATION;
+        same_in(rt, row.as_str(), found, Found::Damaged { file, at });
     }
     Ok(())
 }

@@ -2,7 +2,7 @@
 
 use crate::forty::Mark;
 use crate::runs::{Ran, calls_of_making, failed_run, forty_steps};
-use crate::same::same;
+use crate::same::{holds_in, same};
 use crate::stores::check_store;
 use edge_memory::MemDisk;
 use std::alloc::Global;
@@ -21,8 +21,8 @@ fn check_left(
     let Found::Steps(steps) = check_store(rt, row, ran, left)? else {
         return Err(Fail::from("damage that no crash leaves"));
     };
-    assert!(rt; mark.durable <= steps, "{row}");
-    assert!(rt; steps <= mark.committed, "{row}");
+    holds_in(rt, row, mark.durable <= steps);
+    holds_in(rt, row, steps <= mark.committed);
     Ok(())
 }
 
@@ -45,17 +45,29 @@ fn check_crashes(
 
 #[test]
 fn each_call_fails_in_its_turn(rt: HostRuntime) -> Result<(), Fail> {
-    let alloc = rt.alloc();
-    let ran = forty_steps(alloc)?;
+    let ran = forty_steps(rt.alloc())?;
+    check_each_call(&rt, &ran)
+}
+
+fn check_each_call(rt: &(impl Abort + Alloc<A = Global>), ran: &Ran) -> Result<(), Fail> {
     'calls: for before in calls_of_making(&ran.marks)..ran.disk.calls() {
         let call = before.saturating_add(1);
-        let (mark, disk) = failed_run(alloc, call)?;
-        assert!(rt; mark.failed, "call {call}");
-
-        // The book makes no further call.
-        same(&rt, disk.calls(), call);
-        check_crashes(&rt, &ran, &mark, &disk, before)?;
-        check_crashes(&rt, &ran, &mark, &disk, call)?;
+        let (mark, disk) = failed_run(rt.alloc(), call)?;
+        check_failed(rt, ran, &mark, &disk, call)?;
     }
     Ok(())
+}
+
+// The book makes no further call behind the one that failed.
+fn check_failed(
+    rt: &(impl Abort + Alloc<A = Global>),
+    ran: &Ran,
+    mark: &Mark,
+    disk: &MemDisk,
+    call: u64,
+) -> Result<(), Fail> {
+    holds_in(rt, call, mark.failed);
+    same(rt, disk.calls(), call);
+    check_crashes(rt, ran, mark, disk, call.saturating_sub(1))?;
+    check_crashes(rt, ran, mark, disk, call)
 }

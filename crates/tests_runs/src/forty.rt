@@ -187,10 +187,21 @@ pub fn played<D: Disk + Counted + Drop, R: Rules, H: Shelf>(
     parts: &[Part],
 ) -> Result<(Vec<Mark>, D), Fail> {
     let mut book = created(alloc, disk, rules, bundle, 10_000)?;
-    let mut marks = Vec::new(alloc);
-    marks.push(mark_of(alloc, &book, false)?)?;
-    let end = play_all(alloc, &mut book, shelf, parts, &mut marks);
+    let marks = play_marked(alloc, &mut book, shelf, parts);
     let disk = book.into_disk();
-    end?;
-    Ok((marks, disk))
+    Ok((marks?, disk))
+}
+
+fn play_marked<D: Disk + Counted, R: Rules, H: Shelf>(
+    alloc: Global,
+    book: &mut Book<D, R>,
+    shelf: &mut H,
+    parts: &[Part],
+) -> Result<Vec<Mark>, Fail>
+    requires { book.old.broken ≡ false }
+{
+    let mut marks = Vec::new(alloc);
+    marks.push(mark_of(alloc, book, false)?)?;
+    play_all(alloc, book, shelf, parts, &mut marks)?;
+    Ok(marks)
 }

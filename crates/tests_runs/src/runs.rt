@@ -35,12 +35,16 @@ fn run(alloc: Global, disk: MemDisk, parts: &[Part]) -> Result<(Vec<Mark>, MemDi
 
 fn played_whole(alloc: Global, parts: &[Part]) -> Result<Ran, Fail> {
     let (marks, disk) = run(alloc, MemDisk::new(alloc), parts)?;
-    let stored = stored_in(alloc, &disk.file(alloc, GENERATION)?)?;
+    let stored = stored_on(alloc, &disk)?;
     Ok(Ran {
         marks,
         disk,
         stored,
     })
+}
+
+fn stored_on(alloc: Global, disk: &MemDisk) -> Result<Stored, Fail> {
+    stored_in(alloc, &disk.file(alloc, GENERATION)?)
 }
 
 /// The run of forty steps on a disk that doesn't fail.
@@ -95,8 +99,7 @@ pub fn state_behind(marks: &[Mark], steps: u64) -> Option<&[u8]> {
 
 #[test]
 fn forty_steps_are_of_ten_kinds(rt: HostRuntime) -> Result<(), Fail> {
-    let alloc = rt.alloc();
-    let ran = forty_steps(alloc)?;
+    let ran = forty_steps(rt.alloc())?;
     same(&rt, ran.stored.steps.len(), 40);
     same(&rt, ran.marks.len(), FORTY.len() + 1);
     assert!(rt; !ran.disk.starved());

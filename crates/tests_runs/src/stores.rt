@@ -2,6 +2,7 @@
 
 use crate::forty::Mark;
 use crate::runs::{Ran, state_behind};
+use crate::same::{holds_in, same_in};
 use edge_memory::MemDisk;
 use std::alloc::Global;
 use std::process::Abort;
@@ -37,7 +38,7 @@ fn check_state(rt: &impl Abort, row: &str, marks: &[Mark], seen: &Seen) {
         return;
     };
     if let Some(state) = state_behind(marks, steps) {
-        assert_eq!(rt; seen.state.bytes(), state, "{row}");
+        same_in(rt, row, seen.state.bytes(), state);
     }
 }
 
@@ -51,13 +52,21 @@ pub fn check_store(
 ) -> Result<Found, Fail> {
     let alloc = rt.alloc();
     let before = files_of(alloc, &disk)?;
-    let want = found_in(alloc, &before.root, &before.generation, &ran.stored)?;
     let (seen, disk) = reopen(alloc, disk, TinyRules);
     let seen = seen?;
-    assert_eq!(rt; seen.found, want, "{row}");
-    check_state(rt, row, &ran.marks, &seen);
-    let after = files_of(alloc, &disk)?;
-    assert!(rt; before.root.starts_with(&after.root), "{row}");
-    assert!(rt; before.generation.starts_with(&after.generation), "{row}");
+    check_cut(rt, row, &before, &files_of(alloc, &disk)?);
+    let want = found_in(alloc, &before.root, &before.generation, &ran.stored)?;
+    check_seen(rt, row, ran, &seen, want);
     Ok(want)
+}
+
+fn check_seen(rt: &impl Abort, row: &str, ran: &Ran, seen: &Seen, want: Found) {
+    same_in(rt, row, seen.found, want);
+    check_state(rt, row, &ran.marks, seen);
+}
+
+// The files are as they were, or a front of that.
+fn check_cut(rt: &impl Abort, row: &str, before: &Files, after: &Files) {
+    holds_in(rt, row, before.root.starts_with(&after.root));
+    holds_in(rt, row, before.generation.starts_with(&after.generation));
 }

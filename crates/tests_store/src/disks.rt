@@ -60,6 +60,16 @@ pub fn crashed(
     Ok(disk.image(alloc, after, choice)?)
 }
 
+/// What a crash after so many calls leaves of the file.
+pub fn file_after(
+    alloc: Global,
+    disk: &MemDisk,
+    after: u64,
+    choice: &Choice,
+) -> Result<Vec<u8>, Fail> {
+    Ok(crashed(alloc, disk, after, choice)?.file(alloc, FILE)?)
+}
+
 /// The file has these bytes now, and after each crash.
 pub fn check_durable(
     rt: &impl Abort,
@@ -69,12 +79,8 @@ pub fn check_durable(
 ) -> Result<(), Fail> {
     same(rt, disk.file(alloc, FILE)?.as_slice(), bytes);
     for choice in &CHOICES {
-        let crashed = crashed(alloc, disk, disk.calls(), choice)?;
-        assert_eq!(rt;
-            crashed.file(alloc, FILE)?.as_slice(),
-            bytes,
-            "after a crash"
-        );
+        let left = file_after(alloc, disk, disk.calls(), choice)?;
+        same(rt, left.as_slice(), bytes);
     }
     Ok(())
 }
@@ -97,6 +103,14 @@ pub fn only(alloc: Global, number: u64) -> Result<NumberList, Fail> {
         return Err(Fail::from("memory"));
     }
     Ok(list)
+}
+
+/// A new disk whose call with this number fails.
+pub fn failing(alloc: Global, number: u64) -> Result<MemDisk, Fail> {
+    let fail = only(alloc, number)?;
+    let mut disk = MemDisk::new(alloc);
+    disk.plan(fail, None);
+    Ok(disk)
 }
 
 /// Has the disk fail in every call after the first so many.

@@ -2,10 +2,10 @@ ghost use Rattle.std.specs.Prelude.{IfOk, OnOk};
 ghost use Rattle.tests_store.specs.Usable.{IsUsable};
 
 use crate::disks::{
-    CHOICES, FILE, KEPT, LONGEST, SHORTEST, check_durable, crashed, disk_with, filled, only,
-    stop_after,
+    CHOICES, FILE, KEPT, LONGEST, SHORTEST, check_durable, crashed, disk_with, failing, file_after,
+    filled, only, stop_after,
 };
-use crate::same::same;
+use crate::same::{holds_in, same, same_in};
 use crate::untold::{ShortRead, UntoldDisk};
 use base_types::BlobList;
 use disk_journal::{AppendFault, Journal, JournalFault};
@@ -157,14 +157,8 @@ fn check_files(
     crashes: &[Crash],
 ) -> Result<(), Fail> {
     for crash in crashes {
-        let crashed = crashed(alloc, disk, crash.after, &crash.choice)?;
-        assert_eq!(rt;
-            crashed.file(alloc, FILE)?.as_slice(),
-            crash.file,
-            "after {} calls, {:?}",
-            crash.after,
-            crash.choice
-        );
+        let left = file_after(alloc, disk, crash.after, &crash.choice)?;
+        same_in(rt, crash.after, left.as_slice(), crash.file);
     }
     assert!(rt; !disk.starved());
     Ok(())
@@ -269,30 +263,27 @@ fn disk_with_gate(alloc: Global, byte: u8) -> Result<MemDisk, Fail> {
 fn a_gate_counts_where_it_is_open(rt: HostRuntime) -> Result<(), Fail> {
     let alloc = rt.alloc();
     for gate in &GATES {
-        let mut disk = disk_with_gate(alloc, gate.byte)?;
-        same(&rt, disk.file(alloc, FILE)?.len(), APPENDED.len());
-        same(&rt, disk.file(alloc, FILE)?.get(GATE), Some(&gate.byte));
-        same(
-            &rt,
-            reopened(alloc, &mut disk)?.as_slice(),
-            gate.bodies.as_bytes(),
-        );
-        check_durable(&rt, alloc, &disk, gate.file)?;
-        assert!(rt; !disk.starved());
+        check_gate(&rt, alloc, &mut disk_with_gate(alloc, gate.byte)?, gate)?;
     }
     Ok(())
+}
+
+fn check_gate(rt: &impl Abort, alloc: Global, disk: &mut MemDisk, gate: &Gate) -> Result<(), Fail> {
+    let file = disk.file(alloc, FILE)?;
+    same(rt, file.len(), APPENDED.len());
+    same(rt, file.get(GATE), Some(&gate.byte));
+    let bodies = reopened(alloc, disk)?;
+    same(rt, bodies.as_slice(), gate.bodies.as_bytes());
+    assert!(rt; !disk.starved());
+    check_durable(rt, alloc, disk, gate.file)
 }
 
 // Crashes after each call that the disk made, and opens the journal.
 fn check_crashes(rt: &impl Abort, alloc: Global, disk: &MemDisk, bodies: &str) -> Result<(), Fail> {
     for after in 0..=disk.calls() {
         for choice in &CHOICES {
-            let mut crashed = crashed(alloc, disk, after, choice)?;
-            assert_eq!(rt;
-                reopened(alloc, &mut crashed)?.as_slice(),
-                bodies.as_bytes(),
-                "a crash after {after} calls"
-            );
+            let found = reopened(alloc, &mut crashed(alloc, disk, after, choice)?)?;
+            same_in(rt, after, found.as_slice(), bodies.as_bytes());
         }
     }
     Ok(())
@@ -302,11 +293,26 @@ fn check_crashes(rt: &impl Abort, alloc: Global, disk: &MemDisk, bodies: &str) -
 fn a_crash_while_it_opens_changes_no_body(rt: HostRuntime) -> Result<(), Fail> {
     let alloc = rt.alloc();
     for gate in &GATES {
-        let mut disk = disk_with_gate(alloc, gate.byte)?;
-        reopened(alloc, &mut disk)?;
-        check_crashes(&rt, alloc, &disk, gate.bodies)?;
+        check_opening(
+            &rt,
+            alloc,
+            &mut disk_with_gate(alloc, gate.byte)?,
+            gate.bodies,
+        )?;
     }
     Ok(())
+}
+
+// Opens the journal, crashes after each call that this made, and opens it again.
+fn check_opening(
+    rt: &impl Abort,
+    alloc: Global,
+    disk: &mut MemDisk,
+    bodies: &str,
+) -> Result<(), Fail> {
+    let found = reopened(alloc, disk)?;
+    same(rt, found.as_slice(), bodies.as_bytes());
+    check_crashes(rt, alloc, disk, bodies)
 }
 
 // A file, and the bodies in it or where it is damaged.
@@ -411,22 +417,13 @@ const CASES: [Case; 17] = [
     },
 ];
 
-fn check_case(rt: &impl Abort, alloc: Global, case: &Case) -> Result<(), Fail> {
-    let mut disk = disk_with(alloc, case.file)?;
-    same(rt, damage(alloc, &mut disk)?, case.damaged);
-    if case.damaged.is_some() {
-        assert_eq!(rt;
-            disk.file(alloc, FILE)?.as_slice(),
-            case.file,
-            "nothing is cut"
-        );
+// Nothing is cut of a file with damage.
+fn check_case(rt: &impl Abort, alloc: Global, disk: &mut MemDisk, case: &Case) -> Result<(), Fail> {
+    same(rt, damage(alloc, disk)?, case.damaged);
+    if case.damaged.is_none() {
+        check_opening(rt, alloc, disk, case.bodies)?;
     } else {
-        same(
-            rt,
-            reopened(alloc, &mut disk)?.as_slice(),
-            case.bodies.as_bytes(),
-        );
-        check_crashes(rt, alloc, &disk, case.bodies)?;
+        same(rt, disk.file(alloc, FILE)?.as_slice(), case.file);
     }
     assert!(rt; !disk.starved());
     Ok(())
@@ -434,8 +431,9 @@ fn check_case(rt: &impl Abort, alloc: Global, case: &Case) -> Result<(), Fail> {
 
 #[test]
 fn damage_is_told_where_it_is(rt: HostRuntime) -> Result<(), Fail> {
+    let alloc = rt.alloc();
     for case in &CASES {
-        check_case(&rt, rt.alloc(), case)?;
+        check_case(&rt, alloc, &mut disk_with(alloc, case.file)?, case)?;
     }
     Ok(())
 }
@@ -445,79 +443,116 @@ fn each_byte_of_the_header_counts(rt: HostRuntime) -> Result<(), Fail> {
     let alloc = rt.alloc();
     for i in 0..16usize {
         let mut bytes = CREATED.to_vec(alloc)?;
-        if i < bytes.len() {
-            bytes[i] ^= 1;
+        if let Some(byte) = bytes.get_mut(i) {
+            *byte ^= 1;
         }
-        let mut disk = disk_with(alloc, &bytes)?;
-        assert_eq!(rt; damage(alloc, &mut disk)?, Some(0), "with another byte {i}");
+        let found = damage(alloc, &mut disk_with(alloc, &bytes)?)?;
+        same_in(&rt, i, found, Some(0));
     }
     Ok(())
 }
 
-// Creates a journal on a disk on which this call is to fail, one of an append's, and appends `ab` twice.
-fn fail_in_append(rt: &impl Abort, alloc: Global, number: u64) -> Result<MemDisk, Fail> {
-    let mut disk = MemDisk::new(alloc);
-    let fail = only(alloc, number)?;
-    disk.plan(fail, None);
-    let mut journal = create(alloc, &mut disk)?;
-    same(
-        rt,
-        append(alloc, &mut disk, &mut journal, b"ab")?,
-        Err(AppendFault::Disk),
-    );
+// An append on a disk whose call with this number fails, and another. The second makes no call.
+fn check_broken(
+    rt: &impl Abort,
+    alloc: Global,
+    disk: &mut MemDisk,
+    journal: &mut Journal,
+    number: u64,
+) -> Result<(), Fail>
+    requires { IsUsable journal.old disk.old }
+{
+    let failed = append(alloc, disk, journal, b"ab")?;
+    same(rt, failed, Err(AppendFault::Disk));
     same(rt, disk.calls(), number);
-    same(
-        rt,
-        append(alloc, &mut disk, &mut journal, b"ab")?,
-        Err(AppendFault::Broken),
-    );
-    assert_eq!(rt; disk.calls(), number, "a broken journal makes no call");
-    Ok(disk)
+    let refused = append(alloc, disk, journal, b"ab")?;
+    same(rt, refused, Err(AppendFault::Broken));
+    same(rt, disk.calls(), number);
+    Ok(())
+}
+
+// Creates a journal on such a disk, where this is a call of the append.
+fn append_twice(
+    rt: &impl Abort,
+    alloc: Global,
+    disk: &mut MemDisk,
+    number: u64,
+) -> Result<(), Fail> {
+    let mut journal = create(alloc, disk)?;
+    check_broken(rt, alloc, disk, &mut journal, number)
 }
 
 fn is_old_or_new(bodies: &[u8]) -> bool {
     bodies == b"z,".as_slice() || bodies == b"z,ab,".as_slice()
 }
 
-#[test]
-fn a_failed_append_breaks_the_journal(rt: HostRuntime) -> Result<(), Fail> {
-    let alloc = rt.alloc();
-    for number in 4..8u64 {
-        let mut disk = fail_in_append(&rt, alloc, number)?;
-        for choice in &CHOICES {
-            let mut crashed = crashed(alloc, &disk, number, choice)?;
-            assert!(rt; is_old_or_new(&reopened(alloc, &mut crashed)?));
-        }
-        assert!(rt; is_old_or_new(&reopened(alloc, &mut disk)?));
+fn check_failed_append(
+    rt: &impl Abort,
+    alloc: Global,
+    disk: &mut MemDisk,
+    number: u64,
+) -> Result<(), Fail> {
+    append_twice(rt, alloc, disk, number)?;
+    for choice in &CHOICES {
+        let bodies = reopened(alloc, &mut crashed(alloc, disk, number, choice)?)?;
+        holds_in(rt, number, is_old_or_new(&bodies));
     }
+    holds_in(rt, number, is_old_or_new(&reopened(alloc, disk)?));
     Ok(())
 }
 
 #[test]
-fn a_failed_create_or_reopen_answers_disk(rt: HostRuntime) -> Result<(), Fail> {
+fn a_failed_append_breaks_the_journal(rt: HostRuntime) -> Result<(), Fail> {
+    let alloc = rt.alloc();
+    for number in 4..8u64 {
+        check_failed_append(&rt, alloc, &mut failing(alloc, number)?, number)?;
+    }
+    Ok(())
+}
+
+fn is_disk<T: Drop>(answer: Result<T, JournalFault>) -> bool {
+    matches!(answer, Err(JournalFault::Disk))
+}
+
+#[test]
+fn a_failed_create_answers_disk(rt: HostRuntime) -> Result<(), Fail> {
     let alloc = rt.alloc();
     for number in 1..4u64 {
-        let mut disk = MemDisk::new(alloc);
-        let fail = only(alloc, number)?;
-        disk.plan(fail, None);
-        let created = create(alloc, &mut disk);
-        assert!(rt; matches!(created, Err(JournalFault::Disk)));
+        let mut disk = failing(alloc, number)?;
+        assert!(rt; is_disk(create(alloc, &mut disk)));
         same(&rt, disk.calls(), number);
     }
+    Ok(())
+}
+
+// How many calls it takes to open a journal with two records.
+fn calls_of_opening(alloc: Global) -> Result<u64, Fail> {
     let mut disk = disk_with(alloc, APPENDED)?;
     reopened(alloc, &mut disk)?;
-    for number in 1..=disk.calls() {
-        let mut failing = disk_with(alloc, APPENDED)?;
+    Ok(disk.calls())
+}
+
+fn check_failed_opening(
+    rt: &impl Abort,
+    alloc: Global,
+    disk: &mut MemDisk,
+    number: u64,
+) -> Result<(), Fail> {
+    assert!(rt; is_disk(Journal::reopen(alloc, disk, FILE, 0)));
+    same(rt, disk.calls(), number);
+    let bodies = reopened(alloc, disk)?;
+    same(rt, bodies.as_slice(), b"z,ab,".as_slice());
+    Ok(())
+}
+
+#[test]
+fn a_failed_reopen_answers_disk(rt: HostRuntime) -> Result<(), Fail> {
+    let alloc = rt.alloc();
+    for number in 1..=calls_of_opening(alloc)? {
         let fail = only(alloc, number)?;
-        failing.plan(fail, None);
-        let opened = Journal::reopen(alloc, &mut failing, FILE, 0);
-        assert!(rt; matches!(opened, Err(JournalFault::Disk)));
-        same(&rt, failing.calls(), number);
-        same(
-            &rt,
-            reopened(alloc, &mut failing)?.as_slice(),
-            b"z,ab,".as_slice(),
-        );
+        let mut disk = disk_with(alloc, APPENDED)?;
+        disk.plan(fail, None);
+        check_failed_opening(&rt, alloc, &mut disk, number)?;
     }
     Ok(())
 }
@@ -586,16 +621,21 @@ fn check_run(
 #[test]
 fn crashes_keep_what_was_acknowledged(rt: HostRuntime) -> Result<(), Fail> {
     let alloc = rt.alloc();
-    let mut whole = MemDisk::new(alloc);
-    same(&rt, run(alloc, &mut whole)?, 4);
-    assert!(rt; !whole.starved());
-    for stop in 0..=whole.calls() {
+    for stop in 0..=calls_of_run(&rt, alloc)? {
         let mut disk = MemDisk::new(alloc);
         stop_after(alloc, &mut disk, stop);
         let acknowledged = run(alloc, &mut disk)?;
         check_run(&rt, alloc, &disk, stop, acknowledged)?;
     }
     Ok(())
+}
+
+// How many calls the run takes on a disk that doesn't fail.
+fn calls_of_run(rt: &impl Abort, alloc: Global) -> Result<u64, Fail> {
+    let mut disk = MemDisk::new(alloc);
+    same(rt, run(alloc, &mut disk)?, 4);
+    assert!(rt; !disk.starved());
+    Ok(disk.calls())
 }
 
 // A read of `reopen` over APPENDED that falls short, where the file is damaged then, and the calls that were made: none
@@ -691,14 +731,22 @@ fn what_is_read_short_is_damaged(rt: HostRuntime) -> Result<(), Fail> {
     for row in &SHORTS {
         let mut disk = UntoldDisk::new(alloc, APPENDED);
         disk.read_short(row.read);
-        let damaged = match Journal::reopen(alloc, &mut disk, FILE, 0) {
-            Err(JournalFault::Damaged { at }) => Some(at),
-            _ => None,
-        };
-        assert_eq!(rt; damaged, Some(row.damaged), "{:?}", row.read);
-        assert_eq!(rt; disk.trace(), row.trace.as_bytes(), "{:?}", row.read);
+        same_in(
+            &rt,
+            row.trace,
+            damaged_at(alloc, &mut disk),
+            Some(row.damaged),
+        );
+        same_in(&rt, row.damaged, disk.trace(), row.trace.as_bytes());
     }
     Ok(())
+}
+
+fn damaged_at(alloc: Global, disk: &mut UntoldDisk) -> Option<u64> {
+    match Journal::reopen(alloc, disk, FILE, 0) {
+        Err(JournalFault::Damaged { at }) => Some(at),
+        _ => None,
+    }
 }
 
 #[test]
@@ -706,11 +754,7 @@ fn a_journal_opens_on_a_disk_that_tells_nothing(rt: HostRuntime) -> Result<(), F
     let alloc = rt.alloc();
     let mut disk = UntoldDisk::new(alloc, APPENDED);
     let (mut journal, bodies) = Journal::reopen(alloc, &mut disk, FILE, 0)?;
-    same(
-        &rt,
-        list_text(alloc, &bodies)?.as_slice(),
-        b"z,ab,".as_slice(),
-    );
+    check_bodies(&rt, alloc, &bodies)?;
     same(&rt, journal.len(), APPENDED.len() as u64);
     same(&rt, disk.trace(), b"slrrrrrrcs".as_slice());
     journal.reserve(2)?;
@@ -719,6 +763,12 @@ fn a_journal_opens_on_a_disk_that_tells_nothing(rt: HostRuntime) -> Result<(), F
     }
     same(&rt, journal.append(&mut disk, b"xy"), Ok(()));
     same(&rt, disk.trace(), b"slrrrrrrcswsws".as_slice());
+    Ok(())
+}
+
+fn check_bodies(rt: &impl Abort, alloc: Global, bodies: &BlobList) -> Result<(), Fail> {
+    let text = list_text(alloc, bodies)?;
+    same(rt, text.as_slice(), b"z,ab,".as_slice());
     Ok(())
 }
 
@@ -766,21 +816,18 @@ fn a_failed_sync_is_not_tried_again(rt: HostRuntime) -> Result<(), Fail> {
         let mut disk = UntoldDisk::new(alloc, b"");
         disk.fail_sync(row.number);
         create_and_append_untold(&rt, alloc, &mut disk)?;
-        assert_eq!(rt; disk.trace(), row.trace.as_bytes(), "sync {}", row.number);
+        same_in(&rt, row.number, disk.trace(), row.trace.as_bytes());
     }
-    let mut disk = UntoldDisk::new(alloc, APPENDED);
-    disk.fail_sync(1);
-    let opened = Journal::reopen(alloc, &mut disk, FILE, 0);
-    assert!(rt; matches!(opened, Err(JournalFault::Disk)));
-    assert_eq!(rt;
-        disk.trace(),
-        b"s".as_slice(),
-        "what wasn't synced isn't read"
-    );
-    let mut disk = UntoldDisk::new(alloc, APPENDED);
-    disk.fail_sync(2);
-    let opened = Journal::reopen(alloc, &mut disk, FILE, 0);
-    assert!(rt; matches!(opened, Err(JournalFault::Disk)));
-    same(&rt, disk.trace(), b"slrrrrrrcs".as_slice());
     Ok(())
+}
+
+// What wasn't synced isn't read.
+#[test]
+fn a_failed_sync_ends_an_opening(rt: HostRuntime) {
+    for (number, trace) in [(1, "s"), (2, "slrrrrrrcs")] {
+        let mut disk = UntoldDisk::new(rt.alloc(), APPENDED);
+        disk.fail_sync(number);
+        assert!(rt; is_disk(Journal::reopen(rt.alloc(), &mut disk, FILE, 0)));
+        same(&rt, disk.trace(), trace.as_bytes());
+    }
 }

@@ -1,8 +1,8 @@
 ghost use Rattle.std.specs.Prelude.{◌≡◌, IfOk};
 ghost use Rattle.out_files.specs.Output.{lines_text};
 
-use crate::disks::{CHOICES, FILE, check_durable, crashed, disk_with, only};
-use crate::same::same;
+use crate::disks::{CHOICES, FILE, crashed, disk_with, file_after, only};
+use crate::same::{holds_in, same};
 use crate::untold::UntoldDisk;
 use base_types::{Blob, LineList};
 use edge_memory::MemDisk;
@@ -148,15 +148,29 @@ fn check_crashes(
         .unwrap_or(b"");
     for after in 0..=disk.calls() {
         for choice in &CHOICES {
-            let mut crashed = crashed(alloc, disk, after, choice)?;
-            assert!(rt;
-                crashed.file(alloc, FILE)?.starts_with(sealed),
-                "a crash after {after} calls"
-            );
-            check_completed(rt, alloc, &mut crashed, row, lines)?;
+            let left = file_after(alloc, disk, after, choice)?;
+            holds_in(rt, after, left.starts_with(sealed));
+            check_completed(
+                rt,
+                alloc,
+                &mut crashed(alloc, disk, after, choice)?,
+                row,
+                lines,
+            )?;
         }
     }
     Ok(())
+}
+
+fn check_row(
+    rt: &impl Abort,
+    alloc: Global,
+    disk: &mut MemDisk,
+    row: &Row,
+    lines: &LineList,
+) -> Result<(), Fail> {
+    check_completed(rt, alloc, disk, row, lines)?;
+    check_crashes(rt, alloc, disk, row, lines)
 }
 
 #[test]
@@ -165,8 +179,39 @@ fn a_file_is_completed(rt: HostRuntime) -> Result<(), Fail> {
     for row in &ROWS {
         let lines = lines_of(alloc, row)?;
         let mut disk = disk_with(alloc, row.file.as_bytes())?;
-        check_completed(&rt, alloc, &mut disk, row, &lines)?;
-        check_crashes(&rt, alloc, &disk, row, &lines)?;
+        check_row(&rt, alloc, &mut disk, row, &lines)?;
+    }
+    Ok(())
+}
+
+// How many calls it takes to complete the file.
+fn calls_of(alloc: Global, row: &Row, lines: &LineList) -> Result<u64, Fail> {
+    let mut disk = disk_with(alloc, row.file.as_bytes())?;
+    let _ = complete(alloc, &mut disk, row.sealed, lines)?;
+    Ok(disk.calls())
+}
+
+// Completes the file on a disk whose call with this number fails.
+fn check_failing(
+    rt: &impl Abort,
+    alloc: Global,
+    disk: &mut MemDisk,
+    row: &Row,
+    lines: &LineList,
+) -> Result<(), Fail> {
+    let failed = complete(alloc, disk, row.sealed, lines)?;
+    same(rt, failed, Err(OutFault::Disk));
+    check_crashes(rt, alloc, disk, row, lines)?;
+    check_completed(rt, alloc, disk, row, lines)
+}
+
+// Each call fails in its turn.
+fn check_calls(rt: &impl Abort, alloc: Global, row: &Row, lines: &LineList) -> Result<(), Fail> {
+    for number in 1..=calls_of(alloc, row, lines)? {
+        let fail = only(alloc, number)?;
+        let mut disk = disk_with(alloc, row.file.as_bytes())?;
+        disk.plan(fail, None);
+        check_failing(rt, alloc, &mut disk, row, lines)?;
     }
     Ok(())
 }
@@ -175,22 +220,7 @@ fn a_file_is_completed(rt: HostRuntime) -> Result<(), Fail> {
 fn each_call_may_fail(rt: HostRuntime) -> Result<(), Fail> {
     let alloc = rt.alloc();
     for row in &ROWS {
-        let lines = lines_of(alloc, row)?;
-        let mut whole = disk_with(alloc, row.file.as_bytes())?;
-        check_completed(&rt, alloc, &mut whole, row, &lines)?;
-        for number in 1..=whole.calls() {
-            let mut disk = disk_with(alloc, row.file.as_bytes())?;
-            let fail = only(alloc, number)?;
-            disk.plan(fail, None);
-            same(
-                &rt,
-                complete(alloc, &mut disk, row.sealed, &lines)?,
-                Err(OutFault::Disk),
-            );
-            same(&rt, disk.calls(), number);
-            check_crashes(&rt, alloc, &disk, row, &lines)?;
-            check_completed(&rt, alloc, &mut disk, row, &lines)?;
-        }
+        check_calls(&rt, alloc, row, &lines_of(alloc, row)?)?;
     }
     Ok(())
 }
@@ -201,14 +231,21 @@ fn a_short_file_stays(rt: HostRuntime) -> Result<(), Fail> {
     let mut lines = LineList::new(alloc);
     push(alloc, &mut lines, b"x")?;
     for sealed in 4..7u64 {
-        let mut disk = disk_with(alloc, b"abc")?;
-        same(
-            &rt,
-            complete(alloc, &mut disk, sealed, &lines)?,
-            Err(OutFault::Short { have: 3 }),
-        );
-        same(&rt, disk.file(alloc, FILE)?.as_slice(), b"abc".as_slice());
+        check_short(&rt, alloc, &mut disk_with(alloc, b"abc")?, sealed, &lines)?;
     }
+    Ok(())
+}
+
+fn check_short(
+    rt: &impl Abort,
+    alloc: Global,
+    disk: &mut MemDisk,
+    sealed: u64,
+    lines: &LineList,
+) -> Result<(), Fail> {
+    let refused = complete(alloc, disk, sealed, lines)?;
+    same(rt, refused, Err(OutFault::Short { have: 3 }));
+    same(rt, disk.file(alloc, FILE)?.as_slice(), b"abc".as_slice());
     Ok(())
 }
 
@@ -261,29 +298,55 @@ fn lines_like(alloc: Global, large: &Large) -> Result<LineList, Fail> {
     Ok(lines)
 }
 
-fn check_large(rt: &impl Abort, alloc: Global, large: &Large) -> Result<(), Fail> {
+// The file with all lines behind what was sealed of it.
+fn whole_text(alloc: Global, lines: &LineList) -> Result<Vec<u8>, Fail> {
+    let mut text = b"head\n".as_slice().to_vec(alloc)?;
+    text.extend_from_slice(&text_of(alloc, lines)?)?;
+    Ok(text)
+}
+
+fn check_large(
+    rt: &impl Abort,
+    alloc: Global,
+    disk: &mut MemDisk,
+    large: &Large,
+) -> Result<(), Fail> {
     let lines = lines_like(alloc, large)?;
-    let mut want = b"head\n".as_slice().to_vec(alloc)?;
-    want.extend_from_slice(&text_of(alloc, &lines)?)?;
-    let mut disk = disk_with(alloc, b"head\ntail")?;
-    let end = complete(alloc, &mut disk, 5, &lines)?;
+    let want = whole_text(alloc, &lines)?;
+    let end = complete(alloc, disk, 5, &lines)?;
     same(rt, end, Ok(want.len() as u64));
-    assert!(rt; disk.file(alloc, FILE)?.as_slice() == want.as_slice());
+    assert!(rt; disk.file(alloc, FILE)? == want);
     same(rt, disk.calls(), large.calls);
     assert!(rt; !disk.starved());
+    Ok(())
+}
+
+// A crash after any call leaves what is sealed.
+fn check_sealed(rt: &impl Abort, alloc: Global, disk: &MemDisk) -> Result<(), Fail> {
     for after in 0..=disk.calls() {
         for choice in &CHOICES {
-            let crashed = crashed(alloc, &disk, after, choice)?;
-            assert!(rt; crashed.file(alloc, FILE)?.starts_with(b"head\n"));
+            let left = file_after(alloc, disk, after, choice)?;
+            holds_in(rt, after, left.starts_with(b"head\n"));
         }
     }
     Ok(())
 }
 
+fn check_large_file(
+    rt: &impl Abort,
+    alloc: Global,
+    disk: &mut MemDisk,
+    large: &Large,
+) -> Result<(), Fail> {
+    check_large(rt, alloc, disk, large)?;
+    check_sealed(rt, alloc, disk)
+}
+
 #[test]
 fn long_texts_take_several_writes(rt: HostRuntime) -> Result<(), Fail> {
+    let alloc = rt.alloc();
     for large in &LARGES {
-        check_large(&rt, rt.alloc(), large)?;
+        check_large_file(&rt, alloc, &mut disk_with(alloc, b"head\ntail")?, large)?;
     }
     Ok(())
 }

@@ -64,22 +64,16 @@ fn head(alloc: Global, words: &[&str]) -> Result<Base, Fail> {
     };
     let steps = number(*steps)?;
     let latest = number(*latest)?;
-    empty(
-        alloc,
-        steps,
-        next,
-        latest,
-        number(*number_of_bundle)?,
-        *bundle,
-    )
+    let bundle_no = number(*number_of_bundle)?;
+    empty(alloc, steps, next, latest, bundle_no, *bundle)
 }
 
 fn put_queue(alloc: Global, base: &mut Base, name: &str, words: &[&str]) -> Result<(), Fail> {
+    let name = queue(name)?;
     let mut messages = MsgList::new(alloc);
     for word in words {
         push(&mut messages, message(alloc, *word)?)?;
     }
-    let name = queue(name)?;
     push(&mut base.queues, Queue { name, messages })
 }
 
@@ -90,9 +84,9 @@ fn put_hand(alloc: Global, base: &mut Base, words: &[&str]) -> Result<(), Fail> 
     let hand = Hand {
         bot: bot(*name)?,
         instance: instance(*no)?,
-        message: message(alloc, *held)?,
         tries: small(*tries)?,
         since: Moment(number(*since)?),
+        message: message(alloc, *held)?,
     };
     push(&mut base.hands, hand)
 }
@@ -112,11 +106,11 @@ fn put_cache(alloc: Global, base: &mut Base, words: &[&str]) -> Result<(), Fail>
     let [name, words @ ..] = words else {
         return Err(unreadable());
     };
+    let bot = bot(*name)?;
     let mut marks = MarkList::new(alloc);
     for word in words {
         push(&mut marks, mark(alloc, *word)?)?;
     }
-    let bot = bot(*name)?;
     push(&mut base.caches, BotCache { bot, marks })
 }
 
@@ -127,9 +121,9 @@ fn put_dump(alloc: Global, base: &mut Base, words: &[&str]) -> Result<(), Fail> 
     let dump = Dump {
         no: number(*no)?,
         bot: bot(*name)?,
+        moment: Moment(number(*moment)?),
         message: message(alloc, *kept)?,
         note: note(alloc)?,
-        moment: Moment(number(*moment)?),
     };
     push(&mut base.dumps, dump)
 }
@@ -138,16 +132,21 @@ fn put_output(alloc: Global, base: &mut Base, words: &[&str]) -> Result<(), Fail
     let [name, bytes, lines, words @ ..] = words else {
         return Err(unreadable());
     };
-    let mut out = Output {
+    let out = Output {
         bot: bot(*name)?,
         sealed_bytes: number(*bytes)?,
         sealed_lines: number(*lines)?,
-        lines: LineList::new(alloc),
+        lines: lines_in(alloc, words)?,
     };
-    for word in words {
-        push(&mut out.lines, blob(alloc, *word)?)?;
-    }
     push(&mut base.outs, out)
+}
+
+fn lines_in(alloc: Global, words: &[&str]) -> Result<LineList, Fail> {
+    let mut lines = LineList::new(alloc);
+    for word in words {
+        push(&mut lines, blob(alloc, *word)?)?;
+    }
+    Ok(lines)
 }
 
 fn put_feed(base: &mut Base, words: &[&str]) -> Result<(), Fail> {
@@ -188,12 +187,15 @@ fn put_entry(alloc: Global, base: &mut Base, words: &[&str]) -> Result<(), Fail>
 
 /// The state that a line of text stands for.
 pub fn read_state(alloc: Global, text: &str) -> Result<Base, Fail> {
-    let Some((first, entries)) = text.split_once(';') else {
-        return head(alloc, words(alloc, text)?.as_slice());
-    };
+    let (first, entries) = text.split_once(';').unwrap_or((text, ""));
     let mut base = head(alloc, words(alloc, first)?.as_slice())?;
-    for entry in entries.split(';') {
-        put_entry(alloc, &mut base, words(alloc, entry)?.as_slice())?;
-    }
+    put_entries(alloc, &mut base, entries)?;
     Ok(base)
+}
+
+fn put_entries(alloc: Global, base: &mut Base, entries: &str) -> Result<(), Fail> {
+    for entry in entries.split_terminator(';') {
+        put_entry(alloc, base, words(alloc, entry)?.as_slice())?;
+    }
+    Ok(())
 }

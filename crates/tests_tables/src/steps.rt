@@ -1,7 +1,7 @@
 //! Steps read from rows of tables.
 
 use crate::words::{blob, bot, instance, note, number, push, queue, unreadable, words};
-use base_types::{Blob, Moment, NoteList, QueueList, SendList};
+use base_types::{Blob, BotName, Moment, NoteList, QueueList, SendList};
 use std::alloc::Global;
 use std::test::Fail;
 use step_code::{Step, StepKind};
@@ -10,16 +10,24 @@ fn collect(alloc: Global, words: &[&str]) -> Result<StepKind, Fail> {
     let [name, from, upto, piece @ ..] = words else {
         return Err(unreadable());
     };
-    let piece = match piece {
-        [piece, ..] => blob(alloc, *piece)?,
-        [] => Blob::new(alloc, b"")?,
-    };
+    let bot = bot(*name)?;
+    let from = number(*from)?;
+    let upto = number(*upto)?;
+    let piece = blob_in(alloc, piece)?;
     Ok(StepKind::Collect {
-        bot: bot(*name)?,
-        from: number(*from)?,
-        upto: number(*upto)?,
+        bot,
+        from,
+        upto,
         piece,
     })
+}
+
+// The first word's bytes; none where there is no word.
+fn blob_in(alloc: Global, words: &[&str]) -> Result<Blob, Fail> {
+    match words {
+        [word, ..] => blob(alloc, *word),
+        [] => Ok(Blob::new(alloc, b"")?),
+    }
 }
 
 fn feed_end(words: &[&str]) -> Result<StepKind, Fail> {
@@ -40,6 +48,25 @@ fn take(words: &[&str]) -> Result<StepKind, Fail> {
         bot: bot(*name)?,
         instance: instance(*no)?,
         message: number(*message)?,
+    })
+}
+
+// Which message a bot's instance has in hand, and under which bundle. What owns memory stands behind it in a step, so that nothing is let
+// go where a word can't be read.
+#[derive(Clone, Copy)]
+struct Held {
+    bot: BotName,
+    instance: u8,
+    message: u64,
+    bundle: u64,
+}
+
+fn held_in(name: &str, no: &str, message: &str, bundle: &str) -> Result<Held, Fail> {
+    Ok(Held {
+        bot: bot(name)?,
+        instance: instance(no)?,
+        message: number(message)?,
+        bundle: number(bundle)?,
     })
 }
 
@@ -87,12 +114,13 @@ fn done(alloc: Global, words: &[&str]) -> Result<StepKind, Fail> {
     let [name, no, message, bundle, words @ ..] = words else {
         return Err(unreadable());
     };
+    let held = held_in(*name, *no, *message, *bundle)?;
     let gave = given(alloc, words)?;
     Ok(StepKind::Done {
-        bot: bot(*name)?,
-        instance: instance(*no)?,
-        message: number(*message)?,
-        bundle: number(*bundle)?,
+        bot: held.bot,
+        instance: held.instance,
+        message: held.message,
+        bundle: held.bundle,
         sends: gave.sends,
         dumps: gave.dumps,
         key: gave.key,
@@ -104,12 +132,14 @@ fn retry(alloc: Global, words: &[&str]) -> Result<StepKind, Fail> {
     let [name, no, message, bundle] = words else {
         return Err(unreadable());
     };
+    let held = held_in(*name, *no, *message, *bundle)?;
+    let note = note(alloc)?;
     Ok(StepKind::Retry {
-        bot: bot(*name)?,
-        instance: instance(*no)?,
-        message: number(*message)?,
-        bundle: number(*bundle)?,
-        note: note(alloc)?,
+        bot: held.bot,
+        instance: held.instance,
+        message: held.message,
+        bundle: held.bundle,
+        note,
     })
 }
 
@@ -131,23 +161,22 @@ fn fail(alloc: Global, words: &[&str]) -> Result<StepKind, Fail> {
     let [name, no, message, bundle, words @ ..] = words else {
         return Err(unreadable());
     };
+    let held = held_in(*name, *no, *message, *bundle)?;
+    let note = note(alloc)?;
     let (queues, halts) = way(alloc, words)?;
     Ok(StepKind::Fail {
-        bot: bot(*name)?,
-        instance: instance(*no)?,
-        message: number(*message)?,
-        bundle: number(*bundle)?,
-        note: note(alloc)?,
+        bot: held.bot,
+        instance: held.instance,
+        message: held.message,
+        bundle: held.bundle,
+        note,
         queues,
         halts,
     })
 }
 
 fn reload(alloc: Global, words: &[&str]) -> Result<StepKind, Fail> {
-    let bundle = match words {
-        [bundle, ..] => blob(alloc, *bundle)?,
-        [] => Blob::new(alloc, b"")?,
-    };
+    let bundle = blob_in(alloc, words)?;
     Ok(StepKind::Reload { bundle })
 }
 
@@ -188,8 +217,10 @@ fn what(alloc: Global, words: &[&str]) -> Result<StepKind, Fail> {
 
 /// The step that a row stands for, at this moment.
 pub fn read_step(alloc: Global, moment: u64, row: &str) -> Result<Step, Fail> {
+    let words = words(alloc, row)?;
+    let what = what(alloc, words.as_slice())?;
     Ok(Step {
         moment: Moment(moment),
-        what: what(alloc, words(alloc, row)?.as_slice())?,
+        what,
     })
 }
