@@ -1,5 +1,6 @@
-//! Tests of the program over a system in memory; of the top calls over a shelf of its own, whose feed comes in short reads and is longer
-//! than memory; of the drill's shelf; and of bytes, numbers and names. Sessions of commands are lines of `table_pipelines`.
+//! Tests of the program over a system in memory, also with a feed that comes in short reads and is longer than memory; of the order in
+//! which it makes files durable; of the drill's shelf; and of bytes, numbers and names. Sessions of commands are lines of
+//! `table_pipelines`.
 #![tactic(auto)]
 
 #[cfg(test)]
@@ -17,4 +18,6 @@ mod runs;
 #[cfg(test)]
 mod same;
 #[cfg(test)]
-mod system;
+mod synced;
+#[cfg(test)]
+mod world;

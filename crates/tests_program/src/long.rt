@@ -1,11 +1,11 @@
 // Feeds that come in short reads, and that are longer than memory.
-use crate::made::{Lines, MadeShelf};
-use crate::system::{CONVERT, NOW, numbers, words_of};
-use base_types::Text;
-use edge_memory::{MemClock, MemSink};
-use edge_traits::NoDisk;
-use pipeline_top::{run_tool, status_text};
+use crate::machine::Machine;
+use crate::made::Lines;
+use crate::world::World;
+use std::cell::RefCell;
+use std::process::Abort;
 use std::test::Fail;
+use system_run::run;
 
 const EVENT: &'static [u8] = b"{\"comment\":\"a\"";
 
@@ -13,7 +13,8 @@ struct Row {
     feed: &'static [Lines],
     // How many bytes a read gives.
     most: usize,
-    status: &'static str,
+    status: u8,
+    told: &'static str,
     // How many events are written.
     events: usize,
 }
@@ -30,7 +31,8 @@ const ROWS: [Row; 4] = [
             times: 40,
         }],
         most: 1,
-        status: "done",
+        status: 0,
+        told: "",
         events: 40,
     },
     Row {
@@ -55,7 +57,8 @@ const ROWS: [Row; 4] = [
             },
         ],
         most: 1,
-        status: "bad line 3",
+        status: 17,
+        told: "intelpipe: bad line 3\n",
         events: 2,
     },
     // 65 MiB, in lines of 1,024 bytes; each comes in a read of its own.
@@ -75,7 +78,8 @@ const ROWS: [Row; 4] = [
             },
         ],
         most: MOST,
-        status: "bad line 66561",
+        status: 17,
+        told: "intelpipe: bad line 66561\n",
         events: 66_560,
     },
     // A line that ends at offset 1,073,741,824 is converted; one behind it is no bad line.
@@ -95,42 +99,36 @@ const ROWS: [Row; 4] = [
             },
         ],
         most: MOST,
-        status: "long feed convert",
+        status: 13,
+        told: "intelpipe: long feed convert\n",
         events: 1024,
     },
 ];
 
+// Converts the feed, and looks at what is printed.
+fn check_printed(rt: &impl Abort, machine: &Machine, row: &Row) -> Result<(), Fail> {
+    assert_eq!(rt; run(machine), row.status, "{}", row.told);
+    let told = machine.told.try_borrow()?;
+    assert_eq!(rt; told.as_slice(), row.told.as_bytes());
+    let output = machine.output.try_borrow()?;
+    let event = b"{\"__type\":\"Event\",\"comment\":\"a\"}\n";
+    assert_eq!(rt;
+        output.len(),
+        row.events.saturating_mul(event.len()),
+        "{}",
+        row.told
+    );
+    assert!(rt; output.starts_with(event), "{}", row.told);
+    Ok(())
+}
+
 #[test]
 fn feeds_in_short_reads_and_longer_than_memory(rt: HostRuntime) -> Result<(), Fail> {
     let alloc = rt.alloc();
-    let words = words_of(alloc, &CONVERT)?;
-    for (i, row) in ROWS.iter().enumerate() {
-        let mut shelf = MadeShelf {
-            name: Text::new(alloc, b"feed.json")?,
-            feed: row.feed,
-            most: row.most,
-        };
-        let mut out = MemSink::new(alloc, numbers(alloc, &[])?);
-        let (status, _) = run_tool(
-            alloc,
-            words.as_slice(),
-            &mut shelf,
-            NoDisk::new(),
-            &mut out,
-            &MemClock::new(NOW),
-        );
-        assert_eq!(rt;
-            status_text(alloc, &status)?.as_str(),
-            row.status,
-            "row {i}"
-        );
-        let text = b"{\"__type\":\"Event\",\"comment\":\"a\"}\n";
-        assert_eq!(rt; out.bytes().len(), row.events * text.len(), "row {i}");
-        assert!(rt;
-            out.bytes()
-                .starts_with(&text[..text.len().min(out.bytes().len())]),
-            "row {i}"
-        );
+    for row in &ROWS {
+        let world = RefCell::new(World::new(alloc, row.feed)?);
+        let words = "intelpipe any convert --feed made.json";
+        check_printed(&rt, &Machine::new(alloc, words, &world, row.most), row)?;
     }
     Ok(())
 }

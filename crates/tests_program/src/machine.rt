@@ -1,44 +1,66 @@
-//! A system in memory.
-ghost use Rattle.std.specs.Prelude.{IsErr};
+//! A system over files in memory.
+ghost use Rattle.std.specs.Prelude.{◌≤◌, length};
 
+use crate::world::{Place, World, unsupported};
 use file_disk::TryLock;
 use std::alloc::{Allocator, Global};
-use std::cell::RefCell;
+use std::cell::{RefCell, RefMut};
 use std::env::FillError;
 use std::fmt::Display;
 use std::fs::{Metadata, OpenFile, OpenOptions};
-use std::io::{self, Cursor, Read, Seek, SeekFrom, Write};
+use std::io::{self, Read, Seek, SeekFrom, Write};
 use std::os::unix::fs::FileExt;
 use std::rt;
 use std::rt::{Env, Files};
 use std::time::Duration;
 
-/// A file in memory. Each of its reads gives three bytes at most.
+/// A file or a folder that was opened. Each of its reads in order gives a few bytes at most.
 #[derive(Drop)]
-pub struct Page {
-    bytes: Cursor<&'static [u8]>,
+pub struct Page<'w> {
+    world: &'w RefCell<World>,
+    place: Place,
+    at: u64,
+    most: usize,
 }
 
-impl Read for Page {
-    fn read(&mut self, buf: &mut [u8]) -> io::Result<usize> {
-        let few = buf.len().min(3);
-        self.bytes.read(&mut buf[..few])
+fn borrowed(world: &RefCell<World>) -> io::Result<RefMut<'_, World>> {
+    match world.try_borrow_mut() {
+        Ok(world) => Ok(world),
+        Err(_) => unsupported(),
     }
 }
 
-impl Seek for Page {
-    fn seek(&mut self, to: SeekFrom) -> io::Result<u64> {
-        self.bytes.seek(to)
-    }
-}
-
-fn unsupported<T>() -> io::Result<T>
-    ensures { IsErr result }
+// Copies the front of some bytes, as far as there is room.
+fn copy_front(bytes: &[u8], buf: &mut [u8]) -> usize
+    ensures { result ≤ length buf.new }
 {
-    Err(io::Error::from(io::ErrorKind::Unsupported))
+    let n = bytes.len().min(buf.len());
+    buf[..n].copy_from_slice(&bytes[..n]);
+    n
 }
 
-impl Write for Page {
+impl Read for Page<'_> {
+    fn read(&mut self, buf: &mut [u8]) -> io::Result<usize> {
+        let few = buf.len().min(self.most);
+        let n = self.read_at(&mut buf[..few], self.at)?;
+        self.at = self.at.saturating_add(n as u64);
+        Ok(n)
+    }
+}
+
+impl Seek for Page<'_> {
+    fn seek(&mut self, to: SeekFrom) -> io::Result<u64> {
+        match to {
+            SeekFrom::Start(at) => {
+                self.at = at;
+                Ok(at)
+            }
+            _ => unsupported(),
+        }
+    }
+}
+
+impl Write for Page<'_> {
     fn write(&mut self, _buf: &[u8]) -> io::Result<usize> {
         unsupported()
     }
@@ -48,62 +70,70 @@ impl Write for Page {
     }
 }
 
-impl OpenFile for Page {
+impl OpenFile for Page<'_> {
     fn metadata(&self) -> io::Result<Metadata> {
-        unsupported()
+        let len = borrowed(self.world)?.content(self.place).len();
+        Ok(Metadata::of_file(len as u64))
     }
 
-    fn set_len(&self, _size: u64) -> io::Result<()> {
-        unsupported()
+    fn set_len(&self, size: u64) -> io::Result<()> {
+        borrowed(self.world)?.set_len(self.place, size)
     }
 
     fn sync_all(&self) -> io::Result<()> {
-        unsupported()
+        borrowed(self.world)?.sync(self.place)
     }
 
     fn sync_data(&self) -> io::Result<()> {
-        unsupported()
+        borrowed(self.world)?.sync_bytes(self.place)
     }
 }
 
-impl FileExt for Page {
-    fn read_at(&self, _buf: &mut [u8], _offset: u64) -> io::Result<usize> {
-        unsupported()
+impl FileExt for Page<'_> {
+    fn read_at(&self, buf: &mut [u8], offset: u64) -> io::Result<usize> {
+        let world = borrowed(self.world)?;
+        Ok(copy_front(world.bytes_from(self.place, offset), buf))
     }
 
-    fn write_at(&self, _buf: &[u8], _offset: u64) -> io::Result<usize> {
-        unsupported()
+    fn write_at(&self, buf: &[u8], offset: u64) -> io::Result<usize> {
+        borrowed(self.world)?.write(self.place, offset, buf)?;
+        Ok(buf.len())
     }
 }
 
-// Another process has each lock.
-impl TryLock for Page {
+impl TryLock for Page<'_> {
     fn try_lock(&self) -> io::Result<()> {
-        Err(io::Error::from(io::ErrorKind::WouldBlock))
+        if borrowed(self.world)?.is_locked(self.place) {
+            return Err(io::Error::from(io::ErrorKind::WouldBlock));
+        }
+        Ok(())
     }
 }
 
-// The path of the one folder that is there.
-const FOLDER: &str = "busy/.";
-
-/// A system in memory: the words of its command line, one file and one folder, and what it printed.
+/// A system in memory: the words of its command line with blanks between them, its files, and what it printed.
 #[derive(Drop)]
-pub struct Machine {
+pub struct Machine<'w> {
     alloc: Global,
-    words: &'static [&'static str],
-    name: &'static str,
-    content: &'static [u8],
+    words: &'w str,
+    world: &'w RefCell<World>,
+    // How many bytes a read in order gives.
+    most: usize,
     pub output: RefCell<Vec<u8>>,
     pub told: RefCell<Vec<u8>>,
 }
 
-impl Machine {
-    pub fn new(alloc: Global, words: &'static [&'static str], content: &'static [u8]) -> Machine {
+impl<'w> Machine<'w> {
+    pub fn new(
+        alloc: Global,
+        words: &'w str,
+        world: &'w RefCell<World>,
+        most: usize,
+    ) -> Machine<'w> {
         Machine {
             alloc,
             words,
-            name: "feed.json",
-            content,
+            world,
+            most,
             output: RefCell::new(Vec::new(alloc)),
             told: RefCell::new(Vec::new(alloc)),
         }
@@ -117,7 +147,7 @@ fn add(to: &RefCell<Vec<u8>>, bytes: &[u8]) -> io::Result<()> {
     }
 }
 
-impl Alloc for Machine {
+impl Alloc for Machine<'_> {
     type A = Global;
 
     fn alloc(&self) -> Global {
@@ -125,7 +155,7 @@ impl Alloc for Machine {
     }
 }
 
-impl Print for Machine {
+impl Print for Machine<'_> {
     fn print<D: Display + Drop>(&self, value: D) -> io::Result<()> {
         let text = format!(in self.alloc; "{value}")?;
         add(&self.output, text.as_bytes())
@@ -141,7 +171,7 @@ impl Print for Machine {
     }
 }
 
-impl Eprint for Machine {
+impl Eprint for Machine<'_> {
     fn eprint<D: Display + Drop>(&self, value: D) -> io::Result<()> {
         let text = format!(in self.alloc; "{value}")?;
         add(&self.told, text.as_bytes())
@@ -153,9 +183,9 @@ impl Eprint for Machine {
     }
 }
 
-impl Env for Machine {
+impl Env for Machine<'_> {
     fn arg(&self, i: usize, buf: &mut [u8]) -> Result<usize, FillError> {
-        let Some(word) = self.words.get(i) else {
+        let Some(word) = self.words.split(' ').filter(|it| !it.is_empty()).nth(i) else {
             return Err(FillError::NotPresent);
         };
         let Some(front) = buf.get_mut(..word.len()) else {
@@ -174,7 +204,7 @@ impl Env for Machine {
     }
 }
 
-impl rt::Clock for Machine {
+impl rt::Clock for Machine<'_> {
     fn monotonic(&self) -> io::Result<Duration> {
         unsupported()
     }
@@ -184,22 +214,30 @@ impl rt::Clock for Machine {
     }
 }
 
-impl Files for Machine {
-    type File = Page;
+impl<'w> Files for Machine<'w> {
+    type File = Page<'w>;
 
-    type Dir = Page;
+    type Dir = Page<'w>;
 
-    fn open_file(&self, _how: &OpenOptions, path: &str) -> io::Result<Page> {
-        if path == self.name || path == FOLDER {
-            Ok(Page {
-                bytes: Cursor::new(self.content),
-            })
-        } else {
-            Err(io::Error::from(io::ErrorKind::NotFound))
-        }
+    fn open_file(&self, how: &OpenOptions, path: &str) -> io::Result<Page<'w>> {
+        let mut world = borrowed(self.world)?;
+        let place = match world.find(path) {
+            Ok(_) if how.asks_create_new() => {
+                return Err(io::Error::from(io::ErrorKind::AlreadyExists));
+            }
+            Err(e) if !how.asks_create_new() => return Err(e),
+            Ok(place) => place,
+            Err(_) => world.make_file(self.alloc, path)?,
+        };
+        Ok(Page {
+            world: self.world,
+            place,
+            at: 0,
+            most: self.most,
+        })
     }
 
-    fn open_dir(&self, _path: &str) -> io::Result<Page> {
+    fn open_dir(&self, _path: &str) -> io::Result<Page<'w>> {
         unsupported()
     }
 
@@ -223,8 +261,8 @@ impl Files for Machine {
         unsupported()
     }
 
-    fn create_dir(&self, _path: &str) -> io::Result<()> {
-        unsupported()
+    fn create_dir(&self, path: &str) -> io::Result<()> {
+        borrowed(self.world)?.make_folder(self.alloc, path)
     }
 
     fn remove_dir(&self, _path: &str) -> io::Result<()> {

@@ -1,9 +1,4 @@
-// A feed that is made as it is read, so that it may be longer than memory.
-ghost use Rattle.std.specs.Prelude.{◌∷◌, [], None, Some};
-
-use base_types::Text;
-use edge_traits::{Failed, Shelf, ShelfFault, Source};
-use std::alloc::Global;
+//! Feeds that are made as they are read, so that they may be longer than memory.
 
 const SPACES: [u8; 16384] = [b' '; 16384];
 
@@ -49,8 +44,8 @@ impl Lines {
     }
 }
 
-// Some of the bytes of a feed from an offset on.
-fn bytes_at(feed: &'static [Lines], at: u64) -> &'static [u8] {
+/// Some of the bytes of a feed from an offset on.
+pub fn bytes_at(feed: &'static [Lines], at: u64) -> &'static [u8] {
     let mut behind = at;
     for lines in feed {
         let all = lines.len().saturating_mul(lines.times);
@@ -63,58 +58,4 @@ fn bytes_at(feed: &'static [Lines], at: u64) -> &'static [u8] {
         behind -= all;
     }
     b""
-}
-
-/// A source of such a feed, which gives at most so many bytes at a time, and doesn't tell them.
-pub struct MadeSource {
-    name: Text,
-    feed: &'static [Lines],
-    most: usize,
-}
-
-impl Source for MadeSource {
-    ghost source = { λ s. record { name = Some s.name; told = None; faults = 0 } };
-
-    fn read_at(&mut self, at: u64, buf: &mut [u8]) -> Result<usize, Failed> {
-        let bytes = bytes_at(self.feed, at);
-        let n = bytes.len().min(buf.len()).min(self.most);
-        buf[..n].copy_from_slice(&bytes[..n]);
-        Ok(n)
-    }
-}
-
-/// A shelf that has one such feed.
-#[derive(Drop)]
-pub struct MadeShelf {
-    pub name: Text,
-    pub feed: &'static [Lines],
-    pub most: usize,
-}
-
-impl Shelf for MadeShelf {
-    type Src = MadeSource;
-
-    ghost shelf = { λ s. record { counts = (s.name, 0) ∷ []; told = None } };
-
-    fn fetch(&mut self, alloc: Global, name: &Text) -> Result<MadeSource, ShelfFault> {
-        if *name != self.name {
-            return Err(ShelfFault::OutOfMemory);
-        }
-        match name.copy(alloc) {
-            Ok(name) => Ok(MadeSource {
-                name,
-                feed: self.feed,
-                most: self.most,
-            }),
-            Err(_) => Err(ShelfFault::OutOfMemory),
-        }
-    }
-
-    fn take_back(&mut self, _name: &Text, source: MadeSource) {
-        let MadeSource {
-            name: _,
-            feed: _,
-            most: _,
-        } = source;
-    }
 }

@@ -1,172 +1,92 @@
 //! The adapters, and the whole program over a system in memory.
 use crate::machine::Machine;
+use crate::world::World;
 use base_types::Text;
 use edge_traits::{Clock, Shelf, Sink, Source};
 use std::alloc::Global;
 use std::cell::RefCell;
 use std::io::{self, Write};
-use std::str;
+use std::process::Abort;
 use std::test::Fail;
 use system_run::{FileShelf, SystemClock, WriterSink, run};
+use table_lines::{escaped, unescaped};
 
-struct Run {
-    words: &'static [&'static str],
-    content: &'static [u8],
-    status: u8,
-    output: &'static str,
-    told: &'static str,
+// The words of a command line and, behind `<`, what the file `feed.json` has; then the status, and what is printed to standard output and
+// to standard error, with escapes. Another process works on the store in the folder `busy`.
+const RUNS: &str =
+    r#"intelpipe any convert --feed feed.json < {"comment":" a "}\n\n{"status":"on"}\n => 0 [{"__type":"Event","comment":"a"}\n{"__type":"Event","status":"on"}\n] []
+intelpipe any convert --feed feed.json < {"source.port":"80","extra":{"seen":[1,1.50]}}\n{"source.port":70000}\n => 17 [{"__type":"Event","extra.seen":[1,1.5],"source.port":80}\n] [intelpipe: bad line 2\n]
+intelpipe any convert --feed feed.json < {"comment":"a"}\n[\n{"comment":"b"}\n => 17 [{"__type":"Event","comment":"a"}\n] [intelpipe: bad line 2\n]
+intelpipe any convert --feed other.json < => 4 [] [intelpipe: feed other.json failed\n]
+intelpipe any check --bundle feed.json < {} => 0 [ok 0 bots\n] []
+intelpipe any check --bundle feed.json < {"a":{"module":"expert.none"}} => 3 [] [intelpipe: config 2 a\n]
+intelpipe any drain < => 14 [] [intelpipe: store 0\n]
+intelpipe busy status < => 5 [] [intelpipe: disk\n]
+intelpipe busy drain < => 5 [] [intelpipe: disk\n]
+intelpipe any status --steps 3 < => 2 [] [intelpipe: words\n]
+intelpipe --version < => 0 [intelpipe 0.1.0\n] []
+intelpipe --version --help < => 2 [] [intelpipe: words\n]
+intelpipe < => 2 [] [intelpipe: words\n]
+intelpipe convert --feed feed.json < => 2 [] [intelpipe: words\n]
+ < => 2 [] [intelpipe: words\n]"#;
+
+fn printed(all: &RefCell<Vec<u8>>, alloc: Global) -> Result<String, Fail> {
+    Ok(escaped(alloc, &all.try_borrow()?)?)
 }
 
-const RUNS: [Run; 15] = [
-    Run {
-        words: &["intelpipe", "any", "convert", "--feed", "feed.json"],
-        content: b"{\"comment\":\" a \"}\n\n{\"status\":\"on\"}\n",
-        status: 0,
-        output: "{\"__type\":\"Event\",\"comment\":\"a\"}\n{\"__type\":\"Event\",\"status\":\"on\"}\n",
-        told: "",
-    },
-    Run {
-        words: &["intelpipe", "any", "convert", "--feed", "feed.json"],
-        content: b"{\"source.port\":\"80\",\"extra\":{\"seen\":[1,1.50]}}\n{\"source.port\":70000}\n",
-        status: 17,
-        output: "{\"__type\":\"Event\",\"extra.seen\":[1,1.5],\"source.port\":80}\n",
-        told: "intelpipe: bad line 2\n",
-    },
-    Run {
-        words: &["intelpipe", "any", "convert", "--feed", "feed.json"],
-        content: b"{\"comment\":\"a\"}\n[\n{\"comment\":\"b\"}\n",
-        status: 17,
-        output: "{\"__type\":\"Event\",\"comment\":\"a\"}\n",
-        told: "intelpipe: bad line 2\n",
-    },
-    Run {
-        words: &["intelpipe", "any", "convert", "--feed", "other.json"],
-        content: b"",
-        status: 4,
-        output: "",
-        told: "intelpipe: feed other.json failed\n",
-    },
-    Run {
-        words: &["intelpipe", "any", "check", "--bundle", "feed.json"],
-        content: b"{}",
-        status: 0,
-        output: "ok 0 bots\n",
-        told: "",
-    },
-    Run {
-        words: &["intelpipe", "any", "check", "--bundle", "feed.json"],
-        content: b"{\"a\":{\"module\":\"expert.none\"}}",
-        status: 3,
-        output: "",
-        told: "intelpipe: config 2 a\n",
-    },
-    Run {
-        words: &["intelpipe", "any", "drain"],
-        content: b"",
-        status: 14,
-        output: "",
-        told: "intelpipe: store 0\n",
-    },
-    // Another process works on the store.
-    Run {
-        words: &["intelpipe", "busy", "status"],
-        content: b"",
-        status: 5,
-        output: "",
-        told: "intelpipe: disk\n",
-    },
-    Run {
-        words: &["intelpipe", "busy", "drain"],
-        content: b"",
-        status: 5,
-        output: "",
-        told: "intelpipe: disk\n",
-    },
-    Run {
-        words: &["intelpipe", "any", "status", "--steps", "3"],
-        content: b"",
-        status: 2,
-        output: "",
-        told: "intelpipe: words\n",
-    },
-    Run {
-        words: &["intelpipe", "--version"],
-        content: b"",
-        status: 0,
-        output: "intelpipe 0.1.0\n",
-        told: "",
-    },
-    Run {
-        words: &["intelpipe", "--version", "--help"],
-        content: b"",
-        status: 2,
-        output: "",
-        told: "intelpipe: words\n",
-    },
-    Run {
-        words: &["intelpipe"],
-        content: b"",
-        status: 2,
-        output: "",
-        told: "intelpipe: words\n",
-    },
-    Run {
-        words: &["intelpipe", "convert", "--feed", "feed.json"],
-        content: b"",
-        status: 2,
-        output: "",
-        told: "intelpipe: words\n",
-    },
-    Run {
-        words: &[],
-        content: b"",
-        status: 2,
-        output: "",
-        told: "intelpipe: words\n",
-    },
-];
-
-fn text_of(all: &RefCell<Vec<u8>>, alloc: Global) -> Result<String, Fail> {
-    let all = all.try_borrow()?;
-    Ok(String::from_str(alloc, str::from_utf8(&all)?)?)
+// The status and what is printed, where the files are read three bytes at a time.
+fn outcome<'w>(alloc: Global, words: &'w str, world: &'w RefCell<World>) -> Result<String, Fail> {
+    let machine = Machine::new(alloc, words, world, 3);
+    let status = run(&machine);
+    let output = printed(&machine.output, alloc)?;
+    let told = printed(&machine.told, alloc)?;
+    Ok(format!(in alloc; "{status} [{output}] [{told}]")?)
 }
 
-#[test]
-fn runs_of_the_program(rt: HostRuntime) -> Result<(), Fail> {
-    for (i, row) in RUNS.iter().enumerate() {
-        let machine = Machine::new(rt.alloc(), row.words, row.content);
-        assert_eq!(rt; run(&machine), row.status, "run {i}");
-        assert_eq!(rt;
-            text_of(&machine.output, rt.alloc())?.as_str(),
-            row.output,
-            "run {i}"
-        );
-        assert_eq!(rt;
-            text_of(&machine.told, rt.alloc())?.as_str(),
-            row.told,
-            "run {i}"
-        );
-    }
+fn check_run(rt: &impl Abort, alloc: Global, row: &str) -> Result<(), Fail> {
+    let Some((case, wanted)) = row.split_once("=> ") else {
+        return Err(Fail::from("a row without a status"));
+    };
+    let Some((words, content)) = case.split_once('<') else {
+        return Err(Fail::from("a row without a file"));
+    };
+    let content = unescaped(alloc, content.trim())?;
+    let mut world = World::new(alloc, &[])?;
+    world.put(alloc, "feed.json", &content)?;
+    let found = outcome(alloc, words, &RefCell::new(world))?;
+    assert_eq!(rt; found.as_str(), wanted);
     Ok(())
 }
 
 #[test]
+fn runs_of_the_program(rt: HostRuntime) -> Result<(), Fail> {
+    for row in RUNS.lines() {
+        check_run(&rt, rt.alloc(), row)?;
+    }
+    Ok(())
+}
+
+// The numbers of the statuses, each as the help has it.
+const STATUSES: &str = "0 1 2 3 4 5 6 7 8 9 10 11 12 13 14 15 17 18";
+
+#[test]
 fn help_names_each_status(rt: HostRuntime) -> Result<(), Fail> {
-    let machine = Machine::new(rt.alloc(), &["intelpipe", "--help"], b"");
-    assert_eq!(rt; run(&machine), 0);
-    let help = text_of(&machine.output, rt.alloc())?;
-    for number in &[
-        "   0 ", "   1 ", "   2 ", "   3 ", "   4 ", "   5 ", "   6 ", "   7 ", "   8 ", "   9 ",
-        "  10 ", "  11 ", "  12 ", "  13 ", "  14 ", "  15 ", "  17 ", "  18 ",
-    ] {
-        assert!(rt; help.contains(*number), "{number}");
+    let alloc = rt.alloc();
+    let world = RefCell::new(World::new(alloc, &[])?);
+    let help = outcome(alloc, "intelpipe --help", &world)?;
+    for number in STATUSES.split(' ') {
+        let line = format!(in alloc; "\\n{number:>4} ")?;
+        assert!(rt; help.contains(line.as_str()), "{number}");
     }
     Ok(())
 }
 
 #[test]
 fn a_file_is_read_in_order_and_from_any_offset(rt: HostRuntime) -> Result<(), Fail> {
-    let machine = Machine::new(rt.alloc(), &[], b"abcdefgh");
+    let mut world = World::new(rt.alloc(), &[])?;
+    world.put(rt.alloc(), "feed.json", b"abcdefgh")?;
+    let world = RefCell::new(world);
+    let machine = Machine::new(rt.alloc(), "", &world, 3);
     let mut shelf = FileShelf::new(rt.alloc(), &machine);
     let name = Text::new(rt.alloc(), b"feed.json")?;
     let Ok(mut source) = shelf.fetch(rt.alloc(), &name) else {
@@ -230,7 +150,9 @@ fn a_sink_tells_how_much_its_writer_took(rt: HostRuntime) {
 }
 
 #[test]
-fn a_clock_counts_whole_seconds(rt: HostRuntime) {
-    let machine = Machine::new(rt.alloc(), &[], b"");
+fn a_clock_counts_whole_seconds(rt: HostRuntime) -> Result<(), Fail> {
+    let world = RefCell::new(World::new(rt.alloc(), &[])?);
+    let machine = Machine::new(rt.alloc(), "", &world, 3);
     assert_eq!(rt; SystemClock::new(&machine).now(), 1_700_000_000);
+    Ok(())
 }
