@@ -1,5 +1,5 @@
 -- How runs of a book's calls are put together.
-use Rattle.std.proofs.Common.{◌≡◌, ◌≤◌, ◌+◌, ◌-◌, ℕ, Bool, List, [], ◌∷◌, ◌++◌, length, take, refl, sym, ap, subst, ◌∙◌, arith, append_assoc, length-append}
+use Rattle.std.proofs.Common.{◌≡◌, ◌≢◌, ◌≤◌, ◌+◌, ◌-◌, ℕ, Bool, true, false, Option, Some, None, List, [], ◌∷◌, ◌++◌, length, take, refl, sym, ap, subst, ◌∙◌, arith, append_assoc, length-append}
 use Rattle.std.proofs.Math.Seq.{take-append-add}
 use Rattle.std.proofs.lemmas.List.{append-nil, length-take, take-append-drop, take-append-le}
 use Rattle.edge_traits.specs.Disk.{DiskView, Image, IsImage, Leaves}
@@ -10,15 +10,29 @@ use Rattle.step_code.specs.After.{after}
 use Rattle.step_code.specs.Content.{May}
 use Rattle.step_code.specs.History.{replay, Legal}
 use Rattle.step_code.specs.Rules.{Meaning}
-use Rattle.store_image.specs.Stands.{Stands, StandsFor}
+use Rattle.step_code.specs.Spent.{NothingIsSpent, StaysSmall}
+use Rattle.seal_laws.proofs.Histories.{legal_whole, seals}
+use Rattle.book_runs.proofs.Seals.{seals_on, seals_self, small_whole}
+use Rattle.store_image.specs.Files.{generation_file}
+use Rattle.store_image.specs.Stands.{IsSealOf, Stands, StandsFor}
 use Rattle.store_image.proofs.Standing.{replay-append}
 use Rattle.journal_book.specs.Book.{BookView, durable_steps, waiting_steps, IsKept}
-use Rattle.book_runs.specs.GoesOn.{longer, GoesOn}
+use Rattle.journal_book.specs.Staged.{cause_of, step_cause}
+use Rattle.journal_book.specs.declared.stage_refusal.StageRefusal.{StageRefusal}
+use Rattle.journal_book.proofs.OneMore.{nothing_refuses}
+use Rattle.journal_book.specs.Alone.{IsApart, LeavesAlone}
+use Rattle.journal_book.proofs.Alone.{alone_narrower, alone_on, alone_still}
+use Rattle.book_runs.specs.GoesOn.{longer, GoesOn, IsEarlier, IsSameBook}
 
 -- two legal histories, the second from where the first ends
 pub legal-append : (m : Meaning) (s : Base) (front more : List Step) → Legal m s front → Legal m (replay m s front) more → Legal m s (front ++ more)
 legal-append m s [] more legal then = then
 legal-append m s (step ∷ front) more legal then = (legal.0, legal-append m (after m s step) front more legal.1 then)
+
+-- neither spends a number
+pub small-append : (m : Meaning) (s : Base) (front more : List Step) → NothingIsSpent m s front → NothingIsSpent m (replay m s front) more → NothingIsSpent m s (front ++ more)
+small-append m s [] more small then = then
+small-append m s (step ∷ front) more small then = (small.0, small-append m (after m s step) front more small.1 then)
 
 -- what stands for a front of these stands for a front of more
 stands_longer : (m : Meaning) (first : Base) (durable waiting more : List Step) (image : Image) → StandsFor m first durable waiting image → StandsFor m first durable (waiting ++ more) image
@@ -48,63 +62,124 @@ waits : {D R : Type 0} (disk : D → DiskView) (old new : BookView D R) (passes 
 waits disk old new passes same only here = subst (λ d. Leaves (disk old.disk) (disk d) passes) (sym same) (started (λ image left. here image (only image left)))
 
 -- what changes in a book without a step: its disk, how many steps are durable, and whether the disk has failed
-pub changes : {D R : Type 0} (old new : BookView D R) (kept : ℕ) (broken : Bool) → new ≡ record old { disk = new.disk; kept = kept; broken = broken } → new ≡ record old { disk = new.disk; kept = new.kept; broken = new.broken }
+pub changes : {D R : Type 0} (old new : BookView D R) (kept : ℕ) (broken : Bool) → new ≡ record old { disk = new.disk; kept = kept; broken = broken } → IsSameBook old new
 changes old new kept broken is = subst (λ (b : BookView _ _). b ≡ record old { disk = b.disk; kept = b.kept; broken = b.broken }) (sym is) refl
 
+-- a step that nothing refuses spends no number
+pub stays_small : (m : Meaning) (s : Base) (steps : List Step) (limit : ℕ) (step : Step) (broken : Bool) → cause_of broken (step_cause m s steps limit step) ≡ None → StaysSmall m s step
+stays_small m s steps limit step broken none = (nothing_refuses m s steps limit step (not_broken broken (step_cause m s steps limit step) none)).1
+  where
+    not_broken : (broken : Bool) (cause : Option StageRefusal) → cause_of broken cause ≡ None → cause ≡ None
+    not_broken true cause none = absurd (cc)
+    not_broken false cause none = none
+
+-- writing a generation, and outputs too, leaves earlier files alone
+pub written_earlier : {old new : DiskView} (generation : ℕ) → ((files : Image) → old.told ≡ Some files → LeavesAlone old new (λ file. file ≢ generation_file generation))
+    → (files : Image) → old.told ≡ Some files → LeavesAlone old new (IsEarlier generation)
+written_earlier generation others files told = alone_narrower (λ file is. is.2 generation (omega arith)) (others files told)
+
+pub apart_earlier : {old new : DiskView} (generation : ℕ) → ((files : Image) → old.told ≡ Some files → LeavesAlone old new (IsApart generation))
+    → (files : Image) → old.told ≡ Some files → LeavesAlone old new (IsEarlier generation)
+apart_earlier generation others files told = alone_narrower (λ file is. (is.2 generation (omega arith), is.1)) (others files told)
+
+-- ---- within one generation
+
+module _ {D R : Type 0} (m : Meaning) where
+  pub longer_none : (old new : BookView D R) → IsSameBook old new → new ≡ longer m old [] new
+  longer_none old new same = same ∙ ap (λ (ss : List Step). record old { disk = new.disk; steps = ss; kept = new.kept; broken = new.broken }) (sym (append-nil old.steps))
+
+  pub longer_one : (old new : BookView D R) (step : Step) → new ≡ record old { state = after m old.state step; steps = old.steps ++ step ∷ [] } → new ≡ longer m old (step ∷ []) new
+  longer_one old new step same = subst (λ (b : BookView D R). b ≡ longer m old (step ∷ []) b) (sym same) refl
+
+  pub longer_on : (old mid new : BookView D R) (made more : List Step) → mid ≡ longer m old made mid → new ≡ longer m mid more new → new ≡ longer m old (made ++ more) new
+  longer_on old mid new made more front rest =
+      rest ∙ ap (λ (b : BookView D R). longer m b more new) front
+      ∙ ap (λ (ss : List Step). record old { disk = new.disk; steps = ss; kept = new.kept; state = replay m (replay m old.state made) more; broken = new.broken }) (append_assoc old.steps made more)
+      ∙ ap (λ (s : Base). record old { disk = new.disk; steps = old.steps ++ (made ++ more); kept = new.kept; state = s; broken = new.broken }) (sym (replay-append m old.state made more))
+
 module _ {D R : Type 0} {disk : D → DiskView} {m : Meaning} where
+  -- calls that go on in their generation
+  stays_in : (old new : BookView D R) (made : List Step) → new ≡ longer m old made new → Legal m old.state made → NothingIsSpent m old.state made
+      → ((first : Base) (past : List Step) → IsKept disk m first past old → old.kept ≤ new.kept)
+      → ((first : Base) (past : List Step) → IsKept disk m first past old → IsKept disk m first past new)
+      → ((first : Base) (past : List Step) → IsKept disk m first past old → Leaves (disk old.disk) (disk new.disk) (StandsFor m first (past ++ durable_steps old) (waiting_steps old ++ made)))
+      → ((files : Image) → (disk old.disk).told ≡ Some files → LeavesAlone (disk old.disk) (disk new.disk) (IsEarlier old.generation))
+      → GoesOn disk m old new made
+  stays_in old new made book legal small durable kept leaves others = record {
+    same = (ap (λ (b : BookView D R). b.rules) book, ap (λ (b : BookView D R). b.limit) book);
+    archived = [];
+    splits = sym (ap (λ (b : BookView D R). b.steps) book);
+    state = subst (λ (s : Base). IsSealOf (replay m old.state made) s) (sym (ap (λ (b : BookView D R). b.state) book)) (seals_self (replay m old.state made));
+    legal = legal;
+    small = small;
+    durable = λ first past was. omega (arith, durable first past was);
+    kept = λ first past was. subst (λ (p : List Step). IsKept disk m first p new) (sym (append-nil past)) (kept first past was);
+    any_moment = leaves;
+    onward = omega (arith, ap (λ (b : BookView D R). b.generation) book);
+    others = others;
+  }
+
   -- calls that make no step
-  pub makes_none : (old new : BookView D R) → new ≡ record old { disk = new.disk; kept = new.kept; broken = new.broken }
+  pub makes_none : (old new : BookView D R) → IsSameBook old new
       → ((first : Base) (past : List Step) → IsKept disk m first past old → old.kept ≤ new.kept)
       → ((first : Base) (past : List Step) → IsKept disk m first past old → IsKept disk m first past new)
       → ((first : Base) (past : List Step) → IsKept disk m first past old → Leaves (disk old.disk) (disk new.disk) (StandsFor m first (past ++ durable_steps old) (waiting_steps old)))
+      → ((files : Image) → (disk old.disk).told ≡ Some files → LeavesAlone (disk old.disk) (disk new.disk) (IsEarlier old.generation))
       → GoesOn disk m old new []
-  makes_none old new same durable kept leaves = record {
-    book = same ∙ ap (λ (ss : List Step). record old { disk = new.disk; steps = ss; kept = new.kept; broken = new.broken }) (sym (append-nil old.steps));
-    legal = tt;
-    durable = durable;
-    kept = kept;
-    any_moment = λ first past was. subst (λ (ss : List Step). Leaves (disk old.disk) (disk new.disk) (StandsFor m first (past ++ durable_steps old) ss)) (sym (append-nil (waiting_steps old))) (leaves first past was);
-  }
+  makes_none old new same durable kept leaves others =
+      stays_in old new [] (longer_none m old new same) tt tt durable kept
+      (λ first past was. subst (λ (ss : List Step). Leaves (disk old.disk) (disk new.disk) (StandsFor m first (past ++ durable_steps old) ss)) (sym (append-nil (waiting_steps old))) (leaves first past was)) others
 
   -- all steps are made durable
   pub makes_durable : (old new : BookView D R) → new ≡ record old { disk = new.disk; kept = length old.steps }
       → ((first : Base) (past : List Step) → IsKept disk m first past old → IsKept disk m first past new)
       → ((first : Base) (past : List Step) → IsKept disk m first past old → Leaves (disk old.disk) (disk new.disk) (StandsFor m first (past ++ durable_steps old) (waiting_steps old)))
+      → ((files : Image) → (disk old.disk).told ≡ Some files → LeavesAlone (disk old.disk) (disk new.disk) (IsEarlier old.generation))
       → GoesOn disk m old new []
-  makes_durable old new done kept leaves =
-      makes_none old new (changes old new _ _ done) (λ first past was. omega (arith, was.within, ap (λ (b : BookView _ _). b.kept) done)) kept leaves
+  makes_durable old new done kept leaves others =
+      makes_none old new (changes old new _ _ done) (λ first past was. omega (arith, was.within, ap (λ (b : BookView _ _). b.kept) done)) kept leaves others
 
   -- no call at all
   pub goes_nowhere : (book : BookView D R) → ((image : Image) → (disk book.disk).left_since (disk book.disk).moment image → IsImage (disk book.disk).may_leave image) → GoesOn disk m book book []
   goes_nowhere book only = makes_none book book refl (λ first past kept. omega arith) (λ first past kept. kept) (λ first past kept. waits disk book book _ refl only kept.each)
+      (λ files told. alone_still (disk book.disk) (IsEarlier book.generation) only)
 
   -- one step is committed
-  pub makes_one : (old new : BookView D R) (step : Step) → new ≡ record old { state = after m old.state step; steps = old.steps ++ step ∷ [] } → May m old.state step
+  pub makes_one : (old new : BookView D R) (step : Step) → new ≡ record old { state = after m old.state step; steps = old.steps ++ step ∷ [] } → May m old.state step → StaysSmall m old.state step
       → ((image : Image) → (disk old.disk).left_since (disk old.disk).moment image → IsImage (disk old.disk).may_leave image)
       → ((first : Base) (past : List Step) → IsKept disk m first past old → IsKept disk m first past new) → GoesOn disk m old new (step ∷ [])
-  makes_one old new step same may only kept = record {
-    book = subst (λ (b : BookView D R). b ≡ longer m old (step ∷ []) b) (sym same) refl;
-    legal = (may, tt);
-    durable = λ first past was. omega (arith, ap (λ (b : BookView D R). b.kept) same);
-    kept = kept;
-    any_moment = λ first past was. waits disk old new _ (ap (λ (b : BookView D R). b.disk) same) only (λ image left. stands_longer m first (past ++ durable_steps old) (waiting_steps old) (step ∷ []) image (was.each image left));
-  }
+  makes_one old new step same may small only kept =
+      stays_in old new (step ∷ []) (longer_one m old new step same) (may, tt) (small, tt) (λ first past was. omega (arith, ap (λ (b : BookView D R). b.kept) same)) kept
+      (λ first past was. waits disk old new _ (ap (λ (b : BookView D R). b.disk) same) only (λ image left. stands_longer m first (past ++ durable_steps old) (waiting_steps old) (step ∷ []) image (was.each image left)))
+      (λ files told. subst (λ (d : D). LeavesAlone (disk old.disk) (disk d) (IsEarlier old.generation)) (sym (ap (λ (b : BookView D R). b.disk) same)) (alone_still (disk old.disk) (IsEarlier old.generation) only))
 
   -- a run, and another from where it ends
   pub goes_further : (old mid new : BookView D R) (made more : List Step) → GoesOn disk m old mid made → GoesOn disk m mid new more
       → GoesOn disk m old new (made ++ more)
   goes_further old mid new made more front rest = record {
-    book = rest.book ∙ ap (λ (b : BookView D R). longer m b more new) front.book ∙ joined;
-    legal = legal-append m old.state made more front.legal (subst (λ (s : Base). Legal m s more) (ap (λ (b : BookView D R). b.state) front.book) rest.legal);
-    durable = λ first past was. omega (arith, front.durable first past was, rest.durable first past (front.kept first past was));
-    kept = λ first past was. rest.kept first past (front.kept first past was);
-    any_moment = λ first past was. run_on (widened (to_the_end first past) (front.any_moment first past was)) (widened (from_the_start first past (front.kept first past was) was) (rest.any_moment first past (front.kept first past was)));
+    same = (rest.same.0 ∙ front.same.0, rest.same.1 ∙ front.same.1);
+    archived = front.archived ++ rest.archived;
+    splits = splits_on;
+    state = subst (λ (s : Base). IsSealOf s new.state) (sym (replay-append m old.state made more))
+        (seals_on (replay m (replay m old.state made) more) (replay m mid.state more) new.state (seals m (replay m old.state made) mid.state more front.state) rest.state);
+    legal = legal-append m old.state made more front.legal (legal_whole m (replay m old.state made) mid.state more front.state rest.legal);
+    small = small-append m old.state made more front.small (small_whole m (replay m old.state made) mid.state more front.state rest.small);
+    durable = λ first past was. omega (arith, front.durable first past was, rest.durable first (past ++ front.archived) (front.kept first past was), length-append front.archived rest.archived);
+    kept = λ first past was. subst (λ (p : List Step). IsKept disk m first p new) (append_assoc past front.archived rest.archived) (rest.kept first (past ++ front.archived) (front.kept first past was));
+    any_moment = λ first past was.
+        run_on (widened (to_the_end first past) (front.any_moment first past was))
+        (widened (from_the_start first past (front.kept first past was) was) (rest.any_moment first (past ++ front.archived) (front.kept first past was)));
+    onward = omega (arith, front.onward, rest.onward);
+    others = λ files told.
+        let run = front.others files told in
+        let mid_told = run.told files told in
+        alone_on run (alone_narrower (λ file is. (is.0, is.1, λ later above. is.2 later (omega (arith, front.onward, above)))) (rest.others mid_told.0 mid_told.1));
   }
     where
-      joined : longer m (longer m old made mid) more new ≡ longer m old (made ++ more) new
-      joined =
-          ap (λ (ss : List Step). record old { disk = new.disk; steps = ss; kept = new.kept; state = replay m (replay m old.state made) more; broken = new.broken }) (append_assoc old.steps made more)
-          ∙ ap (λ (s : Base). record old { disk = new.disk; steps = old.steps ++ (made ++ more); kept = new.kept; state = s; broken = new.broken }) (sym (replay-append m old.state made more))
+      splits_on : old.steps ++ (made ++ more) ≡ (front.archived ++ rest.archived) ++ new.steps
+      splits_on =
+          sym (append_assoc old.steps made more) ∙ ap (λ (ss : List Step). ss ++ more) front.splits ∙ append_assoc front.archived mid.steps more
+          ∙ ap (λ (ss : List Step). front.archived ++ ss) rest.splits ∙ sym (append_assoc front.archived rest.archived new.steps)
 
       to_the_end : (first : Base) (past : List Step) (image : Image) → StandsFor m first (past ++ durable_steps old) (waiting_steps old ++ made) image → StandsFor m first (past ++ durable_steps old) (waiting_steps old ++ (made ++ more)) image
       to_the_end first past image stands =
@@ -114,12 +189,13 @@ module _ {D R : Type 0} {disk : D → DiskView} {m : Meaning} where
       whole past book behind =
           append_assoc past (durable_steps book) (waiting_steps book ++ behind) ∙ ap (λ (ss : List Step). past ++ ss) (sym (append_assoc (durable_steps book) (waiting_steps book) behind) ∙ ap (λ (ss : List Step). ss ++ behind) (take-append-drop book.kept book.steps))
 
-      same_steps : (past : List Step) → (past ++ durable_steps mid) ++ (waiting_steps mid ++ more) ≡ (past ++ durable_steps old) ++ (waiting_steps old ++ (made ++ more))
+      same_steps : (past : List Step) → ((past ++ front.archived) ++ durable_steps mid) ++ (waiting_steps mid ++ more) ≡ (past ++ durable_steps old) ++ (waiting_steps old ++ (made ++ more))
       same_steps past =
-          whole past mid more ∙ ap (λ (ss : List Step). past ++ (ss ++ more)) (ap (λ (b : BookView D R). b.steps) front.book) ∙ ap (λ (ss : List Step). past ++ ss) (append_assoc old.steps made more) ∙ sym (whole past old (made ++ more))
+          whole (past ++ front.archived) mid more ∙ append_assoc past front.archived (mid.steps ++ more)
+          ∙ ap (λ (ss : List Step). past ++ ss) (sym (append_assoc front.archived mid.steps more) ∙ ap (λ (ss : List Step). ss ++ more) (sym front.splits) ∙ append_assoc old.steps made more) ∙ sym (whole past old (made ++ more))
 
-      from_the_start : (first : Base) (past : List Step) → IsKept disk m first past mid → IsKept disk m first past old → (image : Image)
-          → StandsFor m first (past ++ durable_steps mid) (waiting_steps mid ++ more) image → StandsFor m first (past ++ durable_steps old) (waiting_steps old ++ (made ++ more)) image
+      from_the_start : (first : Base) (past : List Step) → IsKept disk m first (past ++ front.archived) mid → IsKept disk m first past old → (image : Image)
+          → StandsFor m first ((past ++ front.archived) ++ durable_steps mid) (waiting_steps mid ++ more) image → StandsFor m first (past ++ durable_steps old) (waiting_steps old ++ (made ++ more)) image
       from_the_start first past now was image stands =
-          stands_wider m first (past ++ durable_steps mid) (waiting_steps mid ++ more) (past ++ durable_steps old) (waiting_steps old ++ (made ++ more)) image (same_steps past)
-          (omega (arith, front.durable first past was, now.within, was.within, length-append past (durable_steps mid), length-append past (durable_steps old), length-take mid.kept mid.steps, length-take old.kept old.steps)) stands
+          stands_wider m first ((past ++ front.archived) ++ durable_steps mid) (waiting_steps mid ++ more) (past ++ durable_steps old) (waiting_steps old ++ (made ++ more)) image (same_steps past)
+          (omega (arith, front.durable first past was, now.within, was.within, length-append (past ++ front.archived) (durable_steps mid), length-append past front.archived, length-append past (durable_steps old), length-take mid.kept mid.steps, length-take old.kept old.steps)) stands

@@ -5,7 +5,7 @@ ghost use Rattle.store_image.specs.Stored.{codes_of};
 ghost use Rattle.journal_book.specs.Book.{waiting_steps};
 ghost use Rattle.journal_book.specs.Staged.{cause_of, most_waiting, most_waiting_bytes, staged, stamp, step_cause, IsMove};
 ghost use Rattle.book_runs.specs.Commit.{IsCommitFault, IsRoomFault};
-ghost use Rattle.book_runs.specs.GoesOn.{GoesOn};
+ghost use Rattle.book_runs.specs.GoesOn.{longer, GoesOn, IsSameBook};
 
 use edge_traits::Disk;
 use journal_book::{Book, FlushFault, Move, StageRefusal};
@@ -37,9 +37,11 @@ pub fn commit<D: Disk, R: Rules>(
 ) -> Result<u64, CommitFault>
     requires content { book.old.broken ≡ false → Fits R.meaning book.old.state (staged R.meaning book.old.state now what) → IsMove R.meaning book.old.state (stamp book.old.state now).0 what }
     ensures ok { OnOk result (GoesOn D.disk R.meaning book.old book.new (staged R.meaning book.old.state now what ∷ [])) }
+    ensures book { OnOk result (book.new ≡ longer R.meaning book.old (staged R.meaning book.old.state now what ∷ []) book.new) }
     ensures number { IfOk result (λ number. number ≡ book.new.state.steps) }
     ensures causes { OnOk result (cause_of book.old.broken (step_cause R.meaning book.old.state book.old.steps book.old.limit (staged R.meaning book.old.state now what)) ≡ None) }
     ensures err { OnErr result (GoesOn D.disk R.meaning book.old book.new []) }
+    ensures same { OnErr result (IsSameBook book.old book.new) }
     ensures refused { IfErr result (IsCommitFault (cause_of book.old.broken (step_cause R.meaning book.old.state book.old.steps book.old.limit (staged R.meaning book.old.state now what)))) }
     ensures broken { IsErrOf result CommitFault.Disk → book.new.broken ≡ true }
     ensures whole { (result ≢ Err CommitFault.Disk) → book.new.broken ≡ book.old.broken }
@@ -60,7 +62,7 @@ pub fn commit<D: Disk, R: Rules>(
 fn make_room<D: Disk, R: Rules>(book: &mut Book<D, R>) -> Result<(), CommitFault>
     ensures few { OnOk result (length (waiting_steps book.new) < most_waiting) }
     ensures short { OnOk result (length (codes_of (waiting_steps book.new)) < most_waiting_bytes) }
-    ensures same { book.new ≡ record book.old { disk = book.new.disk; kept = book.new.kept; broken = book.new.broken } }
+    ensures same { IsSameBook book.old book.new }
     ensures whole { OnOk result (book.new.broken ≡ book.old.broken) }
     ensures fault { IfErr result (IsRoomFault book.old.broken book.new.broken) }
     ensures goes_on { GoesOn D.disk R.meaning book.old book.new [] }

@@ -15,6 +15,7 @@ use Rattle.step_code.specs.declared.rules.Role.{Role}
 use Rattle.step_code.specs.declared.rules.Role.TheVariants as role
 use Rattle.bot_rules.specs.declared.job.Job.{Job}
 use Rattle.bot_rules.specs.declared.job.Job.TheVariants as job
+use Rattle.bot_rules.specs.declared.table.Rows.{Rows}
 
 -- a column of a parser for CSV: with `time_format` each takes seconds since 1970
 abbrev pub column_of : Bool → List (List ℕ) → Column
@@ -33,6 +34,11 @@ json_rule word defaults = record { style = style_of word; defaults = defaults }
 
 abbrev pub dedup_rule : List (List ℕ) → Bool → ℕ → ℕ → DedupRule
 dedup_rule keys keep ttl cache_max = record { keys = keys; keep = keep; ttl = ttl; cache_max = cache_max }
+
+-- the table of a prefix expert; no other module has one
+abbrev pub table_of : Module → Option Rows
+table_of (modules.Prefix networks sets overwrite) = Some (record { networks = networks; sets = sets; overwrite = overwrite })
+table_of _ = None
 
 -- what a bot with these paths and this module does with messages; a collector gets none
 abbrev pub job_of : List Route → Module → Option Job

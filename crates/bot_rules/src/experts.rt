@@ -1,5 +1,5 @@
 //! What experts give.
-ghost use Rattle.std.specs.Prelude.{◌≡◌, true, length, IfOk};
+ghost use Rattle.std.specs.Prelude.{◌≡◌, true, IfOk};
 ghost use Rattle.std.specs.List.{list_all};
 ghost use Rattle.expert_rules.specs.Chosen.{chosen};
 ghost use Rattle.expert_rules.specs.Enrich.{enriched};
@@ -45,11 +45,11 @@ pub fn prefix_gives(
     queues: &QueueList,
     fields: &Fields,
 ) -> Result<Given, OutOfMemory>
-    requires { length table.now.sets ≡ length table.now.networks }
     ensures given { IfOk result (λ g. g ≡ expert_gives queues.now (enriched table.now.networks table.now.sets table.now.overwrite fields.now)) }
     ensures lawful { IfOk result (λ g. are_lawful g ≡ true) }
 {
-    let found = enrich(alloc, &table.networks, &table.sets, table.overwrite, fields)?;
+    let rows = table.rows();
+    let found = enrich(alloc, &rows.networks, &rows.sets, rows.overwrite, fields)?;
     event_gives(alloc, queues, found)
 }
 

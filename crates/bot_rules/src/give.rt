@@ -5,7 +5,6 @@ ghost use Rattle.feed_rows.specs.Notes.{kind_note};
 ghost use Rattle.step_code.specs.declared.rules.Given.TheVariants as given;
 ghost use Rattle.bot_rules.specs.Gives.{are_lawful, body_gives, job_gives, takes};
 ghost use Rattle.bot_rules.specs.Jobs.{role_for};
-ghost use Rattle.bot_rules.specs.Ready.{IsReady};
 
 use crate::Job;
 use crate::body::message_of;
@@ -68,7 +67,6 @@ fn job_gives(
     since: Moment,
     message: &Message,
 ) -> Result<Given, OutOfMemory>
-    requires ready { IsReady job.old }
     requires body { strict body.now ≡ Some message.now }
     requires taken { takes (role_for job.old) message.now.kind ≡ true }
     ensures given { IfOk result (λ g. g ≡ job_gives job.old queues.now since.0 message.now.fields) }
@@ -96,7 +94,6 @@ pub fn body_gives(
     body: &Blob,
     since: Moment,
 ) -> Result<Given, OutOfMemory>
-    requires { IsReady job.old }
     ensures given { IfOk result (λ g. g ≡ body_gives job.old queues.now since.0 body.now) }
     ensures same { job.new ≡ job.old }
 {

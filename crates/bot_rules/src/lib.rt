@@ -13,9 +13,11 @@ mod planned;
 mod report;
 mod rules;
 mod sieves;
+mod table;
 mod work;
 
-pub use job::{Job, SieveJob, Table};
+pub use job::{Job, SieveJob};
 pub use plan::IntelPlan;
 pub use rules::IntelRules;
+pub use table::{Rows, Table, TableList};
 pub use work::IntelWork;

@@ -4,22 +4,27 @@ ghost use Rattle.std.specs.Result.{result_ok};
 ghost use Rattle.config_bundle.specs.declared.bundle.Bundle.{Bundle as AnyBundle};
 ghost use Rattle.runtime_config.specs.Load.{load};
 ghost use Rattle.bot_rules.specs.Intel.{facts_in, plan_in, planned_in};
+ghost use Rattle.bot_rules.specs.Jobs.{table_of};
 
 use crate::facts::all_facts;
-use crate::planned::planned_named;
+use crate::planned::place_of_bot;
+use crate::table::all_tables;
+use crate::{Table, TableList};
 use base_types::{Blob, BotName, OutOfMemory};
 use config_bundle::{Bundle, BundleBad, bundle_read};
 use runtime_config::{LoadFault, Plan, Planned, PlannedList, load};
 use std::alloc::Global;
 use std::marker::Model;
+use std::snapshot::Snapshot;
 use step_code::{FactsList, PlanFault};
 
-/// A bundle with its bots. Contracts see its bytes and the facts of the bots.
-#[derive(Debug, Drop)]
+/// The bots of a bundle. Contracts see the bundle's bytes and the facts of the bots.
+#[derive(Drop)]
 pub struct IntelPlan {
-    bundle: Blob,
+    bundle: Snapshot<Blob>,
     bots: PlannedList,
     facts: FactsList,
+    tables: TableList,
 }
 
 impl Model for IntelPlan {
@@ -27,9 +32,9 @@ impl Model for IntelPlan {
 
     ghost Value = { Planning };
 
-    ghost view = { λ p. record { bundle = p.bundle; bots = p.facts } };
+    ghost view = { λ p. record { bundle = p.bundle.value; bots = p.facts } };
 
-    ghost invariant = { λ p. IsPlanning p.bundle p.bots p.facts };
+    ghost invariant = { λ p. IsPlanning p.bundle.value p.bots p.facts p.tables };
 }
 
 fn loaded(alloc: Global, bundle: &Bundle) -> Result<Plan, PlanFault>
@@ -62,10 +67,12 @@ impl IntelPlan {
         ensures { IfOk result (λ ready. ready.bundle ≡ bundle.now) }
     {
         let facts = all_facts(alloc, plan.bots.as_slice())?;
+        let tables = all_tables(alloc, plan.bots.as_slice())?;
         Ok(IntelPlan {
-            bundle: bundle.copy(alloc)?,
+            bundle: Snapshot::of(bundle),
             bots: plan.bots,
             facts,
+            tables,
         })
     }
 
@@ -80,18 +87,15 @@ impl IntelPlan {
         }
     }
 
-    /// The bundle's bytes.
-    pub(crate) fn bundle(&self) -> &Blob
-        ensures { result.now ≡ self.now.bundle }
+    /// The bot of this name, as it is planned, and the table of a prefix expert.
+    pub(crate) fn planned(&self, name: &BotName) -> Option<(&Planned, &Option<Table>)>
+        ensures { MatchOption result (planned_in (record { bundle = self.now.bundle; bot = name.now }) ≡ None)
+            (λ p. (planned_in (record { bundle = self.now.bundle; bot = name.now }) ≡ Some p.0.now) × (p.1.now ≡ table_of p.0.now.«module»)) }
     {
-        &self.bundle
-    }
-
-    /// The bot of this name, as it is planned.
-    pub(crate) fn planned(&self, name: &BotName) -> Option<&Planned>
-        ensures { MatchOption result (planned_in (record { bundle = self.now.bundle; bot = name.now }) ≡ None) (λ p. planned_in (record { bundle = self.now.bundle; bot = name.now }) ≡ Some p.now) }
-    {
-        planned_named(self.bots.as_slice(), name)
+        match place_of_bot(self.bots.as_slice(), name) {
+            Some(i) => Some((self.bots.at(i), self.tables.at(i))),
+            None => None,
+        }
     }
 
     /// The facts of the bots, in byte order of their names.

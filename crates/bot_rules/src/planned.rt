@@ -2,26 +2,15 @@
 ghost use Rattle.std.specs.Prelude.{◌≡◌, find, position, Some, None, MatchOption};
 ghost use Rattle.std.specs.Str.{bytes_eq};
 ghost use Rattle.bot_rules.specs.Facts.{route_named};
-ghost use Rattle.bot_rules.specs.Intel.{planned_named};
 
 use base_types::BotName;
 use runtime_config::{Planned, Route};
 
-fn place_of_bot(bots: &[Planned], name: &BotName) -> Option<usize>
+/// The place of the bot of this name.
+pub fn place_of_bot(bots: &[Planned], name: &BotName) -> Option<usize>
     ensures { result ≡ position (λ p. bytes_eq p.bot name.now) bots.now }
 {
     bots.iter().position(|p| p.bot == *name)
-}
-
-/// The bot of this name.
-#[tactic(auto, using(base_types::proofs::Found::find_placed, base_types::proofs::Found::find_missing))]
-pub fn planned_named<'p>(bots: &'p [Planned], name: &BotName) -> Option<&'p Planned>
-    ensures { MatchOption result (planned_named name.now bots.now ≡ None) (λ p. planned_named name.now bots.now ≡ Some p.now) }
-{
-    match place_of_bot(bots, name) {
-        Some(i) => Some(&bots[i]),
-        None => None,
-    }
 }
 
 fn place_of_route(routes: &[Route], path: &str) -> Option<usize>

@@ -73,7 +73,7 @@ impl Rules for IntelRules {
         now: Moment,
     ) -> Result<Blob, OutOfMemory> {
         match plan.planned(bot) {
-            Some(planned) => module_reports(alloc, &planned.module, piece, now),
+            Some((planned, _)) => module_reports(alloc, &planned.module, piece, now),
             None => Err(OutOfMemory),
         }
     }
@@ -85,7 +85,7 @@ impl Rules for IntelRules {
         bot: &BotName,
     ) -> Result<IntelWork, OutOfMemory> {
         match plan.planned(bot) {
-            Some(planned) => IntelWork::new(alloc, plan.bundle(), bot, planned),
+            Some((planned, table)) => { IntelWork::new(alloc, plan, bot, planned, table) }
             None => Err(OutOfMemory),
         }
     }

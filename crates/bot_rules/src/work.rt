@@ -1,31 +1,29 @@
 //! A bot that is ready for work.
-ghost use Rattle.std.specs.Prelude.{◌≡◌, length, Some, IfOk};
-ghost use Rattle.bot_rules.specs.Jobs.{csv_rule, dedup_rule, job_of, json_rule, style_of};
+ghost use Rattle.std.specs.Prelude.{◌≡◌, Some, IfOk, option_map};
+ghost use Rattle.bot_rules.specs.Jobs.{csv_rule, dedup_rule, job_of, json_rule, style_of, table_of};
 ghost use Rattle.bot_rules.specs.Intel.{bot_gives, planned_in};
-ghost use Rattle.bot_rules.specs.Ready.{IsReady};
 
-use crate::copies::{columns_of, copy_routes, copy_sets, copy_texts};
+use crate::copies::{columns_of, copy_routes, copy_texts};
 use crate::facts::{DEFAULT_PATH, queues_on};
 use crate::give::body_gives;
-use crate::{Job, SieveJob, Table};
+use crate::{IntelPlan, Job, SieveJob, Table};
 use base_types::{Blob, BotName, Moment, OutOfMemory, QueueList, Text, TextList};
 use event_model::Fields;
 use expert_rules::DedupRule;
 use feed_csv::CsvRule;
 use feed_json::{JsonRule, Style};
-use module_settings::{FieldsList, NetworkList};
-use prefix_table::PrefixTable;
 use runtime_config::{Module, NamesList, Planned, Route};
 use sieve_eval::Prepared;
 use sieve_tree::Sieve;
 use std::alloc::Global;
 use std::marker::Model;
+use std::snapshot::Snapshot;
 use step_code::Given;
 
 /// A bot of a bundle that is ready for work. Contracts see the bundle's bytes and the bot's name.
 #[derive(Drop)]
 pub struct IntelWork {
-    bundle: Blob,
+    plan: Snapshot<IntelPlan>,
     bot: BotName,
     queues: QueueList,
     job: Job,
@@ -37,9 +35,9 @@ impl Model for IntelWork {
 
     ghost Value = { Task };
 
-    ghost view = { λ w. record { bundle = w.bundle; bot = w.bot } };
+    ghost view = { λ w. record { bundle = w.plan.value.bundle; bot = w.bot } };
 
-    ghost invariant = { λ w. IsWorkOf (record { bundle = w.bundle; bot = w.bot }) w.queues w.job };
+    ghost invariant = { λ w. IsWorkOf (record { bundle = w.plan.value.bundle; bot = w.bot }) w.queues w.job };
 }
 
 fn style_of(word: &Text) -> Style
@@ -108,33 +106,25 @@ fn dedup(
     }))
 }
 
-// The most networks that a table takes. A plan has fewer.
-const MOST_NETWORKS: usize = 0x8000_0000;
-
-// The table of a prefix expert. A plan has as many sets as networks.
-fn table(
-    alloc: Global,
-    networks: &NetworkList,
-    sets: &FieldsList,
-    overwrite: bool,
-) -> Result<Table, OutOfMemory>
-    ensures table { IfOk result (λ t. t ≡ record { networks = networks.now; sets = sets.now; overwrite = overwrite }) }
-    ensures ready { IfOk result (λ t. length t.sets ≡ length t.networks) }
+// A prefix expert shares the table of its plan.
+fn prefix(table: &Option<Table>) -> Result<Job, OutOfMemory>
+    ensures { IfOk result (λ job. option_map Job.Prefix table.now ≡ Some job) }
 {
-    if networks.len() >= MOST_NETWORKS || networks.len() != sets.len() {
-        return Err(OutOfMemory);
+    match table {
+        Some(table) => Ok(Job::Prefix(table.share()?)),
+        None => Err(OutOfMemory),
     }
-    Ok(Table {
-        networks: PrefixTable::build(alloc, networks)?,
-        sets: copy_sets(alloc, sets.as_slice())?,
-        overwrite,
-    })
 }
 
 // What a bot with these paths and this module does with messages. A collector gets none.
-fn job_of(alloc: Global, routes: &[Route], module: &Module) -> Result<Job, OutOfMemory>
-    ensures job { IfOk result (λ job. job_of routes.now module.now ≡ Some job) }
-    ensures ready { IfOk result IsReady }
+fn job_of(
+    alloc: Global,
+    routes: &[Route],
+    module: &Module,
+    table: &Option<Table>,
+) -> Result<Job, OutOfMemory>
+    requires { table.now ≡ table_of module.now }
+    ensures { IfOk result (λ job. job_of routes.now module.now ≡ Some job) }
 {
     match module {
         Module::Collector { .. } => Err(OutOfMemory),
@@ -153,11 +143,7 @@ fn job_of(alloc: Global, routes: &[Route], module: &Module) -> Result<Job, OutOf
             ttl,
             cache_max,
         } => dedup(alloc, keys, *keep, *ttl, *cache_max),
-        Module::Prefix {
-            networks,
-            sets,
-            overwrite,
-        } => Ok(Job::Prefix(table(alloc, networks, sets, *overwrite)?)),
+        Module::Prefix { .. } => prefix(table),
         Module::Taxonomy => Ok(Job::Taxonomy),
         Module::Output => Ok(Job::Output),
     }
@@ -167,18 +153,20 @@ impl IntelWork {
     /// The work of a planned bot of a bundle.
     pub(crate) fn new(
         alloc: Global,
-        bundle: &Blob,
+        plan: &IntelPlan,
         bot: &BotName,
         planned: &Planned,
+        table: &Option<Table>,
     ) -> Result<IntelWork, OutOfMemory>
-        requires { planned_in (record { bundle = bundle.now; bot = bot.now }) ≡ Some planned.now }
-        ensures { IfOk result (λ work. work ≡ record { bundle = bundle.now; bot = bot.now }) }
+        requires planned { planned_in (record { bundle = plan.now.bundle; bot = bot.now }) ≡ Some planned.now }
+        requires table { table.now ≡ table_of planned.now.«module» }
+        ensures { IfOk result (λ work. work ≡ record { bundle = plan.now.bundle; bot = bot.now }) }
     {
         Ok(IntelWork {
-            bundle: bundle.copy(alloc)?,
+            plan: Snapshot::of(plan),
             bot: *bot,
             queues: queues_on(alloc, DEFAULT_PATH, planned.paths.as_slice())?,
-            job: job_of(alloc, planned.paths.as_slice(), &planned.module)?,
+            job: job_of(alloc, planned.paths.as_slice(), &planned.module, table)?,
         })
     }
 

@@ -25,9 +25,10 @@ abbrev pub found_at : CutRule → Option (List ℕ) → ℕ → Found
 found_at rule None at = found.Absent
 found_at rule (Some feed) at = if nat_lt (length feed) at then found.Short (length feed) else within_limit (next rule feed at)
 
--- whatever a feed is, a piece of bytes ends behind the offset and within the limit, and a feed that is shorter ends before it
+-- whatever a feed is, a piece of bytes, at least one, ends behind the offset and within the limit, and a feed that is shorter
+-- ends before it
 abbrev pub IsAhead : ℕ → Found → Type 0
-IsAhead at (found.Piece cut) = IsPiece at cut.upto × AreBytes cut.piece
+IsAhead at (found.Piece cut) = IsPiece at cut.upto × AreBytes cut.piece × (0 < length cut.piece)
 IsAhead at found.End = Unit {0}
 IsAhead at found.Absent = Unit {0}
 IsAhead at (found.Short have) = have < at

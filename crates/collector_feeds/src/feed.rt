@@ -23,7 +23,7 @@ pub struct CollectorFeed<S: Source> {
 }
 
 impl<S: Source> Model for CollectorFeed<S> {
-    ghost use Rattle.std.specs.Prelude.{◌≤◌};
+    ghost use Rattle.std.specs.Prelude.{◌≤◌, ◌+◌};
     ghost use Rattle.report_cut.specs.Pieces.{longest_line};
     ghost use Rattle.collector_feeds.specs.Standing.{FeedView};
     ghost use Rattle.collector_feeds.specs.Stage.{read_in, source_in, HasRule};
@@ -32,7 +32,7 @@ impl<S: Source> Model for CollectorFeed<S> {
 
     ghost view = { λ f. record { bot = f.bot; facts = f.facts; retries = f.retries; failed = f.failed; source = source_in S.source f.stage; read = read_in f.stage; kept = f.kept } };
 
-    ghost invariant = { λ f. HasRule f.facts f.stage × (1 ≤ f.facts.chunk_size) × (f.facts.chunk_size ≤ longest_line) };
+    ghost invariant = { λ f. HasRule f.facts f.stage × (1 ≤ f.facts.chunk_size) × (f.facts.chunk_size ≤ longest_line) × (f.failed ≤ f.retries + 1) };
 }
 
 impl<S: Source> CollectorFeed<S> {

@@ -3,6 +3,7 @@ ghost use Rattle.base_types.specs.Lists.{AreBytes};
 ghost use Rattle.edge_traits.specs.Count.{Rose};
 ghost use Rattle.edge_traits.specs.Shelf.{content_of, count_on, IsListed};
 ghost use Rattle.report_cut.specs.Pieces.{longest_line, next, Piece};
+ghost use Rattle.feed_reader.specs.Ahead.{IsOnwardPiece};
 ghost use Rattle.step_code.specs.declared.rules.FeedFacts.{FeedFacts};
 ghost use Rattle.step_code.specs.Sound.{last_number};
 ghost use Rattle.collector_feeds.specs.Found.{found_at, rule_of, within_limit, IsAhead, MayFind};
@@ -47,6 +48,9 @@ pub fn look<H: Shelf>(
     ensures facts { feed.new.facts ≡ feed.old.facts }
     ensures retries { feed.new.retries ≡ feed.old.retries }
     ensures failed { IsErrOf result LookFault.Failed → feed.new.retries < feed.new.failed }
+
+    // In all looks at a feed no more tries fail than one and those that may be made again.
+    ensures tries { feed.new.failed ≤ feed.new.retries + 1 }
 
     // Each failure is counted, by the shelf or by the source.
     ensures counted { (first : ℕ) → RoseBy feed.old.failed first (all_faults (H.shelf shelf.old) feed.old) → RoseBy feed.new.failed first (all_faults (H.shelf shelf.new) feed.new) }
@@ -245,7 +249,7 @@ fn read_on<S: Source>(reader: FeedReader<S>) -> (Stage<S>, Result<Found, ReaderF
 // A piece, where it ends within the longest feed.
 fn within_limit(cut: Cut) -> Found
     ensures found { result ≡ within_limit (Piece cut) }
-    ensures ahead { (at : ℕ) → at < cut.upto → IsAhead at result }
+    ensures ahead { (at : ℕ) → IsOnwardPiece at cut → IsAhead at result }
 {
     are_bytes(cut.piece.bytes());
     if cut.upto > LONGEST_FEED {

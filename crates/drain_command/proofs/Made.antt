@@ -1,7 +1,8 @@
 -- The steps that a call makes, and what they leave of a store's history.
-use Rattle.std.proofs.Common.{◌≡◌, ◌≢◌, ◌≤◌, ◌-◌, ◌++◌, [], ℕ, List, length, take, Option, Some, None, Ok, Err, inl, inr, refl, sym, ap, subst, ◌∙◌, arith, length-append}
+use Rattle.std.proofs.Common.{◌≡◌, ◌≢◌, ◌≤◌, ◌+◌, ◌-◌, ◌++◌, [], ℕ, List, length, take, Option, Some, None, Ok, Err, inl, inr, refl, sym, ap, subst, ◌∙◌, arith, length-append}
 use Rattle.std.proofs.lemmas.List.{append-nil}
 use Rattle.edge_traits.specs.Disk.{DiskView, Image}
+use Rattle.edge_traits.specs.Shelf.{ShelfView}
 use Rattle.edge_traits.specs.Sink.{SinkView}
 use Rattle.edge_traits.proofs.Outputs.{Took-nothing}
 use Rattle.step_code.specs.declared.base.Base.{Base}
@@ -11,20 +12,23 @@ use Rattle.step_code.specs.History.{replay}
 use Rattle.step_code.specs.Rules.{Meaning}
 use Rattle.store_image.specs.Opens.{Opens}
 use Rattle.store_image.specs.Stands.{IsSealOf}
-use Rattle.journal_book.specs.Book.{BookView, IsKept}
+use Rattle.journal_book.specs.Book.{BookView}
 use Rattle.journal_book.specs.Opening.{IsReopenFault, StandsNow}
 use Rattle.journal_book.specs.Outputs.{AreCompleted, AreWritten, HaveNoneSealed, IsNoDamage}
 use Rattle.journal_book.specs.declared.book_fault.BookFault.{BookFault}
 use Rattle.journal_book.specs.declared.book_fault.BookFault.TheVariants as fault
 use Rattle.book_runs.specs.GoesOn.{GoesOn}
-use Rattle.book_runs.proofs.Going.{goes_further}
+use Rattle.book_runs.proofs.Going.{goes_further, longer_on}
 use Rattle.store_calls.specs.Calls.{IsOpened as IsOpenedCall}
-use Rattle.store_calls.proofs.Called.{called, count_called, sealed_state}
+use Rattle.store_calls.proofs.Called.{called, count_called, sealed_state, AllAccounted}
+use Rattle.turn_order.specs.Turn.{collectors}
 use Rattle.drain_turns.specs.Drained.{Drains, Place}
 use Rattle.drain_turns.specs.Turn.{Outside}
 use Rattle.drain_turns.specs.declared.end.TurnsEnd.{TurnsEnd}
+use Rattle.drain_turns.specs.declared.end.TurnsEnd.TheVariants as last
 use Rattle.drain_loop.specs.Calls.{opening_of, place_with, IsDrained, IsOpened}
-use Rattle.drain_command.specs.Drained.{start, Drained, IsCallIn, IsDrainCall, IsStill}
+use Rattle.drain_loop.specs.Feeds.{FailedBeyond}
+use Rattle.drain_command.specs.Drained.{start, Drained, IsCallIn, IsDrainCall, IsFailedBeyond, IsStill}
 use Rattle.drain_command.specs.Finished.{end_of, AreCompletedAt, AreWrittenAt, IsFinished, IsTurned}
 use Rattle.drain_command.specs.declared.draining.Asked.{Asked}
 use Rattle.drain_command.specs.declared.end.DrainEnd.{DrainEnd}
@@ -39,13 +43,14 @@ module _ {D R : Type 0} {disk : D → DiskView} where
     made = opened.made ++ drained.made;
     drains = opened.opens drained.made why drained.drains;
     run = goes_further old mid new opened.made drained.made opened.goes_on drained.goes_on;
+    book = longer_on o.meaning old mid new opened.made drained.made opened.book drained.book;
   }
 
   -- the opening alone
   pub turned_off : (o : Outside) (asked : Asked) (old new : BookView D R) (why : TurnsEnd)
       → IsOpened disk o (place_with (opening_of o.meaning old.state asked.opening.bundle asked.opening.rounds) old asked.left) [] old new (Err why)
       → IsTurned disk o asked old new why
-  turned_off o asked old new why opened = record { made = opened.made; drains = opened.opens; run = opened.goes_on }
+  turned_off o asked old new why opened = record { made = opened.made; drains = opened.opens; run = opened.goes_on; book = opened.book }
 
   -- a run that makes no more steps behind another
   pub still_runs : (m : Meaning) (old mid new : BookView D R) (made : List Step) → GoesOn disk m old mid made → GoesOn disk m mid new [] → GoesOn disk m old new made
@@ -56,32 +61,37 @@ pub record Reopened {D R : Type 0} (disk : D → DiskView) (m : Meaning) (files 
   pub all : book.kept ≡ length book.steps
   pub state : book.state ≡ replay m book.base book.steps
   pub opens : Opens m files book.generation book.base book.steps
+  pub tells : (now : Image) × ((disk book.disk).told ≡ Some now)
   pub call : (first : Base) (steps more : List Step) → StandsNow m first steps more (disk old) → IsOpenedCall disk m first steps more old book
 
-module _ {D R : Type 0} {disk : D → DiskView} (o : Outside) (files : Image) (asked : Asked) (old : D) (opened mid later : BookView D R)
+module _ {D R : Type 0} {disk : D → DiskView} (o : Outside) (accounts : AllAccounted o.meaning) (files : Image) (asked : Asked) (old : D) (opened mid later : BookView D R)
     (is : Reopened disk o.meaning files old opened) (why : TurnsEnd) (turned : IsTurned disk o asked opened mid why) (behind : GoesOn disk o.meaning mid later []) where
-  run : GoesOn disk o.meaning opened later turned.made
+  abbrev run : GoesOn disk o.meaning opened later turned.made
   run = still_runs o.meaning opened mid later turned.made turned.run behind
+
+  -- so many of the steps that were made are durable
+  abbrev made_durable : ℕ
+  made_durable = (length run.archived + later.kept) - opened.kept
 
   place_is : place_with (opening_of o.meaning opened.state asked.opening.bundle asked.opening.rounds) opened asked.left ≡ start o.meaning opened.base opened.steps asked
   place_is = ap (λ (s : Base). record { opening = opening_of o.meaning s asked.opening.bundle asked.opening.rounds; left = asked.left; steps = opened.steps; state = s }) is.state
 
   state_now : mid.state ≡ replay o.meaning (replay o.meaning opened.base opened.steps) turned.made
-  state_now = ap (λ (b : BookView D R). b.state) turned.run.book ∙ ap (λ (s : Base). replay o.meaning s turned.made) is.state
+  state_now = ap (λ (b : BookView D R). b.state) turned.book ∙ ap (λ (s : Base). replay o.meaning s turned.made) is.state
 
   call_in : (durable : ℕ) (first : Base) (steps more : List Step) → (was : IsOpenedCall disk o.meaning first steps more old opened)
-      → later.kept - opened.kept ≡ durable → IsCallIn o.meaning first steps more (disk old) (disk later.disk) (replay o.meaning opened.base opened.steps) turned.made durable
+      → made_durable ≡ durable → IsCallIn disk o.meaning first steps more (disk old) (disk later.disk) (replay o.meaning opened.base opened.steps) turned.made durable
   call_in durable first steps more was number =
-      subst (λ (n : ℕ). IsCallIn o.meaning first steps more (disk old) (disk later.disk) (replay o.meaning opened.base opened.steps) turned.made n) number
-      (record { call = called first steps more turned.made old opened later was run; reads = seals_read })
+      subst (λ (n : ℕ). IsCallIn disk o.meaning first steps more (disk old) (disk later.disk) (replay o.meaning opened.base opened.steps) turned.made n) number
+      (record { call = called first steps more turned.made old opened later was run accounts; reads = seals_read })
     where
-      seals_read : IsSealOf (replay o.meaning first (steps ++ take (called first steps more turned.made old opened later was run).count more)) (replay o.meaning opened.base opened.steps)
+      seals_read : IsSealOf (replay o.meaning first (steps ++ take (called first steps more turned.made old opened later was run accounts).count more)) (replay o.meaning opened.base opened.steps)
       seals_read =
-          subst (λ (n : ℕ). IsSealOf (replay o.meaning first (steps ++ take n more)) (replay o.meaning opened.base opened.steps)) (sym (count_called first steps more turned.made old opened later was run))
+          subst (λ (n : ℕ). IsSealOf (replay o.meaning first (steps ++ take n more)) (replay o.meaning opened.base opened.steps)) (sym (count_called first steps more turned.made old opened later was run accounts))
           (subst (λ (s : Base). IsSealOf (replay o.meaning first (steps ++ take was.reopened.count more)) s) is.state (sealed_state first steps more turned.made old opened later was run))
 
   -- what the call drained
-  pub drained : (durable : ℕ) → later.kept - opened.kept ≡ durable → Drained o files asked (disk old) (disk later.disk) why
+  pub drained : (durable : ℕ) → made_durable ≡ durable → Drained disk o files asked (disk old) (disk later.disk) why
   drained durable number = record {
     generation = opened.generation;
     base = opened.base;
@@ -96,14 +106,11 @@ module _ {D R : Type 0} {disk : D → DiskView} (o : Outside) (files : Image) (a
   }
 
   -- all of it is durable where all steps of the book are
-  pub all_number : later.kept ≡ length later.steps → later.kept - opened.kept ≡ length turned.made
-  all_number all = number (ap length steps_now) all is.all
+  all_number : later.kept ≡ length later.steps → made_durable ≡ length turned.made
+  all_number all = number all is.all (ap length run.splits)
     where
-      steps_now : later.steps ≡ opened.steps ++ turned.made
-      steps_now = ap (λ (b : BookView D R). b.steps) run.book
-
-      number : length later.steps ≡ length (opened.steps ++ turned.made) → later.kept ≡ length later.steps → opened.kept ≡ length opened.steps → later.kept - opened.kept ≡ length turned.made
-      number same now was = omega (arith, same, now, was, length-append opened.steps turned.made)
+      number : later.kept ≡ length later.steps → opened.kept ≡ length opened.steps → length (opened.steps ++ turned.made) ≡ length (run.archived ++ later.steps) → made_durable ≡ length turned.made
+      number now was splits = omega (arith, now, was, splits, length-append opened.steps turned.made, length-append run.archived later.steps)
 
   -- each output is whole where the outputs were completed
   whole : (told : Option Image) (after : Image) (completes : Image → Type 0) → (told ≡ None → (disk later.disk).told ≡ None) → (disk later.disk).told ≡ Some after → ((before : Image) → told ≡ Some before → completes before) → (before : Image) × completes before
@@ -111,30 +118,37 @@ module _ {D R : Type 0} {disk : D → DiskView} (o : Outside) (files : Image) (a
   whole (Some before) after completes untold tells each = (before, each before refl)
 
   -- by how it ended
-  pub drain_called : (e : DrainEnd) (a b : SinkView) → IsFinished mid.state why e a b → (e ≢ end.Disk → later.kept ≡ length later.steps)
+  pub drain_called : (now : ShelfView) → IsFailedBeyond o now mid.state why → (e : DrainEnd) (a b : SinkView) → IsFinished mid.state why e a b → (e ≢ end.Disk → later.kept ≡ length later.steps)
       → ((before after : Image) → (disk mid.disk).told ≡ Some before → (disk later.disk).told ≡ Some after → AreCompletedAt e (disk later.disk).may_leave mid.state.outs before after)
       → ((first : Base) (history : List Step) → StandsNow o.meaning first history [] (disk later.disk) → HaveNoneSealed first.outs → AreWrittenAt e (AreWritten o.meaning first history (disk later.disk)))
-      → ((first : Base) (past : List Step) (file at : ℕ) → IsKept disk o.meaning first past mid → e ≢ end.Damaged file at)
-      → ((disk mid.disk).told ≡ None → (disk later.disk).told ≡ None) → IsDrainCall o files asked (disk old) (disk later.disk) e a b
+      → ((files : Image) (file at : ℕ) → (disk mid.disk).told ≡ Some files → e ≢ end.Damaged file at)
+      → ((disk mid.disk).told ≡ None → (disk later.disk).told ≡ None) → IsDrainCall disk o now files asked (disk old) (disk later.disk) e a b
   unfolding drained
-  drain_called (end.Turns told) a b finished all completed written sound untold =
-      subst (λ (w : TurnsEnd). IsDrainCall o files asked (disk old) (disk later.disk) (end.Turns w) a b) (sym finished.0)
-      (finished.1, drained (length turned.made) (all_number (all (λ same. cc (same)))), refl, record { completed = λ after tells. whole (disk mid.disk).told after _ untold tells (λ before was. completed before after was tells); written = written }, finished.2)
-  drain_called end.Sink a b finished all completed written sound untold =
-      (why, finished.0, drained (length turned.made) (all_number (all (λ same. cc (same)))), refl, record { completed = λ after tells. whole (disk mid.disk).told after _ untold tells (λ before was. completed before after was tells); written = written }, finished.1)
-  drain_called end.Memory a b finished all completed written sound untold = (finished, inr (why, drained (length turned.made) (all_number (all (λ same. cc (same)))), refl))
-  drain_called end.Disk a b finished all completed written sound untold = (finished, inr (why, drained (later.kept - opened.kept) refl))
-  drain_called (end.Store have) a b finished all completed written sound untold = absurd finished
-  drain_called (end.Damaged file at) a b finished all completed written sound untold = (
-    finished,
-    inr (
-      why,
-      drained (length turned.made) (all_number (all (λ same. cc (same)))),
-      refl,
-      λ first steps more was.
-          let opened_on = (is.call first steps more was).reopened in sound first opened_on.past file at (turned.run.kept first opened_on.past opened_on.kept) refl,
-    ),
-  )
+  drain_called now failed (end.Turns told) a b finished all completed written undamaged untold =
+      subst (λ (w : TurnsEnd). IsDrainCall disk o now files asked (disk old) (disk later.disk) (end.Turns w) a b) (sym finished.0)
+      (finished.1, drained (length turned.made) (all_number (all (λ same. cc (same)))), refl, record { completed = λ after tells. whole (disk mid.disk).told after _ untold tells (λ before was. completed before after was tells); written = written }, finished.2, failed)
+  drain_called now failed end.Sink a b finished all completed written undamaged untold =
+      (why, finished.0, drained (length turned.made) (all_number (all (λ same. cc (same)))), refl, record { completed = λ after tells. whole (disk mid.disk).told after _ untold tells (λ before was. completed before after was tells); written = written }, finished.1, failed)
+  drain_called now failed end.Memory a b finished all completed written undamaged untold = (finished, inr (why, drained (length turned.made) (all_number (all (λ same. cc (same)))), refl))
+  drain_called now failed end.Disk a b finished all completed written undamaged untold = (finished, inr (why, drained made_durable refl))
+  drain_called now failed (end.Store have) a b finished all completed written undamaged untold = absurd finished
+  drain_called now failed (end.Damaged file at) a b finished all completed written undamaged untold =
+      let mid_told = (turned.run.others is.tells.0 is.tells.1).told is.tells.0 is.tells.1 in absurd (undamaged mid_told.0 file at mid_told.1 refl)
+
+-- a feed that failed ended the turns beyond these retries
+pub failed_beyond : (o : Outside) (now : ShelfView) (s : Base) (end_is : TurnsEnd) → ((name : List ℕ) → end_is ≡ last.Failed name → FailedBeyond (collectors o.meaning s) o.shelf now name) → IsFailedBeyond o now s end_is
+failed_beyond o now s last.Idle each = tt
+failed_beyond o now s last.Left each = tt
+failed_beyond o now s (last.Absent name) each = tt
+failed_beyond o now s (last.Failed name) each = each name refl
+failed_beyond o now s (last.Short have need) each = tt
+failed_beyond o now s (last.LongLine bot line) each = tt
+failed_beyond o now s (last.LongFeed bot) each = tt
+failed_beyond o now s (last.Halted bot) each = tt
+failed_beyond o now s (last.Spent next) each = tt
+failed_beyond o now s (last.Full bytes) each = tt
+failed_beyond o now s last.Disk each = tt
+failed_beyond o now s last.Memory each = tt
 
 -- outputs that are complete are so at each end
 pub completed_at : (e : DrainEnd) (may_leave : ℕ → List ℕ → Type 0) (outs : List Output) (before after : Image) → AreCompleted may_leave outs before after → AreCompletedAt e may_leave outs before after
@@ -162,10 +176,10 @@ ends_undamaged fault.Refused file at none = λ same. cc (same)
 ends_undamaged fault.OutOfMemory file at none = λ same. cc (same)
 
 -- a store that couldn't be opened
-pub drain_closed : (o : Outside) (files : Image) (asked : Asked) (old new : DiskView) (told : Option Image) (f : BookFault) (sink : SinkView)
-    → told ≡ Some files → IsReopenFault o.meaning told f → IsStill o.meaning old new → IsDrainCall o files asked old new (end_of f) sink sink
-drain_closed o files asked old new told fault.Disk sink tells bad still = (Took-nothing sink, inl still)
-drain_closed o files asked old new told (fault.Damaged file at) sink tells bad still = (Took-nothing sink, inl ((bad files tells).0, (bad files tells).1, still))
-drain_closed o files asked old new told (fault.Store have) sink tells bad still = (bad.0, bad.1 files tells, Took-nothing sink, still)
-drain_closed o files asked old new told fault.Refused sink tells bad still = absurd bad
-drain_closed o files asked old new told fault.OutOfMemory sink tells bad still = (Took-nothing sink, inl still)
+pub drain_closed : {D : Type 0} (disk : D → DiskView) (o : Outside) (now : ShelfView) (files : Image) (asked : Asked) (old new : DiskView) (told : Option Image) (f : BookFault) (sink : SinkView)
+    → told ≡ Some files → IsReopenFault o.meaning told f → IsStill o.meaning old new → IsDrainCall disk o now files asked old new (end_of f) sink sink
+drain_closed disk o now files asked old new told fault.Disk sink tells bad still = (Took-nothing sink, inl still)
+drain_closed disk o now files asked old new told (fault.Damaged file at) sink tells bad still = (Took-nothing sink, (bad files tells).0, (bad files tells).1, still)
+drain_closed disk o now files asked old new told (fault.Store have) sink tells bad still = (bad.0, bad.1 files tells, Took-nothing sink, still)
+drain_closed disk o now files asked old new told fault.Refused sink tells bad still = absurd bad
+drain_closed disk o now files asked old new told fault.OutOfMemory sink tells bad still = (Took-nothing sink, inl still)

@@ -1,21 +1,22 @@
 -- A drain that nothing hinders.
-use Rattle.std.proofs.Common.{◌≡◌, ◌<◌, ⊎_elim, ℕ, Bool, true, false, List, [], ◌∷◌, ◌++◌, length, map, Option, Some, None, refl, sym, ap, subst, ◌∙◌, arith}
+use Rattle.std.proofs.Common.{◌≡◌, ◌<◌, ℕ, Bool, true, false, List, [], ◌∷◌, ◌++◌, length, map, Option, Some, None, refl, ap, arith}
 use Rattle.std.specs.List.{AllByRecursion}
 use Rattle.edge_traits.specs.Disk.{DiskView, Image, IsImage}
+use Rattle.edge_traits.specs.Shelf.{ShelfView}
 use Rattle.edge_traits.specs.Sink.{SinkView}
 use Rattle.step_code.specs.declared.base.Base.{Base}
 use Rattle.step_code.specs.declared.rules.Facts.{Facts}
 use Rattle.step_code.specs.declared.step.Step.{Step}
 use Rattle.step_code.specs.declared.step.StepKind.{StepKind}
-use Rattle.step_code.specs.History.{replay}
-use Rattle.step_code.specs.Rules.{AreSound, Meaning}
-use Rattle.step_code.specs.State.{bots_in_force}
+use Rattle.step_code.specs.History.{first, replay}
+use Rattle.step_code.specs.Rules.{Meaning}
+use Rattle.store_image.specs.Damage.{IsDamagedStore}
 use Rattle.store_image.specs.Files.{root_file}
-use Rattle.store_image.proofs.Damaged.{opens_whole}
-use Rattle.store_image.proofs.Stored.{stored_is_one}
+use Rattle.journal_book.specs.Laws.{WhatStandsOpens}
 use Rattle.journal_book.proofs.Recovering.{some_root}
+use Rattle.journal_book.proofs.StandsOpen.{stands_undamaged}
 use Rattle.drain_turns.specs.Drained.{behind_all}
-use Rattle.drain_turns.specs.Laws.{HasFeeds, IsFree, IsShown, MayOpen}
+use Rattle.drain_turns.specs.Laws.{IsFree, IsShown, MayOpen}
 use Rattle.drain_turns.specs.Turn.{Outside}
 use Rattle.drain_turns.specs.declared.end.TurnsEnd.{TurnsEnd}
 use Rattle.drain_turns.specs.declared.end.TurnsEnd.TheVariants as last
@@ -23,7 +24,7 @@ use Rattle.drain_turns.proofs.Free.{free_calls_end_idle}
 use Rattle.drain_turns.proofs.Opened.{opened_feeds_are_readable}
 use Rattle.drain_loop.specs.Calls.{opening_of, reload_of, round_of, rounds_of, with_bundle}
 use Rattle.drain_command.specs.Drained.{start, Drained, IsDrainCall, IsToldEnd}
-use Rattle.drain_command.specs.Laws.{opened_state, EndIdly, EndsIdly, IsUnhindered}
+use Rattle.drain_command.specs.Laws.{EndIdly, EndsIdly, IsUnhindered}
 use Rattle.drain_command.specs.declared.draining.Asked.{Asked}
 use Rattle.drain_command.specs.declared.end.DrainEnd.{DrainEnd}
 use Rattle.drain_command.specs.declared.end.DrainEnd.TheVariants as end
@@ -44,26 +45,20 @@ opens_so m s asked = (tt, reloads asked.opening.bundle (rounds_of m (with_bundle
     rounds true = rounds_open _
     rounds false = tt
 
-module _ (o : Outside) (feeds : List (List ℕ × List ℕ)) (files : Image) (asked : Asked) (old new : DiskView)
-    (is : IsUnhindered o feeds files asked old new) where
-  -- the store opens as it stands
-  same_start : (why : TurnsEnd) (d : Drained o files asked old new why) → opened_state o.meaning is.base is.read asked ≡ opened_state o.meaning d.base d.read asked
-  same_start why d =
-      let one = stored_is_one files is.generation d.generation is.base d.base is.read d.read is.opens.stored d.opens.stored in
-      ap (λ (b : Base). opened_state o.meaning b is.read asked) one.1 ∙ ap (λ (steps : List Step). opened_state o.meaning d.base steps asked) one.2
-
+module _ {D : Type 0} (disk : D → DiskView) (o : Outside) (feeds : List (List ℕ × List ℕ)) (files : Image) (asked : Asked) (old new : DiskView)
+    (is : IsUnhindered disk o feeds files asked old new) where
   -- wherever it comes to, nothing hinders it
-  free : (why : TurnsEnd) (d : Drained o files asked old new why) → IsFree o feeds (behind_all o.meaning (start o.meaning d.base d.read asked) d.made)
+  free : (why : TurnsEnd) (d : Drained disk o files asked old new why) → IsFree o feeds (behind_all o.meaning (start o.meaning d.base d.read asked) d.made)
   free why d = record {
     feeds = opened_feeds_are_readable o (start o.meaning d.base d.read asked) feeds d.made why is.shelf (opens_so o.meaning (replay o.meaning d.base d.read) asked)
-        (subst (λ (s : Base). AreSound (bots_in_force o.meaning s)) (same_start why d) is.sound) (subst (HasFeeds feeds o.meaning) (same_start why d) is.readable) d.drains;
+        (is.sound d.generation d.base d.read d.opens.stored) (is.readable d.generation d.base d.read d.opens.stored) d.drains;
     room = is.room why d;
   }
 
-  idle_of : (why : TurnsEnd) → Drained o files asked old new why → IsShown why → why ≡ last.Idle
+  idle_of : (why : TurnsEnd) → Drained disk o files asked old new why → IsShown why → why ≡ last.Idle
   idle_of why d shown = free_calls_end_idle o (start o.meaning d.base d.read asked) feeds d.made why is.shelf is.unbound (free why d) shown d.drains
 
-  turns_end : (why : TurnsEnd) → IsToldEnd why → Drained o files asked old new why → EndIdly why
+  turns_end : (why : TurnsEnd) → IsToldEnd why → Drained disk o files asked old new why → EndIdly why
   turns_end last.Idle told d = tt
   turns_end (last.Failed name) told d = tt
   turns_end last.Left told d = absurd (cc (idle_of last.Left d tt))
@@ -77,18 +72,25 @@ module _ (o : Outside) (feeds : List (List ℕ × List ℕ)) (files : Image) (as
   turns_end last.Disk told d = absurd (told.0 refl)
   turns_end last.Memory told d = absurd (told.1 refl)
 
+  abbrev begun : Base
+  begun = first is.bots is.bundle
+
   -- the root isn't empty
   has_root : ((image : Image) → old.told ≡ Some image → IsImage old.may_leave image) → files root_file ≡ [] → ⊥
   has_root honest none =
-      let some = some_root o.meaning is.first is.steps is.more files (is.stands.each files (honest files is.disk_tells)) in omega (arith, some, ap length none)
+      let some = some_root o.meaning begun is.steps is.more files (is.stands.each files (honest files is.disk_tells)) in omega (arith, some, ap length none)
 
-pub drains_end_idle : (old new : DiskView) → ((image : Image) → old.told ≡ Some image → IsImage old.may_leave image)
-    → (o : Outside) (feeds : List (List ℕ × List ℕ)) (files : Image) (asked : Asked) → IsUnhindered o feeds files asked old new → (e : DrainEnd) (before after : SinkView)
-    → IsDrainCall o files asked old new e before after → EndsIdly e
-drains_end_idle old new honest o feeds files asked is (end.Turns why) before after call = turns_end o feeds files asked old new is why call.0 call.1
-drains_end_idle old new honest o feeds files asked is end.Memory before after call = tt
-drains_end_idle old new honest o feeds files asked is end.Disk before after call = tt
-drains_end_idle old new honest o feeds files asked is end.Sink before after call = tt
-drains_end_idle old new honest o feeds files asked is (end.Store have) before after call = has_root o feeds files asked old new is honest call.1
-drains_end_idle old new honest o feeds files asked is (end.Damaged file at) before after call =
-    ⊎_elim (λ found. opens_whole o.meaning files is.generation is.base is.read file at is.opens found.1) (λ late. late.3 is.first is.steps is.more is.stands) call.1
+  -- the store opens
+  undamaged : ((image : Image) → old.told ≡ Some image → IsImage old.may_leave image) → WhatStandsOpens o.meaning → (file at : ℕ) → IsDamagedStore o.meaning files file at → ⊥
+  undamaged honest opens file at damaged =
+      stands_undamaged o.meaning opens is.bots is.bundle is.steps is.more files is.loads is.legal is.small (is.stands.each files (honest files is.disk_tells)) file at damaged
+
+pub drains_end_idle : {D : Type 0} (disk : D → DiskView) (old new : DiskView) → ((image : Image) → old.told ≡ Some image → IsImage old.may_leave image)
+    → (o : Outside) → WhatStandsOpens o.meaning → (feeds : List (List ℕ × List ℕ)) (files : Image) (asked : Asked) → IsUnhindered disk o feeds files asked old new → (now : ShelfView) (e : DrainEnd) (before after : SinkView)
+    → IsDrainCall disk o now files asked old new e before after → EndsIdly e
+drains_end_idle disk old new honest o opens feeds files asked is now (end.Turns why) before after call = turns_end disk o feeds files asked old new is why call.0 call.1
+drains_end_idle disk old new honest o opens feeds files asked is now end.Memory before after call = tt
+drains_end_idle disk old new honest o opens feeds files asked is now end.Disk before after call = tt
+drains_end_idle disk old new honest o opens feeds files asked is now end.Sink before after call = tt
+drains_end_idle disk old new honest o opens feeds files asked is now (end.Store have) before after call = has_root disk o feeds files asked old new is honest call.1
+drains_end_idle disk old new honest o opens feeds files asked is now (end.Damaged file at) before after call = undamaged disk o feeds files asked old new is honest opens file at call.2

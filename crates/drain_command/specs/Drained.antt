@@ -2,6 +2,7 @@
 use Rattle.std.specs.Prelude.{◌≡◌, ◌≢◌, ◌⊎◌, ◌<◌, ℕ, List, [], ◌++◌, length, take, Some}
 use Rattle.edge_traits.specs.Disk.{DiskView, Image}
 use Rattle.edge_traits.specs.Output.{TookFront}
+use Rattle.edge_traits.specs.Shelf.{ShelfView}
 use Rattle.edge_traits.specs.Sink.{SinkView, Took}
 use Rattle.step_code.specs.declared.base.Base.{Base}
 use Rattle.step_code.specs.declared.output.Output.{Output}
@@ -16,11 +17,13 @@ use Rattle.store_image.specs.Stands.{IsSealOf}
 use Rattle.journal_book.specs.Opening.{StandsNow}
 use Rattle.journal_book.specs.Outputs.{AreCompleted, AreWritten, HaveNoneSealed}
 use Rattle.store_calls.specs.Calls.{IsCall, StandsOn}
+use Rattle.turn_order.specs.Turn.{collectors}
 use Rattle.drain_turns.specs.Drained.{Drains, Place}
 use Rattle.drain_turns.specs.Turn.{Outside}
 use Rattle.drain_turns.specs.declared.end.TurnsEnd.{TurnsEnd}
 use Rattle.drain_turns.specs.declared.end.TurnsEnd.TheVariants as last
 use Rattle.drain_loop.specs.Calls.{opening_of}
+use Rattle.drain_loop.specs.Feeds.{FailedBeyond}
 use Rattle.drain_command.specs.declared.draining.Asked.{Asked}
 use Rattle.drain_command.specs.declared.end.DrainEnd.{DrainEnd}
 use Rattle.drain_command.specs.declared.end.DrainEnd.TheVariants as end
@@ -35,13 +38,13 @@ start m base read asked = record { opening = opening_of m (replay m base read) a
 
 -- a call on a disk that stood for these steps of the store whose first state is `first`, and a front of those behind them, read
 -- this state of it, up to lines that are sealed, and made these steps, of which so many are durable
-pub record IsCallIn (m : Meaning) (first : Base) (steps more : List Step) (old new : DiskView) (state : Base) (made : List Step) (durable : ℕ) : Type 0 where
-  pub call : IsCall m first steps more old new made durable
+pub record IsCallIn {D : Type 0} (disk : D → DiskView) (m : Meaning) (first : Base) (steps more : List Step) (old new : DiskView) (state : Base) (made : List Step) (durable : ℕ) : Type 0 where
+  pub call : IsCall disk m first steps more old new made durable
   pub reads : IsSealOf (replay m first (steps ++ take call.count more)) state
 
 -- the store opens; the steps that were made, one by one as they were due, and why there are no more; the state behind them; and
 -- what the disk stands for, at any moment of the call and behind it
-pub record Drained (o : Outside) (files : Image) (asked : Asked) (old new : DiskView) (why : TurnsEnd) : Type 0 where
+pub record Drained {D : Type 0} (disk : D → DiskView) (o : Outside) (files : Image) (asked : Asked) (old new : DiskView) (why : TurnsEnd) : Type 0 where
   pub generation : ℕ
   pub base : Base
   pub read : List Step
@@ -51,11 +54,11 @@ pub record Drained (o : Outside) (files : Image) (asked : Asked) (old new : Disk
   pub state : Base
   pub state_is : state ≡ replay o.meaning (replay o.meaning base read) made
   pub durable : ℕ
-  pub call : (first : Base) (steps more : List Step) → StandsNow o.meaning first steps more old → IsCallIn o.meaning first steps more old new (replay o.meaning base read) made durable
+  pub call : (first : Base) (steps more : List Step) → StandsNow o.meaning first steps more old → IsCallIn disk o.meaning first steps more old new (replay o.meaning base read) made durable
 
 -- all steps that were made are durable
-abbrev pub IsDurable : {o : Outside} {files : Image} {asked : Asked} {old new : DiskView} {why : TurnsEnd}
-    → Drained o files asked old new why → Type 0
+abbrev pub IsDurable : {D : Type 0} {disk : D → DiskView} {o : Outside} {files : Image} {asked : Asked} {old new : DiskView} {why : TurnsEnd}
+    → Drained disk o files asked old new why → Type 0
 IsDurable d = d.durable ≡ length d.made
 
 -- the file of each output is its sealed front and each line behind it; and it is all lines of each history that the disk stands
@@ -72,23 +75,27 @@ IsStill m old new = (first : Base) (steps more : List Step) → StandsNow m firs
 abbrev pub IsToldEnd : TurnsEnd → Type 0
 IsToldEnd why = (why ≢ last.Disk) × (why ≢ last.Memory)
 
--- the turns ended by a cause of theirs: all steps are durable, the outputs are whole, and the summary is printed, or a front of
--- it where the sink failed. Where memory ran out or the disk failed nothing is printed; behind want of memory the steps are
--- durable. Or there is no store, or it is damaged; that an output is too short when it is completed never
--- comes on a disk that stands for a history
-abbrev pub IsDrainCall : Outside → Image → Asked → DiskView → DiskView → DrainEnd → SinkView → SinkView → Type 0
-IsDrainCall o files asked old new (end.Turns why) before after =
-    IsToldEnd why × (d : Drained o files asked old new why) × IsDurable d × HasOutputs o.meaning new d.state.outs × Took before after (summary d.state)
-IsDrainCall o files asked old new end.Sink before after =
-    (why : TurnsEnd) × IsToldEnd why × (d : Drained o files asked old new why) × IsDurable d × HasOutputs o.meaning new d.state.outs × TookFront before after (summary d.state)
-IsDrainCall o files asked old new end.Memory before after =
-    Took before after [] × (IsStill o.meaning old new ⊎ ((why : TurnsEnd) × (d : Drained o files asked old new why) × IsDurable d))
-IsDrainCall o files asked old new end.Disk before after =
-    Took before after [] × (IsStill o.meaning old new ⊎ ((why : TurnsEnd) × Drained o files asked old new why))
-IsDrainCall o files asked old new (end.Store have) before after =
+-- where the turns ended since a feed failed, it failed more often than a collector that reads it tries again, by the plan of the
+-- state where they ended
+abbrev pub IsFailedBeyond : Outside → ShelfView → Base → TurnsEnd → Type 0
+IsFailedBeyond o now s (last.Failed name) = FailedBeyond (collectors o.meaning s) o.shelf now name
+IsFailedBeyond o now s other = Unit {0}
+
+-- the shelf is `now` behind the call. The turns ended by a cause of theirs: all steps are durable, the outputs are whole, and the
+-- summary is printed, or a front of it where the sink failed. Where memory ran out or the disk failed nothing is printed; behind
+-- want of memory the steps are durable. Or there is no store, or it is damaged
+abbrev pub IsDrainCall : {D : Type 0} → (D → DiskView) → Outside → ShelfView → Image → Asked → DiskView → DiskView → DrainEnd → SinkView → SinkView → Type 0
+IsDrainCall disk o now files asked old new (end.Turns why) before after =
+    IsToldEnd why × (d : Drained disk o files asked old new why) × IsDurable d × HasOutputs o.meaning new d.state.outs × Took before after (summary d.state)
+    × IsFailedBeyond o now d.state why
+IsDrainCall disk o now files asked old new end.Sink before after =
+    (why : TurnsEnd) × IsToldEnd why × (d : Drained disk o files asked old new why) × IsDurable d × HasOutputs o.meaning new d.state.outs × TookFront before after (summary d.state)
+    × IsFailedBeyond o now d.state why
+IsDrainCall disk o now files asked old new end.Memory before after =
+    Took before after [] × (IsStill o.meaning old new ⊎ ((why : TurnsEnd) × (d : Drained disk o files asked old new why) × IsDurable d))
+IsDrainCall disk o now files asked old new end.Disk before after =
+    Took before after [] × (IsStill o.meaning old new ⊎ ((why : TurnsEnd) × Drained disk o files asked old new why))
+IsDrainCall disk o now files asked old new (end.Store have) before after =
     (have ≡ 0) × (files root_file ≡ []) × Took before after [] × IsStill o.meaning old new
-IsDrainCall o files asked old new (end.Damaged file at) before after =
-    Took before after []
-    × (((0 < length (files root_file)) × IsDamagedStore o.meaning files file at × IsStill o.meaning old new)
-    ⊎ ((why : TurnsEnd) × (d : Drained o files asked old new why) × IsDurable d
-    × ((first : Base) (steps more : List Step) → StandsNow o.meaning first steps more old → ⊥)))
+IsDrainCall disk o now files asked old new (end.Damaged file at) before after =
+    Took before after [] × (0 < length (files root_file)) × IsDamagedStore o.meaning files file at × IsStill o.meaning old new

@@ -11,7 +11,7 @@ use Rattle.journal_book.specs.Book.{BookView}
 use Rattle.journal_book.specs.Outputs.{AreCompleted}
 use Rattle.journal_book.specs.declared.book_fault.BookFault.{BookFault}
 use Rattle.journal_book.specs.declared.book_fault.BookFault.TheVariants as fault
-use Rattle.book_runs.specs.GoesOn.{GoesOn}
+use Rattle.book_runs.specs.GoesOn.{longer, GoesOn}
 use Rattle.drain_turns.specs.Drained.{Drains}
 use Rattle.drain_turns.specs.Turn.{Outside}
 use Rattle.drain_turns.specs.declared.end.TurnsEnd.{TurnsEnd}
@@ -34,6 +34,7 @@ pub record IsTurned {D R : Type 0} (disk : D → DiskView) (o : Outside) (asked 
   pub made : List Step
   pub drains : Drains o (place_with (opening_of o.meaning old.state asked.opening.bundle asked.opening.rounds) old asked.left) made why
   pub run : GoesOn disk o.meaning old new made
+  pub book : new ≡ longer o.meaning old made new
 
 -- the summary of a state is printed, or a front of it where the sink failed, or nothing where memory ran out
 abbrev pub IsReported : Base → TurnsEnd → DrainEnd → SinkView → SinkView → Type 0

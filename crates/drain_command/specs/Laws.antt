@@ -1,12 +1,16 @@
 -- What holds of a drain that nothing hinders.
-use Rattle.std.specs.Prelude.{◌≡◌, ℕ, List, None, Some}
+use Rattle.std.specs.Prelude.{◌≡◌, ◌++◌, ℕ, List, None, Some}
 use Rattle.edge_traits.specs.Disk.{DiskView, Image}
+use Rattle.edge_traits.specs.Shelf.{ShelfView}
 use Rattle.edge_traits.specs.Sink.{SinkView}
 use Rattle.step_code.specs.declared.base.Base.{Base}
+use Rattle.step_code.specs.declared.rules.Facts.{Facts}
 use Rattle.step_code.specs.declared.step.Step.{Step}
+use Rattle.step_code.specs.History.{first, Legal}
 use Rattle.step_code.specs.Rules.{AreSound, Meaning}
+use Rattle.step_code.specs.Spent.{NothingIsSpent}
 use Rattle.step_code.specs.State.{bots_in_force}
-use Rattle.store_image.specs.Opens.{Opens}
+use Rattle.store_image.specs.Stored.{IsStored}
 use Rattle.journal_book.specs.Opening.{StandsNow}
 use Rattle.drain_turns.specs.Drained.{behind_all}
 use Rattle.drain_turns.specs.Laws.{opened, HasFeeds, HasRoom}
@@ -46,27 +50,27 @@ EndsIdly (end.Damaged file at) = ⊥
 abbrev pub opened_state : Meaning → Base → List Step → Asked → Base
 opened_state m base read asked = opened m (start m base read asked).state (start m base read asked).opening
 
--- nothing hinders a drain: it may make any number of steps, the shelf and the disk tell what they have, the store opens and stands
--- for a history; the shelf has the feeds of the collectors as they stand behind the opening; and where the drain comes to there is
--- room for what is due
-pub record IsUnhindered (o : Outside) (feeds : List (List ℕ × List ℕ)) (files : Image) (asked : Asked) (old new : DiskView) : Type 0 where
+-- nothing hinders a drain: it may make any number of steps, the shelf and the disk tell what they have, the store began with a
+-- bundle and stands for a legal history in which no number is spent; the shelf has the feeds of the collectors as they stand
+-- behind the opening of what is stored; and where the drain comes to there is room for what is due
+pub record IsUnhindered {D : Type 0} (disk : D → DiskView) (o : Outside) (feeds : List (List ℕ × List ℕ)) (files : Image) (asked : Asked) (old new : DiskView) : Type 0 where
   pub unbound : asked.left ≡ None
   pub shelf : o.shelf.told ≡ Some feeds
   pub disk_tells : old.told ≡ Some files
-  pub generation : ℕ
-  pub base : Base
-  pub read : List Step
-  pub opens : Opens o.meaning files generation base read
-  pub first : Base
+  pub bots : List Facts
+  pub bundle : List ℕ
+  pub loads : o.meaning.facts bundle ≡ Some bots
   pub steps : List Step
   pub more : List Step
-  pub stands : StandsNow o.meaning first steps more old
-  pub sound : AreSound (bots_in_force o.meaning (opened_state o.meaning base read asked))
-  pub readable : HasFeeds feeds o.meaning (opened_state o.meaning base read asked)
-  pub room : (why : TurnsEnd) (d : Drained o files asked old new why) → HasRoom o (behind_all o.meaning (start o.meaning d.base d.read asked) d.made)
+  pub stands : StandsNow o.meaning (first bots bundle) steps more old
+  pub legal : Legal o.meaning (first bots bundle) (steps ++ more)
+  pub small : NothingIsSpent o.meaning (first bots bundle) (steps ++ more)
+  pub sound : (generation : ℕ) (base : Base) (read : List Step) → IsStored files generation base read → AreSound (bots_in_force o.meaning (opened_state o.meaning base read asked))
+  pub readable : (generation : ℕ) (base : Base) (read : List Step) → IsStored files generation base read → HasFeeds feeds o.meaning (opened_state o.meaning base read asked)
+  pub room : (why : TurnsEnd) (d : Drained disk o files asked old new why) → HasRoom o (behind_all o.meaning (start o.meaning d.base d.read asked) d.made)
 
 -- such a drain does all that there is to do
-abbrev pub FreeDrainsEndIdle : {D : Type 0} → (D → DiskView) → Type 0
-FreeDrainsEndIdle {D} disk =
-    (o : Outside) (feeds : List (List ℕ × List ℕ)) (files : Image) (asked : Asked) (old new : D) (e : DrainEnd) (before after : SinkView) → IsUnhindered o feeds files asked (disk old) (disk new)
-    → IsDrainCall o files asked (disk old) (disk new) e before after → EndsIdly e
+abbrev pub FreeDrainsEndIdle : {D : Type 0} → (D → DiskView) → Meaning → Type 0
+FreeDrainsEndIdle {D} disk m =
+    (o : Outside) (feeds : List (List ℕ × List ℕ)) (files : Image) (asked : Asked) (old new : D) (now : ShelfView) (e : DrainEnd) (before after : SinkView) → o.meaning ≡ m → IsUnhindered disk o feeds files asked (disk old) (disk new)
+    → IsDrainCall disk o now files asked (disk old) (disk new) e before after → EndsIdly e

@@ -3,6 +3,8 @@ ghost use Rattle.edge_traits.specs.Count.{Rose};
 ghost use Rattle.edge_traits.specs.Disk.{Image};
 ghost use Rattle.edge_traits.specs.Shelf.{count_on};
 ghost use Rattle.step_code.specs.declared.base.Base.{Base};
+ghost use Rattle.journal_book.specs.Alone.{LeavesAlone};
+ghost use Rattle.store_calls.specs.Calls.{IsEarlierIn};
 ghost use Rattle.turn_order.specs.Turn.{collectors};
 ghost use Rattle.drain_turns.specs.declared.end.TurnsEnd.{TurnsEnd as Last};
 ghost use Rattle.drain_loop.specs.Calls.{outside};
@@ -15,6 +17,7 @@ use crate::finishing::finish;
 use crate::turning::make_turns;
 use drain_loop::Opening;
 use edge_traits::{Clock, Disk, Shelf, Sink};
+use history_laws::each_message_stands_in_one_place;
 use journal_book::Book;
 use std::alloc::Global;
 use step_code::Rules;
@@ -42,10 +45,14 @@ pub fn drain<D: Disk, R: Rules, H: Shelf, C: Clock, S: Sink>(
 ) -> (DrainEnd, D)
     requires loads { (bundle : List ℕ) → asked.opening.bundle ≡ Some bundle → IsSome (R.meaning.facts bundle) }
 
-    // Where the disk tells what it holds: the steps that were made, one by one as they were due, and why there are no more; what a
-    // crash leaves of the store's history at any moment; and what is printed. Or what the store is refused for.
+    // Where the disk tells what it holds: the steps that were made, one by one as they were due, and why there are no more, a feed
+    // that failed only beyond the retries of the state that they led to; what a crash leaves of the store's history at any moment;
+    // and what is printed. Or what the store is refused for.
     ensures drained { (files : Image) → (D.disk disk).told ≡ Some files
-        → IsDrainCall (outside R.meaning (H.shelf shelf.old) (C.told clock.now) most_step_bytes) files asked (D.disk disk) (D.disk result.1) result.0 (S.sink out.old) (S.sink out.new) }
+        → IsDrainCall D.disk (outside R.meaning (H.shelf shelf.old) (C.told clock.now) most_step_bytes) (H.shelf shelf.new) files asked (D.disk disk) (D.disk result.1) result.0 (S.sink out.old) (S.sink out.new) }
+
+    // The files that are none of its own are left alone, where the disk tells what it holds.
+    ensures others { (files : Image) → (D.disk disk).told ≡ Some files → LeavesAlone (D.disk disk) (D.disk result.1) (IsEarlierIn files) }
 
     // The turns that are told ended by a cause of theirs.
     ensures plain { (why : Last) → result.0 ≡ DrainEnd.Turns why → IsToldEnd why }
@@ -59,6 +66,8 @@ pub fn drain<D: Disk, R: Rules, H: Shelf, C: Clock, S: Sink>(
     ensures disk_count { (D.disk disk).faults ≤ (D.disk result.1).faults }
     ensures sink_count { (S.sink out.old).faults ≤ (S.sink out.new).faults }
 {
+    // Nothing is lost and nothing is invented in a legal history.
+    each_message_stands_in_one_place::<R>();
     match Book::reopen(alloc, disk, rules, STEP_BYTES) {
         Ok(book) => {
             let mut book = book;

@@ -1,10 +1,9 @@
 ghost use Rattle.std.specs.Prelude.{◌≡◌, ◌≢◌, ◌≤◌, ◌↔◌, ◌⊎◌, ℕ, List, [], true, false, length, None, Some};
 ghost use Rattle.edge_traits.specs.Count.{Rose};
 ghost use Rattle.edge_traits.specs.Disk.{Image};
-ghost use Rattle.book_runs.specs.GoesOn.{GoesOn};
+ghost use Rattle.book_runs.specs.GoesOn.{GoesOn, IsSameBook};
 ghost use Rattle.step_code.specs.declared.base.Base.{Base};
 ghost use Rattle.step_code.specs.declared.step.Step.{Step};
-ghost use Rattle.journal_book.specs.Book.{IsKept};
 ghost use Rattle.journal_book.specs.Opening.{StandsNow};
 ghost use Rattle.journal_book.specs.Outputs.{AreWritten, HaveNoneSealed};
 ghost use Rattle.drain_command.specs.Finished.{AreCompletedAt, AreWrittenAt, IsFinished, IsReported};
@@ -30,12 +29,13 @@ pub(crate) fn finish<D: Disk, R: Rules, S: Sink>(
     requires broken { (last ≡ TurnsEnd.Disk) ↔ (book.old.broken ≡ true) }
     ensures finished { IsFinished book.old.state last result (S.sink out.old) (S.sink out.new) }
     ensures goes_on { GoesOn D.disk R.meaning book.old book.new [] }
+    ensures same { IsSameBook book.old book.new }
     ensures durable { result ≢ DrainEnd.Disk → book.new.kept ≡ length book.new.steps }
     ensures completed { (files after : Image) → (D.disk book.old.disk).told ≡ Some files → (D.disk book.new.disk).told ≡ Some after
         → AreCompletedAt result (D.disk book.new.disk).may_leave book.old.state.outs files after }
     ensures written { (first : Base) (history : List Step) → StandsNow R.meaning first history [] (D.disk book.new.disk) → HaveNoneSealed first.outs
         → AreWrittenAt result (AreWritten R.meaning first history (D.disk book.new.disk)) }
-    ensures sound { (first : Base) (past : List Step) (file at : ℕ) → IsKept D.disk R.meaning first past book.old → result ≢ DrainEnd.Damaged file at }
+    ensures undamaged { (files : Image) (file at : ℕ) → (D.disk book.old.disk).told ≡ Some files → result ≢ DrainEnd.Damaged file at }
     ensures failed { result ≡ DrainEnd.Disk → (last ≡ TurnsEnd.Disk) ⊎ Rose (D.disk book.old.disk).faults (D.disk book.new.disk).faults }
     ensures sink { result ≡ DrainEnd.Sink → Rose (S.sink out.old).faults (S.sink out.new).faults }
     ensures untold { (D.disk book.old.disk).told ≡ None → (D.disk book.new.disk).told ≡ None }

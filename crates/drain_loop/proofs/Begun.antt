@@ -22,8 +22,8 @@ use Rattle.turn_order.proofs.Actors.{IsNamed, all_named}
 use Rattle.journal_book.specs.Book.{BookView}
 use Rattle.journal_book.specs.Staged.{screened, staged, stamp, IsMove}
 use Rattle.journal_book.proofs.OneMore.{may_stage}
-use Rattle.book_runs.specs.GoesOn.{GoesOn}
-use Rattle.book_runs.proofs.Going.{goes_further, goes_nowhere}
+use Rattle.book_runs.specs.GoesOn.{longer, GoesOn, IsSameBook}
+use Rattle.book_runs.proofs.Going.{goes_further, goes_nowhere, longer_none, longer_on}
 use Rattle.drain_turns.specs.Drained.{Drains, Ends, IsDue, IsMade, IsNextKind, Place}
 use Rattle.drain_turns.specs.Turn.{Outside, MayShow}
 use Rattle.drain_turns.specs.declared.end.TurnsEnd.{TurnsEnd}
@@ -83,25 +83,26 @@ module _ {D R : Type 0} {disk : D → DiskView} where
   -- none is made
   pub opens_none : (o : Outside) (later : List StepKind) (left : Option ℕ) (book : BookView D R) → ((image : Image) → (disk book.disk).left_since (disk book.disk).moment image → IsImage (disk book.disk).may_leave image)
       → IsOpened disk o (place_with later book left) later book book (Ok left)
-  opens_none o later left book only = record { made = []; goes_on = goes_nowhere book only; opens = λ more last rest. rest }
+  opens_none o later left book only = record { made = []; goes_on = goes_nowhere book only; book = longer_none o.meaning book book refl; opens = λ more last rest. rest }
 
   -- the call ends at once
-  pub ends_opening : (o : Outside) (start : Place) (later : List StepKind) (old new : BookView D R) (last : TurnsEnd) → Ends o start last → GoesOn disk o.meaning old new [] → IsOpened disk o start later old new (Err last)
-  ends_opening o start later old new last ends still = record { made = []; goes_on = still; opens = ends }
+  pub ends_opening : (o : Outside) (start : Place) (later : List StepKind) (old new : BookView D R) (last : TurnsEnd) → Ends o start last → GoesOn disk o.meaning old new [] → IsSameBook old new → IsOpened disk o start later old new (Err last)
+  ends_opening o start later old new last ends still same = record { made = []; goes_on = still; book = longer_none o.meaning old new same; opens = ends }
 
   -- where it ends, no steps to come matter
   pub ends_anyhow : (o : Outside) (start : Place) (later other : List StepKind) (old new : BookView D R) (last : TurnsEnd) → IsOpened disk o start later old new (Err last) → IsOpened disk o start other old new (Err last)
-  ends_anyhow o start later other old new last is = record { made = is.made; goes_on = is.goes_on; opens = is.opens }
+  ends_anyhow o start later other old new last is = record { made = is.made; goes_on = is.goes_on; book = is.book; opens = is.opens }
 
   -- one is made
   pub opens_one : (o : Outside) (what : StepKind) (later : List StepKind) (left fewer : Option ℕ) (old new : BookView D R) (step : Step) → IsMade o (place_with (what ∷ later) old left) step → GoesOn disk o.meaning old new (step ∷ [])
-      → fewer ≡ option_map (λ n. n - 1) left → IsOpened disk o (place_with (what ∷ later) old left) later old new (Ok fewer)
-  opens_one o what later left fewer old new step made goes_on is = record {
+      → new ≡ longer o.meaning old (step ∷ []) new → fewer ≡ option_map (λ n. n - 1) left → IsOpened disk o (place_with (what ∷ later) old left) later old new (Ok fewer)
+  opens_one o what later left fewer old new step made goes_on book is = record {
     made = step ∷ [];
     goes_on = goes_on;
+    book = book;
     opens = λ more last rest. (
       made,
-      subst (λ (b : BookView D R). Drains o (place_with later b (option_map (λ n. n - 1) left)) more last) goes_on.book (subst (λ (l : Option ℕ). Drains o (place_with later new l) more last) is rest),
+      subst (λ (b : BookView D R). Drains o (place_with later b (option_map (λ n. n - 1) left)) more last) book (subst (λ (l : Option ℕ). Drains o (place_with later new l) more last) is rest),
     );
   }
 
@@ -111,11 +112,13 @@ module _ {D R : Type 0} {disk : D → DiskView} where
   opens_more o start between later left old mid new (Ok fewer) front rest = record {
     made = front.made ++ rest.made;
     goes_on = goes_further old mid new front.made rest.made front.goes_on rest.goes_on;
+    book = longer_on o.meaning old mid new front.made rest.made front.book rest.book;
     opens = λ more last drains. subst (λ (ss : List Step). Drains o start ss last) (sym (append_assoc front.made rest.made more)) (front.opens (rest.made ++ more) last (rest.opens more last drains));
   }
   opens_more o start between later left old mid new (Err last) front rest = record {
     made = front.made ++ rest.made;
     goes_on = goes_further old mid new front.made rest.made front.goes_on rest.goes_on;
+    book = longer_on o.meaning old mid new front.made rest.made front.book rest.book;
     opens = front.opens rest.made last rest.opens;
   }
 

@@ -1,4 +1,5 @@
 mod Begun
+mod Bundles
 mod Looked
 mod Looking
 mod Moving

@@ -25,10 +25,10 @@ use Rattle.journal_book.specs.declared.stage_refusal.StageRefusal.{StageRefusal}
 use Rattle.journal_book.specs.declared.stage_refusal.StageRefusal.TheVariants as refusal
 use Rattle.journal_book.proofs.OneMore.{may_stage, nothing_refuses}
 use Rattle.book_runs.specs.Commit.{IsCommitFault}
-use Rattle.book_runs.specs.GoesOn.{GoesOn}
+use Rattle.book_runs.specs.GoesOn.{longer, GoesOn, IsSameBook}
 use Rattle.book_runs.specs.declared.committing.CommitFault.{CommitFault}
 use Rattle.book_runs.specs.declared.committing.CommitFault.TheVariants as fault
-use Rattle.book_runs.proofs.Going.{goes_further, goes_nowhere}
+use Rattle.book_runs.proofs.Going.{goes_further, goes_nowhere, longer_none, longer_on}
 use Rattle.drain_turns.specs.Drained.{behind, Drains, Ends, IsBusy, IsDue, IsMade, IsNextKind, Place}
 use Rattle.drain_turns.specs.Moves.{IsMoveOf}
 use Rattle.drain_turns.specs.Turn.{Outside, IsStepOf, IsTurn, MayShow}
@@ -267,50 +267,53 @@ number_small m s step small = go (is_past (min (after m s step).steps last_u64))
 
 -- ---- the steps so far
 
+-- a book behind a turn's step stands where the call does
+pub behind_is : {D R : Type 0} (o : Outside) (left : Option ℕ) (now new : BookView D R) (step : Step) → new ≡ longer o.meaning now (step ∷ []) new → behind o.meaning (place_of now left) step ≡ place_of new (option_map (λ n. n - 1) left)
+behind_is {D} {R} o left now new step book = sym (ap (λ (b : BookView D R). place_of b (option_map (λ n. n - 1) left)) book)
+
 module _ {D R : Type 0} {disk : D → DiskView} where
   -- no step yet
   pub run_none : (o : Outside) (start : Place) (book : BookView D R) → ((image : Image) → (disk book.disk).left_since (disk book.disk).moment image → IsImage (disk book.disk).may_leave image) → Running disk o start start book book
-  run_none o start book only = record { made = []; goes_on = goes_nowhere book only; leads = λ more last rest. rest }
+  run_none o start book only = record { made = []; goes_on = goes_nowhere book only; book = longer_none o.meaning book book refl; leads = λ more last rest. rest }
 
   -- one step more
   pub run_more : (o : Outside) (start here : Place) (old now new : BookView D R) (step : Step) → Running disk o start here old now → IsMade o here step
-      → GoesOn disk o.meaning now new (step ∷ []) → Running disk o start (behind o.meaning here step) old new
-  run_more o start here old now new step run made goes_on = record {
+      → GoesOn disk o.meaning now new (step ∷ []) → new ≡ longer o.meaning now (step ∷ []) new → Running disk o start (behind o.meaning here step) old new
+  run_more o start here old now new step run made goes_on book = record {
     made = run.made ++ step ∷ [];
     goes_on = goes_further old now new run.made (step ∷ []) run.goes_on goes_on;
+    book = longer_on o.meaning old now new run.made (step ∷ []) run.book book;
     leads = λ more last rest. subst (λ (ss : List Step). Drains o start ss last) (sym (append_assoc run.made (step ∷ []) more)) (run.leads (step ∷ more) last (made, rest));
   }
-
-  -- a book behind a turn's step stands where the call does
-  pub behind_is : (o : Outside) (left : Option ℕ) (now new : BookView D R) (step : Step) → GoesOn disk o.meaning now new (step ∷ []) → behind o.meaning (place_of now left) step ≡ place_of new (option_map (λ n. n - 1) left)
-  behind_is o left now new step goes_on = sym (ap (λ (b : BookView D R). place_of b (option_map (λ n. n - 1) left)) goes_on.book)
 
   -- a turn's step more
   pub turn_more : (o : Outside) (start : Place) (left fewer : Option ℕ) (old now new : BookView D R) → Running disk o start (place_of now left) old now → OneStep disk o left now new
       → fewer ≡ option_map (λ n. n - 1) left → Running disk o start (place_of new fewer) old new
   turn_more o start left fewer old now new run one is =
-      subst (λ (p : Place). Running disk o start p old new) (behind_is o left now new one.step one.goes_on ∙ ap (place_of new) (sym is)) (run_more o start (place_of now left) old now new one.step run one.is_made one.goes_on)
+      subst (λ (p : Place). Running disk o start p old new) (behind_is o left now new one.step one.book ∙ ap (place_of new) (sym is)) (run_more o start (place_of now left) old now new one.step run one.is_made one.goes_on one.book)
 
   -- the turns end here
   pub run_ends : (o : Outside) (left left_now : Option ℕ) (old now new : BookView D R) (last : TurnsEnd) → Running disk o (place_of old left) (place_of now left_now) old now → Ends o (place_of now left_now) last
-      → GoesOn disk o.meaning now new [] → IsDrained disk o left old new last
-  run_ends o left left_now old now new last run ends still = record {
+      → GoesOn disk o.meaning now new [] → IsSameBook now new → IsDrained disk o left old new last
+  run_ends o left left_now old now new last run ends still same = record {
     made = run.made ++ [];
     drains = run.leads [] last ends;
     goes_on = goes_further old now new run.made [] run.goes_on still;
+    book = longer_on o.meaning old now new run.made [] run.book (longer_none o.meaning now new same);
   }
 
   -- so behind a call that makes none
-  pub still_drained : (o : Outside) (left : Option ℕ) (old now new : BookView D R) (last : TurnsEnd) → IsDrained disk o left old now last → GoesOn disk o.meaning now new [] → IsDrained disk o left old new last
-  still_drained o left old now new last is still = record {
+  pub still_drained : (o : Outside) (left : Option ℕ) (old now new : BookView D R) (last : TurnsEnd) → IsDrained disk o left old now last → GoesOn disk o.meaning now new [] → IsSameBook now new → IsDrained disk o left old new last
+  still_drained o left old now new last is still same = record {
     made = is.made;
     drains = is.drains;
     goes_on = subst (λ (ss : List Step). GoesOn disk o.meaning old new ss) (append-nil is.made) (goes_further old now new is.made [] is.goes_on still);
+    book = subst (λ (ss : List Step). new ≡ longer o.meaning old ss new) (append-nil is.made) (longer_on o.meaning old now new is.made [] is.book (longer_none o.meaning now new same));
   }
 
   -- a disk that fails, or want of memory, may end the turns anywhere
   pub cut_short : (o : Outside) (left : Option ℕ) (old new : BookView D R) (last : TurnsEnd) → IsDrained disk o left old new last → IsDrained disk o left old new end.Disk
-  cut_short o left old new last is = record { made = is.made; drains = cut o (place_of old left) is.made last is.drains; goes_on = is.goes_on }
+  cut_short o left old new last is = record { made = is.made; drains = cut o (place_of old left) is.made last is.drains; goes_on = is.goes_on; book = is.book }
     where
       cut : (o : Outside) (p : Place) (steps : List Step) (last : TurnsEnd) → Drains o p steps last → Drains o p steps end.Disk
       cut o p [] last is = tt

@@ -1,5 +1,5 @@
 -- What a call that drains a book makes of it.
-use Rattle.std.specs.Prelude.{ℕ, Bool, List, [], ◌∷◌, ◌++◌, map, filter, Option, Some, None, Result, MatchResult, if◌then◌else◌}
+use Rattle.std.specs.Prelude.{◌≡◌, ℕ, Bool, List, [], ◌∷◌, ◌++◌, map, filter, Option, Some, None, Result, MatchResult, if◌then◌else◌}
 use Rattle.edge_traits.specs.Disk.{DiskView}
 use Rattle.edge_traits.specs.Shelf.{ShelfView}
 use Rattle.step_code.specs.declared.base.Base.{Base}
@@ -11,7 +11,7 @@ use Rattle.step_code.specs.Rules.{Meaning}
 use Rattle.step_code.specs.State.{bots_in_force, bots_of, has_finished}
 use Rattle.turn_order.specs.Turn.{collectors}
 use Rattle.journal_book.specs.Book.{BookView}
-use Rattle.book_runs.specs.GoesOn.{GoesOn}
+use Rattle.book_runs.specs.GoesOn.{longer, GoesOn}
 use Rattle.drain_turns.specs.Drained.{Drains, Place}
 use Rattle.drain_turns.specs.Turn.{Outside}
 use Rattle.drain_turns.specs.declared.end.TurnsEnd.{TurnsEnd}
@@ -34,6 +34,7 @@ pub record IsDrained {D R : Type 0} (disk : D → DiskView) (o : Outside) (left 
   pub made : List Step
   pub drains : Drains o (place_of old left) made last
   pub goes_on : GoesOn disk o.meaning old new made
+  pub book : new ≡ longer o.meaning old made new
 
 -- ---- what a call opens with
 
@@ -62,6 +63,7 @@ opening_of m s bundle asked = kind.Start ∷ (reload_of bundle ++ rounds_of m (w
 pub record IsOpened {D R : Type 0} (disk : D → DiskView) (o : Outside) (start : Place) (later : List StepKind) (old new : BookView D R) (result : Result (Option ℕ) TurnsEnd) : Type 0 where
   pub made : List Step
   pub goes_on : GoesOn disk o.meaning old new made
+  pub book : new ≡ longer o.meaning old made new
   pub opens : MatchResult result (λ left. (more : List Step) (last : TurnsEnd) → Drains o (place_with later new left) more last → Drains o start (made ++ more) last) (λ last. Drains o start made last)
 
 -- an end ahead of the turns, at which no feed was looked at

@@ -7,7 +7,7 @@ use Rattle.step_code.specs.declared.step.StepKind.{StepKind}
 use Rattle.step_code.specs.After.{file_of}
 use Rattle.step_code.specs.State.{bots_in_force}
 use Rattle.journal_book.specs.Book.{BookView}
-use Rattle.book_runs.specs.GoesOn.{GoesOn}
+use Rattle.book_runs.specs.GoesOn.{longer, GoesOn}
 use Rattle.book_runs.specs.declared.committing.CommitFault.{CommitFault}
 use Rattle.book_runs.specs.declared.committing.CommitFault.TheVariants as fault
 use Rattle.journal_book.specs.declared.stage_refusal.StageRefusal.TheVariants as refusal
@@ -65,9 +65,11 @@ pub record OneStep {D R : Type 0} (disk : D → DiskView) (o : Outside) (left : 
   pub step : Step
   pub is_made : IsMade o (place_of old left) step
   pub goes_on : GoesOn disk o.meaning old new (step ∷ [])
+  pub book : new ≡ longer o.meaning old (step ∷ []) new
 
 -- the steps so far: whatever is drained from here on is drained from the start, behind them
 pub record Running {D R : Type 0} (disk : D → DiskView) (o : Outside) (start here : Place) (old now : BookView D R) : Type 0 where
   pub made : List Step
   pub goes_on : GoesOn disk o.meaning old now made
+  pub book : now ≡ longer o.meaning old made now
   pub leads : (more : List Step) (last : TurnsEnd) → Drains o here more last → Drains o start (made ++ more) last

@@ -4,7 +4,7 @@ ghost use Rattle.std.specs.List.{AllByRecursion};
 ghost use Rattle.edge_traits.specs.Count.{Rose};
 ghost use Rattle.edge_traits.specs.Shelf.{count_on, ShelfView};
 ghost use Rattle.step_code.specs.Spent.{last_given};
-ghost use Rattle.book_runs.specs.GoesOn.{GoesOn};
+ghost use Rattle.book_runs.specs.GoesOn.{GoesOn, IsSameBook};
 ghost use Rattle.collector_feeds.specs.Standing.{IsReady};
 ghost use Rattle.turn_order.specs.Turn.{collectors};
 ghost use Rattle.drain_turns.specs.Drained.{Ends};
@@ -45,7 +45,7 @@ pub fn drain_book<D: Disk, R: Rules, H: Shelf, C: Clock>(
     ensures durable { result ≢ TurnsEnd.Disk → book.new.kept ≡ length book.new.steps }
     ensures broken { (result ≡ TurnsEnd.Disk) ↔ (book.new.broken ≡ true) }
     ensures disk { result ≡ TurnsEnd.Disk → Rose (D.disk book.old.disk).faults (D.disk book.new.disk).faults }
-    ensures failed { (name : List ℕ) → result ≡ TurnsEnd.Failed name → FailedBeyond (collectors R.meaning book.old.state) (H.shelf shelf.old) (H.shelf shelf.new) name }
+    ensures failed { (name : List ℕ) → result ≡ TurnsEnd.Failed name → FailedBeyond (collectors R.meaning book.new.state) (H.shelf shelf.old) (H.shelf shelf.new) name }
     ensures told { (H.shelf shelf.new).told ≡ (H.shelf shelf.old).told }
     ensures counts { (name : List ℕ) → count_on (H.shelf shelf.old) name ≤ count_on (H.shelf shelf.new) name }
     ensures other_counts { (name : List ℕ) → IsNoFeed (collectors R.meaning book.old.state) name → count_on (H.shelf shelf.new) name ≡ count_on (H.shelf shelf.old) name }
@@ -75,6 +75,7 @@ fn drain_feeds<D: Disk, R: Rules, H: Shelf, C: Clock>(
     ensures drained { IsDrained D.disk (outside R.meaning (H.shelf shelf.old) (C.told clock.now) book.old.limit) left book.old book.new result }
     ensures end { IsFailedByOne feeds.new result }
     ensures looked { AreLookedAt feeds.old feeds.new (H.shelf shelf.old) (H.shelf shelf.new) }
+    ensures bundle { book.new.state.bundle ≡ book.old.state.bundle }
     ensures broken { (result ≡ TurnsEnd.Disk) ↔ (book.new.broken ≡ true) }
     ensures disk { result ≡ TurnsEnd.Disk → Rose (D.disk book.old.disk).faults (D.disk book.new.disk).faults }
     ensures untold { (D.disk book.old.disk).told ≡ None → (D.disk book.new.disk).told ≡ None }
@@ -102,6 +103,7 @@ fn turns<D: Disk, R: Rules, H: Shelf, C: Clock>(
         → IsDrained D.disk (outside R.meaning first (C.told clock.now) book.old.limit) left book.old book.new result }
     ensures end { IsFailedByOne feeds.new result }
     ensures looked { AreLookedAt feeds.old feeds.new (H.shelf shelf.old) (H.shelf shelf.new) }
+    ensures bundle { book.new.state.bundle ≡ book.old.state.bundle }
     ensures broken { (result ≡ TurnsEnd.Disk) ↔ (book.new.broken ≡ true) }
     ensures disk { result ≡ TurnsEnd.Disk → Rose (D.disk book.old.disk).faults (D.disk book.new.disk).faults }
     ensures untold { (D.disk book.old.disk).told ≡ None → (D.disk book.new.disk).told ≡ None }
@@ -136,6 +138,7 @@ fn turn<D: Disk, R: Rules, H: Shelf, C: Clock>(
     ensures ends { (first : ShelfView) → first.told ≡ (H.shelf shelf.old).told
         → IfErr result (Ends (outside R.meaning first (C.told clock.now) book.old.limit) (place_of book.old left)) }
     ensures still { OnErr result (GoesOn D.disk R.meaning book.old book.new []) }
+    ensures same { OnErr result (IsSameBook book.old book.new) }
     ensures end { IfErr result (IsFailedByOne feeds.new) }
     ensures looked { AreLookedAt feeds.old feeds.new (H.shelf shelf.old) (H.shelf shelf.new) }
     ensures works { AreReady R.task_of book.old.state.bundle works.new.items }

@@ -1,5 +1,5 @@
 -- What moves of the code come to.
-use Rattle.std.proofs.Common.{◌≡◌, ℕ, Bool, true, false, nat_lt, List, [], ◌∷◌, Option, Some, None, IsSomeAnd, option_map, unwrap_or, refl, sym, ap, subst, ◌∙◌, if◌then◌else◌}
+use Rattle.std.proofs.Common.{◌≡◌, ℕ, Bool, true, false, nat_lt, List, [], ◌∷◌, Option, Some, None, IsSomeAnd, Result, Ok, Err, IfOk, option_map, unwrap_or, refl, sym, ap, subst, ◌∙◌, if◌then◌else◌}
 use Rattle.std.specs.List.Sorted.{IsStrictlySortedBy}
 use Rattle.base_types.specs.declared.message.FaultNote.{FaultNote}
 use Rattle.base_types.specs.declared.message.Moment.{Moment}
@@ -14,13 +14,12 @@ use Rattle.step_code.specs.declared.rules.Given.TheVariants as given
 use Rattle.step_code.specs.declared.step.StepKind.TheVariants as kind
 use Rattle.step_code.specs.Content.{on_error_of, stops, IsFront}
 use Rattle.step_code.specs.Fits.{first_failing, in_hand_parts, may_retry, parts}
-use Rattle.step_code.specs.Rules.{AreSound, Meaning, Task, bot_named, collects}
+use Rattle.step_code.specs.Rules.{AreSound, Meaning, Task, bot_named}
 use Rattle.step_code.specs.State.{bots_in_force, hand_of, waiting}
-use Rattle.turn_order.specs.Turn.{first_actor}
-use Rattle.turn_order.specs.declared.actor.Actor.TheVariants.{Full, Take}
-use Rattle.turn_order.proofs.Actors.{full_of, steps_by, takes_fit}
-use Rattle.drain_turns.specs.Moves.{IsMoveOf}
-use Rattle.drain_turns.specs.declared.turn.Turn.TheVariants.{Acts}
+use Rattle.turn_order.specs.Turn.{IsFreeToTake}
+use Rattle.turn_order.proofs.Actors.{takes_fit}
+use Rattle.drain_turns.specs.Moves.{IsGivenOf, IsMoveThat}
+use Rattle.drain_turns.specs.Turn.{IsWorkOf}
 use Rattle.drain_turns.proofs.Working.{fail_fits, given_of, parts_hold, retry_fits}
 
 -- the bots in force are within the limits
@@ -37,8 +36,8 @@ all_sound m s law = go (m.facts s.bundle) refl
 
 -- ---- a message that is taken
 
-pub never_empty : (m : Meaning) (s : Base) (bot : List ℕ) → AreSound (bots_in_force m s) → first_actor m s ≡ Some (Take bot) → waiting (queue_name bot) s ≡ [] → ⊥
-never_empty m s bot sound is none = let hold = parts_hold (parts m s (kind.Take bot 1 0)) (takes_fit m s bot 0 sound is) in cc (rw (none) at hold.1.1.1.0)
+pub never_empty : (m : Meaning) (s : Base) (bot : List ℕ) (i : ℕ) → IsFreeToTake m s bot i → waiting (queue_name bot) s ≡ [] → ⊥
+never_empty m s bot i free none = let hold = parts_hold (parts m s (kind.Take bot i 0)) (takes_fit m s bot i 0 free) in cc (rw (none) at hold.1.1.1.0)
 
 pub no_front : (ms : List Msg) → option_map (λ message. message.no) (front_of ms) ≡ None → ms ≡ []
 no_front [] is = refl
@@ -49,12 +48,6 @@ is_front [] number is = absurd (cc)
 is_front (message ∷ others) number is = cc
 
 -- ---- a full hand
-
--- the bot that holds the message is one of the plan that takes messages
-pub holder : (m : Meaning) (s : Base) (bot : List ℕ) (i : ℕ) → AreSound (bots_in_force m s) → first_actor m s ≡ Some (Full bot i) → (f : Facts) × (bot_named bot (bots_in_force m s) ≡ Some f) × (collects f ≡ false)
-holder m s bot i sound is =
-    let step = steps_by m s (Full bot i) sound is in
-    (step.facts, subst (λ (b : List ℕ). bot_named b (bots_in_force m s) ≡ Some step.facts) (full_of s step.facts bot i step.acts).0 step.named, step.worker)
 
 pub is_held : (m : Meaning) (s : Base) (bot : List ℕ) (i : ℕ) (hand : Hand) (f : Facts) → hand_of bot i s ≡ Some hand → bot_named bot (bots_in_force m s) ≡ Some f → may_retry m s bot i ≡ nat_lt hand.tries f.retries
 is_held m s bot i hand f holds named =
@@ -71,6 +64,10 @@ pub ends_tries : (below stop halts : Bool) → (if below then None else Some sto
 ends_tries true stop halts is = absurd (cc)
 ends_tries false stop halts is = (refl, cc)
 
+-- what is shown of a hand
+pub shown_is : {A : Type 0} (P : A → Type 0) (o : Option A) (x : A) → o ≡ Some x → IsSomeAnd o P → P x
+shown_is P o x is shown = subst (λ p. IsSomeAnd p P) is shown
+
 -- what a bot gave of the message in its hand, by what was read of that
 pub gave_is : (m : Meaning) (s : Base) (bot : List ℕ) (hand : Hand) (g : Given) (task : Task) (message : Msg) (since : Moment) → g ≡ m.give task message.body since.0 → task ≡ record { bundle = s.bundle; bot = bot } → message ≡ hand.message → since ≡ hand.since
     → given_of m s bot hand ≡ g
@@ -78,17 +75,25 @@ gave_is m s bot hand g task message since is task_is message_is since_is =
     sym (is ∙ ap (λ (t : Task). m.give t message.body since.0) task_is ∙ ap (λ (x : Msg). m.give (record { bundle = s.bundle; bot = bot }) x.body since.0) message_is
     ∙ ap (λ (t : Moment). m.give (record { bundle = s.bundle; bot = bot }) hand.message.body t.0) since_is)
 
+-- so of whatever it gave
+pub gave_whatever : {E : Type 0} (m : Meaning) (s : Base) (bot : List ℕ) (i : ℕ) (r : Result Given E) (task : Task) (message : Msg) (since : Moment) (tries : ℕ) → IfOk r (λ g. g ≡ m.give task message.body since.0)
+    → task ≡ record { bundle = s.bundle; bot = bot } → IsSomeAnd (hand_of bot i s) (λ h. (message ≡ h.message) × (tries ≡ h.tries) × (since ≡ h.since)) → IfOk r (IsGivenOf m s bot i)
+gave_whatever m s bot i (Err e) task message since tries is task_is shown = tt
+gave_whatever m s bot i (Ok g) task message since tries is task_is shown = λ hand holds.
+    let here = shown_is (λ (h : Hand). (message ≡ h.message) × (tries ≡ h.tries) × (since ≡ h.since)) (hand_of bot i s) hand holds shown in
+    gave_is m s bot hand g task message since is task_is here.0 here.2
+
 pub retry_is : (m : Meaning) (s : Base) (bot : List ℕ) (i : ℕ) (hand : Hand) (number bundle : ℕ) (note : FaultNote) → hand_of bot i s ≡ Some hand → first_failing (in_hand_parts m s bot i hand.message.no s.bundle_no) ≡ None
-    → number ≡ hand.message.no → bundle ≡ s.bundle_no → may_retry m s bot i ≡ true → given_of m s bot hand ≡ given.Fault note → IsMoveOf m s (Acts (Full bot i)) (kind.Retry bot i number bundle note)
+    → number ≡ hand.message.no → bundle ≡ s.bundle_no → may_retry m s bot i ≡ true → given_of m s bot hand ≡ given.Fault note → IsMoveThat m s (IsWorkOf bot i) (kind.Retry bot i number bundle note)
 retry_is m s bot i hand number bundle note holds fits number_is bundle_is may gives =
-    subst (λ (n : ℕ). IsMoveOf m s (Acts (Full bot i)) (kind.Retry bot i n bundle note)) (sym number_is) (subst (λ (b : ℕ). IsMoveOf m s (Acts (Full bot i)) (kind.Retry bot i hand.message.no b note)) (sym bundle_is)
+    subst (λ (n : ℕ). IsMoveThat m s (IsWorkOf bot i) (kind.Retry bot i n bundle note)) (sym number_is) (subst (λ (b : ℕ). IsMoveThat m s (IsWorkOf bot i) (kind.Retry bot i hand.message.no b note)) (sym bundle_is)
     (record { is = (refl, refl); fits = retry_fits m s bot i hand.message.no s.bundle_no note fits may; carries = λ now. record { hand = hand; holds = holds; gives = gives } }))
 
 pub fail_is : (m : Meaning) (s : Base) (bot : List ℕ) (i : ℕ) (hand : Hand) (number bundle : ℕ) (note : FaultNote) (queues : List (List ℕ)) (halts : Bool) → hand_of bot i s ≡ Some hand
     → first_failing (in_hand_parts m s bot i hand.message.no s.bundle_no) ≡ None → number ≡ hand.message.no → bundle ≡ s.bundle_no → may_retry m s bot i ≡ false → given_of m s bot hand ≡ given.Fault note
-    → queues ≡ on_error_of m s bot → halts ≡ stops m s bot → IsMoveOf m s (Acts (Full bot i)) (kind.Fail bot i number bundle note queues halts)
+    → queues ≡ on_error_of m s bot → halts ≡ stops m s bot → IsMoveThat m s (IsWorkOf bot i) (kind.Fail bot i number bundle note queues halts)
 fail_is m s bot i hand number bundle note queues halts holds fits number_is bundle_is may gives goes halting =
-    subst (λ (n : ℕ). IsMoveOf m s (Acts (Full bot i)) (kind.Fail bot i n bundle note queues halts)) (sym number_is) (subst (λ (b : ℕ). IsMoveOf m s (Acts (Full bot i)) (kind.Fail bot i hand.message.no b note queues halts)) (sym bundle_is)
+    subst (λ (n : ℕ). IsMoveThat m s (IsWorkOf bot i) (kind.Fail bot i n bundle note queues halts)) (sym number_is) (subst (λ (b : ℕ). IsMoveThat m s (IsWorkOf bot i) (kind.Fail bot i hand.message.no b note queues halts)) (sym bundle_is)
     (record {
       is = (refl, refl);
       fits = fail_fits m s bot i hand.message.no s.bundle_no note queues halts fits may;
@@ -97,11 +102,7 @@ fail_is m s bot i hand number bundle note queues halts holds fits number_is bund
 
 pub done_is : (m : Meaning) (s : Base) (bot : List ℕ) (i : ℕ) (hand : Hand) (number bundle : ℕ) (sends : List (List ℕ × List ℕ)) (dumps : List (List ℕ × FaultNote)) (key : Option (List ℕ)) (line : Bool) → hand_of bot i s ≡ Some hand
     → first_failing (in_hand_parts m s bot i hand.message.no s.bundle_no) ≡ None → number ≡ hand.message.no → bundle ≡ s.bundle_no → given_of m s bot hand ≡ given.Pass sends dumps key line
-    → IsMoveOf m s (Acts (Full bot i)) (kind.Done bot i number bundle sends dumps key line)
+    → IsMoveThat m s (IsWorkOf bot i) (kind.Done bot i number bundle sends dumps key line)
 done_is m s bot i hand number bundle sends dumps key line holds fits number_is bundle_is gives =
-    subst (λ (n : ℕ). IsMoveOf m s (Acts (Full bot i)) (kind.Done bot i n bundle sends dumps key line)) (sym number_is) (subst (λ (b : ℕ). IsMoveOf m s (Acts (Full bot i)) (kind.Done bot i hand.message.no b sends dumps key line)) (sym bundle_is)
+    subst (λ (n : ℕ). IsMoveThat m s (IsWorkOf bot i) (kind.Done bot i n bundle sends dumps key line)) (sym number_is) (subst (λ (b : ℕ). IsMoveThat m s (IsWorkOf bot i) (kind.Done bot i hand.message.no b sends dumps key line)) (sym bundle_is)
     (record { is = (refl, refl); fits = fits; carries = λ now. record { hand = hand; holds = holds; gives = gives } }))
-
--- what is shown of a hand
-pub shown_is : {A : Type 0} (P : A → Type 0) (o : Option A) (x : A) → o ≡ Some x → IsSomeAnd o P → P x
-shown_is P o x is shown = subst (λ p. IsSomeAnd p P) is shown

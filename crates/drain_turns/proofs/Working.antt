@@ -18,10 +18,10 @@ use Rattle.step_code.specs.Content.{is_duplicate, on_error_of, stops, IsInTime, 
 use Rattle.step_code.specs.Fits.{backlog_limit, first_failing, in_hand_parts, may_retry, parts, Fits, Part}
 use Rattle.step_code.specs.Rules.{AreSound, Meaning, collects, last_moment, passes}
 use Rattle.step_code.specs.State.{backlog, bots_in_force, hand_of, position_of, tries_of, waiting}
-use Rattle.turn_order.specs.Turn.{first_actor}
+use Rattle.turn_order.specs.Turn.{first_actor, IsFreeToTake}
 use Rattle.turn_order.specs.declared.actor.Actor.{Actor}
 use Rattle.turn_order.specs.declared.actor.Actor.TheVariants.{Full, Take}
-use Rattle.turn_order.proofs.Actors.{full_hands_fit, takes_fit}
+use Rattle.turn_order.proofs.Actors.{first_is_free, first_is_full, full_hands_fit, takes_fit}
 use Rattle.journal_book.specs.Staged.{stamp}
 use Rattle.collector_feeds.specs.Found.{IsAhead}
 use Rattle.collector_feeds.specs.declared.found.Found.{Found}
@@ -86,8 +86,8 @@ IsLegalWork m s bot i now = (step : Step) × IsWorkOf bot i step.what × (step.m
 
 works : (m : Meaning) (s : Base) (bot : List ℕ) (i now : ℕ) → AreSound (bots_in_force m s) → s.latest.0 ≤ last_moment → first_actor m s ≡ Some (Full bot i) → IsLegalWork m s bot i now
 works m s bot i now sound latest is =
-    let found = full_hands_fit m s bot i sound is in
-    by_given found.0 found.1 found.2 (given_of m s bot found.0) refl
+    let full = first_is_full m s bot i sound is in
+    by_given full.hand full.holds (full_hands_fit m s bot i full.hand full.live full.holds) (given_of m s bot full.hand) refl
   where
     stamped : ℕ
     stamped = (stamp s now).0
@@ -116,15 +116,18 @@ pub takes : (m : Meaning) (s : Base) (bot : List ℕ) (now : ℕ) → AreSound (
     → (step : Step) × IsActOf (Take bot) step.what × (step.moment ≡ stamp s now) × May m s step
 takes m s bot now sound latest is = go (waiting (queue_name bot) s) refl
   where
+    free : IsFreeToTake m s bot 1
+    free = first_is_free m s bot sound is
+
     go : (ms : List Msg) → waiting (queue_name bot) s ≡ ms → (step : Step) × IsActOf (Take bot) step.what × (step.moment ≡ stamp s now) × May m s step
     go [] none =
-        let hold = parts_hold (parts m s (kind.Take bot 1 0)) (takes_fit m s bot 0 sound is) in
+        let hold = parts_hold (parts m s (kind.Take bot 1 0)) (takes_fit m s bot 1 0 free) in
         absurd (cc (rw (none) at hold.1.1.1.0))
     go (message ∷ others) front = (
       record { moment = stamp s now; what = kind.Take bot 1 message.no },
       (message.no, refl),
       refl,
-      record { fits = takes_fit m s bot message.no sound is; content = record { time = in_time s now _ latest; what = rw (front) refl } },
+      record { fits = takes_fit m s bot 1 message.no free; content = record { time = in_time s now _ latest; what = rw (front) refl } },
     )
 
 -- ---- what a collector finds
@@ -160,7 +163,7 @@ found_step o s bot at what now sound latest is gives =
           record {
             fits = none_fails (parts o.meaning s (kind.Collect f.bot place cut.upto cut.piece))
                 (ap (passes collects) live.named ∙ live.role, (ap not live.going, (eq-eqb place place refl, (not_false (nat_lt (backlog (bots_in_force o.meaning s) s) backlog_limit) free, tt))));
-            content = record { time = in_time s now _ latest; what = ahead };
+            content = record { time = in_time s now _ latest; what = (ahead.0, ahead.1) };
           },
         )
     of_found f live found.End gives ahead free =

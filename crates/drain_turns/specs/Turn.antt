@@ -71,10 +71,14 @@ IsWorkOf bot instance (kind.Reload bundle) = ⊥
 IsWorkOf bot instance (kind.Redo dump) = ⊥
 IsWorkOf bot instance (kind.Round other) = ⊥
 
+-- an instance takes a message
+abbrev pub IsTakeOf : List ℕ → ℕ → StepKind → Type 0
+IsTakeOf bot instance what = (message : ℕ) × (what ≡ kind.Take bot instance message)
+
 -- a full hand is worked on, or the front of the queue is taken, by the first instance
 abbrev pub IsActOf : Actor → StepKind → Type 0
 IsActOf (Full bot instance) what = IsWorkOf bot instance what
-IsActOf (Take bot) what = (message : ℕ) × (what ≡ kind.Take bot 1 message)
+IsActOf (Take bot) what = IsTakeOf bot 1 what
 
 -- a piece that is found is collected, at the end the feed is finished, and all else gives no step
 abbrev pub IsFindOf : List ℕ → ℕ → Found → StepKind → Type 0

@@ -12,6 +12,6 @@ pub use laws::{
     all_asked_are_made, feeds_stay_readable, free_calls_end_idle, nobody_only_if_halted, one_drain,
     one_step, one_turn, opened_feeds_are_readable, some_step,
 };
-pub use moves::{actor_move, found_move};
+pub use moves::{actor_move, found_move, given_move, take_move, work_move};
 pub use turn::Turn;
 pub use works::Ready;

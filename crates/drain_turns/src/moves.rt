@@ -3,12 +3,10 @@ ghost use Rattle.std.specs.Prelude.{◌≡◌, ℕ, nat_lt, Some, None, IfOk, Is
 ghost use Rattle.step_code.specs.After.{file_of};
 ghost use Rattle.step_code.specs.State.{bots_in_force, hand_of};
 ghost use Rattle.step_code.specs.declared.rules.Given.TheVariants as given;
-ghost use Rattle.stored_types.specs.declared.hand.Hand.{Hand};
 ghost use Rattle.collector_feeds.specs.declared.found.Found.TheVariants as found;
-ghost use Rattle.turn_order.specs.Turn.{first_actor};
-ghost use Rattle.turn_order.specs.declared.actor.Actor.TheVariants.{Full, Take};
-ghost use Rattle.drain_turns.specs.Moves.{IsEndOf, IsMoveOf};
-ghost use Rattle.drain_turns.specs.Turn.{IsFindOf};
+ghost use Rattle.turn_order.specs.Turn.{IsFreeToTake, MayAct};
+ghost use Rattle.drain_turns.specs.Moves.{IsEndOf, IsGivenOf, IsMoveOf, IsMoveThat};
+ghost use Rattle.drain_turns.specs.Turn.{IsFindOf, IsTakeOf, IsWorkOf};
 ghost use Rattle.drain_turns.specs.Works.{AreReady};
 ghost use Rattle.drain_turns.specs.declared.turn.Turn.TheVariants.{Acts};
 
@@ -25,61 +23,96 @@ use step_code::{Facts, Given, Rules, StepKind, bot_named};
 use stored_types::Coded;
 use turn_order::Actor;
 
-/// What the bot that steps does next.
+/// What a bot does that may step.
 pub fn actor_move<R: Rules>(
     alloc: Global,
     core: &Core<R>,
     works: &mut Vec<Ready<R::Work>>,
     actor: Actor,
 ) -> Result<Move, OutOfMemory>
-    requires actor { first_actor R.meaning core.now.state ≡ Some actor }
+    requires actor { MayAct R.meaning core.now.state actor }
     requires ready { AreReady R.task_of core.now.state.bundle works.old.items }
     ensures ready { AreReady R.task_of core.now.state.bundle works.new.items }
     ensures is { IfOk result (IsMoveOf R.meaning core.now.state (Acts actor)) }
 {
     match actor {
         Actor::Full { bot, instance } => work_move(alloc, core, works, bot, instance),
-        Actor::Take { bot } => take_move(core, bot),
+        Actor::Take { bot } => Ok(take_move(core, bot, 1)),
     }
 }
 
-// A bot takes the message at the front of its queue.
-fn take_move<R: Rules>(core: &Core<R>, bot: BotName) -> Result<Move, OutOfMemory>
-    requires actor { first_actor R.meaning core.now.state ≡ Some (Take bot) }
-    ensures is { IfOk result (IsMoveOf R.meaning core.now.state (Acts (Take bot))) }
+/// An instance takes the message at the front of its bot's queue.
+pub fn take_move<R: Rules>(core: &Core<R>, bot: BotName, instance: u8) -> Move
+    requires free { IsFreeToTake R.meaning core.now.state bot instance }
+    ensures is { IsMoveThat R.meaning core.now.state (IsTakeOf bot instance) result }
 {
     match core.front_no(&bot) {
-        Some(message) => Ok(StepKind::Take {
+        Some(message) => StepKind::Take {
             bot,
-            instance: 1,
+            instance,
             message,
-        }),
+        },
         None => unreachable!(),
     }
 }
 
-// An instance ends its work on the message in its hand.
-fn work_move<R: Rules>(
+/// An instance ends its work on the message in its hand. Its bot is made ready for work where it isn't yet.
+pub fn work_move<R: Rules>(
     alloc: Global,
     core: &Core<R>,
     works: &mut Vec<Ready<R::Work>>,
     bot: BotName,
     instance: u8,
 ) -> Result<Move, OutOfMemory>
-    requires actor { first_actor R.meaning core.now.state ≡ Some (Full bot instance) }
+    requires full { IsSome (hand_of bot instance core.now.state) }
     requires ready { AreReady R.task_of core.now.state.bundle works.old.items }
     ensures ready { AreReady R.task_of core.now.state.bundle works.new.items }
-    ensures is { IfOk result (IsMoveOf R.meaning core.now.state (Acts (Full bot instance))) }
+    ensures is { IfOk result (IsMoveThat R.meaning core.now.state (IsWorkOf bot instance)) }
 {
-    let place = place_of(alloc, core, works, &bot)?;
-    let Some(hand) = core.in_hand(&bot, instance) else {
+    let given = give(alloc, core, works, &bot, instance)?;
+    given_move(alloc, core, bot, instance, given)
+}
+
+// What a bot gives of the message in an instance's hand.
+fn give<R: Rules>(
+    alloc: Global,
+    core: &Core<R>,
+    works: &mut Vec<Ready<R::Work>>,
+    bot: &BotName,
+    instance: u8,
+) -> Result<Given, OutOfMemory>
+    requires full { IsSome (hand_of bot.now instance core.now.state) }
+    requires ready { AreReady R.task_of core.now.state.bundle works.old.items }
+    ensures ready { AreReady R.task_of core.now.state.bundle works.new.items }
+    ensures gave { IfOk result (IsGivenOf R.meaning core.now.state bot.now instance) }
+{
+    let _ = core.plan();
+    let place = place_of(alloc, core, works, bot)?;
+    let Some(hand) = core.in_hand(bot, instance) else {
         unreachable!()
     };
     let ready = &mut works[place];
-    match core
-        .rules()
-        .give(alloc, &mut ready.work, &hand.message.body, hand.since)?
-    {
+    core.rules()
+        .give(alloc, &mut ready.work, &hand.message.body, hand.since)
+}
+
+/// An instance ends its work on the message in its hand, of which its bot gave this.
+pub fn given_move<R: Rules>(
+    alloc: Global,
+    core: &Core<R>,
+    bot: BotName,
+    instance: u8,
+    given: Given,
+) -> Result<Move, OutOfMemory>
+    requires full { IsSome (hand_of bot instance core.now.state) }
+    requires gave { IsGivenOf R.meaning core.now.state bot instance given }
+    ensures is { IfOk result (IsMoveThat R.meaning core.now.state (IsWorkOf bot instance)) }
+{
+    let _ = core.plan();
+    let Some(hand) = core.in_hand(&bot, instance) else {
+        unreachable!()
+    };
+    match given {
         Given::Pass {
             sends,
             dumps,
@@ -107,10 +140,9 @@ fn fault_move<R: Rules>(
     instance: u8,
     note: FaultNote,
 ) -> Result<Move, OutOfMemory>
-    requires actor { first_actor R.meaning core.now.state ≡ Some (Full bot instance) }
-    requires gave { (hand : Hand) → hand_of bot instance core.now.state ≡ Some hand
-        → R.meaning.give (record { bundle = core.now.state.bundle; bot = bot }) hand.message.body hand.since.0 ≡ given.Fault note }
-    ensures is { IfOk result (IsMoveOf R.meaning core.now.state (Acts (Full bot instance))) }
+    requires full { IsSome (hand_of bot instance core.now.state) }
+    requires gave { IsGivenOf R.meaning core.now.state bot instance (given.Fault note) }
+    ensures is { IfOk result (IsMoveThat R.meaning core.now.state (IsWorkOf bot instance)) }
 {
     let Some(hand) = core.in_hand(&bot, instance) else {
         unreachable!()

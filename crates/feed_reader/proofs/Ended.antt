@@ -3,12 +3,11 @@ use Rattle.std.proofs.Common.{◌≡◌, ℕ, ◌≤◌, true, false, None, List
 use Rattle.std.proofs.lemmas.List.{drop_all, length-replicate}
 use Rattle.report_cut.specs.Pieces.{End, header_of, next, AreNext, IsCutUnder, offset_behind}
 use Rattle.report_cut.specs.Cutter.{Cutting, header_in, CutsAll}
-use Rattle.report_cut.specs.Laws.{OffsetsRise}
 use Rattle.report_cut.specs.Standing.{Reached}
 use Rattle.report_cut.proofs.Calls.{ended_in}
-use Rattle.feed_reader.specs.Coming.{StandsIn, IsCounted, ArePlain}
+use Rattle.feed_reader.specs.Coming.{StandsIn, IsCounted, AreOnward, ArePlain}
 use Rattle.feed_reader.specs.declared.coming.Coming.{Coming}
-use Rattle.feed_reader.proofs.Given.{plain_header, plain_pieces, rising}
+use Rattle.feed_reader.proofs.Given.{onward, plain_header, plain_pieces}
 use Rattle.feed_reader.proofs.Taken.{stands_at}
 
 -- the rest was cut off when the feed ended
@@ -38,10 +37,10 @@ counted_ended c d k t =
           let feed : List ℕ = front ++ s.held in
           let plain' = ap (λ r. r.replicate) (sym rule) ∙ plain in
           subst (λ n. ArePlain n d.pieces.items) (sym (t.at ∙ here)) (plain_pieces s.rule (header_in s feed) feed s.at d.pieces.items plain' (plain_header s feed plain' (k.header plain')) k.chunk (t.all front (length-replicate s.at 0)).pieces);
-      rise =
+      onward =
           let front : List ℕ = replicate s.at 0 in
           let feed : List ℕ = front ++ s.held in
-          subst (λ n. OffsetsRise n d.pieces.items) (sym (t.at ∙ here)) (rising s.rule (header_in s feed) feed s.at d.pieces.items (t.all front (length-replicate s.at 0)).pieces);
+          subst (λ n. AreOnward n d.pieces.items) (sym (t.at ∙ here)) (onward s.rule (header_in s feed) feed s.at d.pieces.items (t.all front (length-replicate s.at 0)).pieces);
     }
 
 pub stands_ended : (c d : Coming) (feed : List ℕ) → IsCounted c → Ended c d → StandsIn feed c → length feed ≤ c.read → StandsIn feed d

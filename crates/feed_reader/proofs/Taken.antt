@@ -4,13 +4,12 @@ use Rattle.std.proofs.lemmas.Bool.{cond-false, and_left}
 use Rattle.std.proofs.lemmas.List.{length-drop}
 use Rattle.report_cut.specs.Pieces.{Long, longest_line, header_of, next, AreNext, offset_behind}
 use Rattle.report_cut.specs.Cutter.{ComeNext, MeetsLong, Follows}
-use Rattle.report_cut.specs.Laws.{OffsetsRise}
 use Rattle.report_cut.specs.Standing.{Reached}
 use Rattle.report_cut.specs.declared.piece.Cut.{Cut}
 use Rattle.report_cut.proofs.Calls.{come_in, reached_next}
-use Rattle.feed_reader.specs.Coming.{StandsIn, IsCounted, ArePlain, steps_by, steps_left}
+use Rattle.feed_reader.specs.Coming.{StandsIn, IsCounted, AreOnward, ArePlain, steps_by, steps_left}
 use Rattle.feed_reader.specs.declared.coming.Coming.{Coming}
-use Rattle.feed_reader.proofs.Given.{plain_next, rising_next, long_next}
+use Rattle.feed_reader.proofs.Given.{plain_next, onward_next, long_next}
 
 -- these pieces were cut off when further bytes came
 pub record Took (c d : Coming) (bytes : List ℕ) : Type 0 where
@@ -47,7 +46,7 @@ counted_then c d bytes k t bounded going =
       header = λ plain. t.follows.header [] ∙ cond-false (c.cutter.rule.replicate && nat_lt 0 d.cutter.at) _ None (and_left c.cutter.rule.replicate (nat_lt 0 d.cutter.at) (ap (λ r. r.replicate) (sym t.follows.rule) ∙ plain));
       plain = λ plain. let plain' = ap (λ r. r.replicate) (sym t.follows.rule) ∙ plain in
           subst (λ n. ArePlain n d.pieces.items) (sym (t.at ∙ here)) (plain_next c.cutter (c.cutter.held ++ bytes) d.pieces.items plain' (k.header plain') k.chunk t.next);
-      rise = subst (λ n. OffsetsRise n d.pieces.items) (sym (t.at ∙ here)) (rising_next c.cutter (c.cutter.held ++ bytes) d.pieces.items t.next);
+      onward = subst (λ n. AreOnward n d.pieces.items) (sym (t.at ∙ here)) (onward_next c.cutter (c.cutter.held ++ bytes) d.pieces.items t.next);
     }
 
 less_steps : (cuts : List Cut) (long : Option ℕ) (held before : ℕ) → before ≤ 2 * longest_line → held ≤ 2 * longest_line → (cuts ≡ [] → long ≡ None → before < held) → steps_by cuts false long held < 2 + 2 * longest_line - before

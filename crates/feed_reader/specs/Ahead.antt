@@ -34,8 +34,11 @@ abbrev pub IsPlainAhead : ℕ → Ahead → Type 0
 IsPlainAhead at (ahead.Piece cut) = IsPlainPiece at cut
 IsPlainAhead at _ = Unit {0}
 
--- a piece ends behind the offset
+-- a piece has a byte, and it ends behind the offset
+abbrev pub IsOnwardPiece : ℕ → Cut → Type 0
+IsOnwardPiece at cut = (at < cut.upto) × (0 < length cut.piece)
+
 abbrev pub IsOnward : ℕ → Ahead → Type 0
-IsOnward at (ahead.Piece cut) = at < cut.upto
+IsOnward at (ahead.Piece cut) = IsOnwardPiece at cut
 IsOnward at ahead.End = Unit {0}
 IsOnward at (ahead.LongLine line) = Unit {0}

@@ -1,10 +1,9 @@
 -- The pieces of a feed that is coming, as a reader keeps them.
 use Rattle.std.specs.Prelude.{◌≡◌, ℕ, ◌+◌, ◌-◌, ◌*◌, ◌≤◌, Bool, true, false, Option, Some, None, List, [], ◌∷◌, length, drop}
 use Rattle.report_cut.specs.Pieces.{End, longest_line, header_of, next, AreNext, offset_behind}
-use Rattle.report_cut.specs.Laws.{OffsetsRise}
 use Rattle.report_cut.specs.Standing.{Reached}
 use Rattle.report_cut.specs.declared.piece.Cut.{Cut}
-use Rattle.feed_reader.specs.Ahead.{IsPlainPiece}
+use Rattle.feed_reader.specs.Ahead.{IsOnwardPiece, IsPlainPiece}
 use Rattle.feed_reader.specs.declared.coming.Coming.{Coming}
 
 -- at most so many bytes are taken in at a time
@@ -22,6 +21,11 @@ abbrev pub ArePlain : ℕ → List Cut → Type 0
 ArePlain at [] = Unit {0}
 ArePlain at (cut ∷ cuts) = IsPlainPiece at cut × ArePlain cut.upto cuts
 
+-- pieces that have a byte, one behind the other
+abbrev pub AreOnward : ℕ → List Cut → Type 0
+AreOnward at [] = Unit {0}
+AreOnward at (cut ∷ cuts) = IsOnwardPiece at cut × AreOnward cut.upto cuts
+
 -- what holds whatever the feed is
 pub record IsCounted (c : Coming) : Type 0 where
   pub chunk : c.cutter.rule.chunk_size ≤ longest_line
@@ -31,7 +35,7 @@ pub record IsCounted (c : Coming) : Type 0 where
   pub read : c.ended ≡ false → c.cutter.long ≡ None → c.read ≡ c.cutter.at + length c.cutter.held
   pub header : c.cutter.rule.replicate ≡ false → c.cutter.header ≡ None
   pub plain : c.cutter.rule.replicate ≡ false → ArePlain c.at c.pieces.items
-  pub rise : OffsetsRise c.at c.pieces.items
+  pub onward : AreOnward c.at c.pieces.items
 
 -- how much more may be read until a piece waits, or the end or a long line is met
 abbrev pub steps_by : List Cut → Bool → Option ℕ → ℕ → ℕ

@@ -1,7 +1,7 @@
 ghost use Rattle.std.specs.Prelude.{◌≡◌, ◌≢◌, ◌+◌, ◌∷◌, ◌++◌, ◌<◌, ◌≤◌, ◌^◌, ℕ, List, [], length, drop, true, false, None, MatchOption, IfOk, IfSome, IsErrOf};
 ghost use Rattle.report_cut.specs.Pieces.{Piece, End, Long, next};
 ghost use Rattle.feed_reader.specs.Coming.{IsCounted, StandsIn, steps_left, longest_slice};
-ghost use Rattle.feed_reader.specs.Ahead.{IsPlainPiece};
+ghost use Rattle.feed_reader.specs.Ahead.{IsOnwardPiece, IsPlainPiece};
 
 use crate::ReaderFault;
 use report_cut::{Cut, CutFault, Cutter};
@@ -30,7 +30,7 @@ impl Coming {
         ensures steps { result ≡ None → steps_left self.new ≡ steps_left self.old }
         ensures next { (feed : List ℕ) → StandsIn feed self.old → IfSome result (λ cut. next self.old.cutter.rule feed self.old.at ≡ Piece cut) }
         ensures plain { self.old.cutter.rule.replicate ≡ false → IfSome result (IsPlainPiece self.old.at) }
-        ensures onward { IfSome result (λ cut. self.old.at < cut.upto) }
+        ensures onward { IfSome result (IsOnwardPiece self.old.at) }
         ensures at { MatchOption result (self.new.at ≡ self.old.at) (λ cut. self.new.at ≡ cut.upto) }
         ensures stands { (feed : List ℕ) → StandsIn feed self.old → StandsIn feed self.new }
         ensures rule { self.new.cutter.rule ≡ self.old.cutter.rule }

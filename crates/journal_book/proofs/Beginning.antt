@@ -1,13 +1,15 @@
 -- What a new store stands for.
-use Rattle.std.proofs.Common.{◌≡◌, ◌≤◌, inl, ℕ, suc, true, false, List, [], ◌∷◌, ◌++◌, length, map, filter, flat_map, Option, Some, None, refl, sym, ap, subst, ◌∙◌, arith, length-append}
+use Rattle.std.proofs.Common.{◌≡◌, ◌≢◌, ◌≤◌, inl, inr, ℕ, suc, true, false, List, [], ◌∷◌, ◌++◌, length, map, filter, flat_map, Option, Some, None, refl, sym, ap, subst, ◌∙◌, arith, length-append}
 use Rattle.std.proofs.lemmas.Option.{none-some}
 use Rattle.std.specs.List.{AllByRecursion}
-use Rattle.edge_traits.specs.Disk.{DiskView, Image, IsImage}
-use Rattle.disk_journal.specs.Journal.{JournalView}
+use Rattle.edge_traits.specs.Disk.{DiskView, Image, IsImage, Leaves}
+use Rattle.edge_traits.proofs.Moments.{widened}
+use Rattle.disk_journal.specs.Reads.{OnlyReads}
+use Rattle.disk_journal.specs.GateFile.{heading_of, Heading, HasBodies}
+use Rattle.disk_journal.specs.Journal.{JournalView, IsAtRest}
 use Rattle.step_code.specs.declared.base.Base.{Base}
 use Rattle.step_code.specs.declared.rules.Facts.{Facts}
 use Rattle.step_code.specs.declared.step.Step.{Step}
-use Rattle.step_code.specs.declared.output.Output.{Output}
 use Rattle.step_code.specs.Code.{cache, code_of_base, feed, first_format, heads_in, output, IsWritable, IsWritableBase}
 use Rattle.stored_types.specs.Hand.{hand}
 use Rattle.stored_types.specs.Message.{dump}
@@ -19,13 +21,17 @@ use Rattle.step_code.specs.History.{first, replay}
 use Rattle.step_code.specs.Rules.{Meaning, writes}
 use Rattle.step_code.specs.Sound.{longest_base, IsSound}
 use Rattle.step_code.specs.State.{new_out}
-use Rattle.store_image.specs.Stands.{AreSealedFrom, FrontsStand}
-use Rattle.store_image.specs.Stored.{codes_of}
+use Rattle.store_image.specs.Files.{generation_file, root_file}
+use Rattle.store_image.specs.Stands.{AreSealedFrom, FrontsStand, Stands}
+use Rattle.store_image.specs.Stored.{codes_of, HoldsSteps}
 use Rattle.store_image.proofs.Standing.{stands_by, IsPast}
 use Rattle.journal_book.specs.Book.{created, BookView, IsKept}
 use Rattle.journal_book.specs.Keeping.{longest_output, longest_waiting, AreAtRest, AreShort, AreStoreFiles, IsPending, IsReplayed}
 use Rattle.journal_book.specs.Staged.{greatest_limit}
-use Rattle.journal_book.proofs.Flushing.{stored_now}
+use Rattle.journal_book.specs.Alone.{IsBesideNew}
+use Rattle.journal_book.specs.NewStore.{HasOldRootOrFirst, HoldsFirst}
+use Rattle.journal_book.proofs.Alone.{reads_alone}
+use Rattle.journal_book.proofs.Flushing.{bodies_at_rest, stored_now}
 use Rattle.journal_book.proofs.Small.{few_of}
 
 new_outs_sealed : (bots : List Facts) → AreSealedFrom (map new_out bots) (map new_out bots)
@@ -65,27 +71,62 @@ new_outs_short m base state bots bundle sound is same =
     }
 
 -- nothing of a first state is sealed
-first_past : (m : Meaning) (bots : List Facts) (bundle : List ℕ) (image : Image) → IsPast m (first bots bundle) [] (first bots bundle) image
-first_past m bots bundle image = record { seals = record { outs = new_outs_sealed (filter writes bots); same = refl }; fronts = new_fronts 0 (filter writes bots) image }
+first_past : (m : Meaning) (bots : List Facts) (bundle : List ℕ) (image : Image) → length (code_of_base first_format (first bots bundle)) ≤ longest_base → IsPast m (first bots bundle) [] (first bots bundle) image
+first_past m bots bundle image short =
+    record { seals = record { outs = new_outs_sealed (filter writes bots); same = refl }; fronts = new_fronts 0 (filter writes bots) image; short = short }
+
+first_past_of : (m : Meaning) (bots : List Facts) (bundle : List ℕ) (base : Base) (image : Image) → base ≡ first bots bundle → length (code_of_base first_format base) ≤ longest_base → IsPast m base [] base image
+first_past_of m bots bundle base image is short =
+    subst (λ (b : Base). IsPast m b [] b image) (sym is) (first_past m bots bundle image (subst (λ (b : Base). length (code_of_base first_format b) ≤ longest_base) is short))
 
 -- whatever a crash leaves of a new store stands for no steps
 pub kept_created : {D R : Type 0} (disk : D → DiskView) (m : Meaning) (bots : List Facts) (bundle : List ℕ) (base : Base) (rules : R) (limit : ℕ) (now : D) (root journal : JournalView) (files : Image)
-    → base ≡ first bots bundle → IsImage (disk now).may_leave files → (disk now).told ≡ Some files → AreStoreFiles root journal 0 → IsWritableBase first_format base → AreAtRest root journal (disk now).may_leave 0 base [] files
-    → IsKept disk m base [] (created rules base limit now)
-kept_created disk m bots bundle base rules limit now root journal files is honest told stores writable rest = record {
+    → base ≡ first bots bundle → IsImage (disk now).may_leave files → (disk now).told ≡ Some files → AreStoreFiles root journal 0 → IsWritableBase first_format base → length (code_of_base first_format base) ≤ longest_base
+    → AreAtRest root journal (disk now).may_leave 0 base [] files → IsKept disk m base [] (created rules base limit now)
+kept_created disk m bots bundle base rules limit now root journal files is honest told stores writable short rest = record {
   files = files;
   tells = told;
   counted = omega arith;
-  seals = let past : IsPast m base [] base files = subst (λ (b : Base). IsPast m b [] b files) (sym is) (first_past m bots bundle files) in past.seals;
+  seals = (first_past_of m bots bundle base files is short).seals;
   within = omega arith;
   each = λ image left.
-      let past : IsPast m base [] base image = subst (λ (b : Base). IsPast m b [] b image) (sym is) (first_past m bots bundle image) in
+      let past = first_past_of m bots bundle base image is short in
       record { count = 0; within = omega arith; stands = stands_by m base [] [] base 0 image image past (λ k. refl) (stored_now (disk now).may_leave root journal 0 base [] files honest stores writable rest image left) };
 }
+
+-- where the first generation's file has the code of a first state alone, it holds that state
+pub first_holds : (m : Meaning) (bots : List Facts) (bundle : List ℕ) (base : Base) (code : List ℕ) (image : Image) → m.facts bundle ≡ Some bots → base ≡ first bots bundle → IsSound m base → IsWritableBase first_format base → code ≡ code_of_base first_format base
+    → HasBodies (heading_of 0) (code ∷ []) (image (generation_file 0)) → HoldsFirst m bundle image
+first_holds m bots bundle base code image loads is sound writable coded has =
+    let holds : HoldsSteps 0 (image (generation_file 0)) base [] = record { records = []; bodies = subst (λ (c : List ℕ). HasBodies (heading_of 0) (c ∷ []) (image (generation_file 0))) coded has; writable = writable; content = refl } in
+    record {
+      bots = bots;
+      loads = loads;
+      holds = subst (λ (b : Base). HoldsSteps 0 (image (generation_file 0)) b []) is holds;
+      stands = λ named.
+          subst (λ (b : Base). Stands m b image []) is
+          (stands_by m base [] [] base 0 image image (first_past_of m bots bundle base image is sound.short) (λ k. refl) (record { named = named; holds = holds }));
+    }
+
+-- a journal at rest is left with its bodies
+pub left_at_rest : (journal : JournalView) (may_leave : ℕ → List ℕ → Type 0) (bodies : List (List ℕ)) (files : Image) (file : ℕ) (heading : Heading) → journal.file ≡ file → journal.heading ≡ heading → IsAtRest journal may_leave bodies files
+    → (c : List ℕ) → may_leave file c → HasBodies heading bodies c
+left_at_rest journal may_leave bodies files file heading same_file same_heading rest c left =
+    let here : may_leave journal.file c = subst (λ (n : ℕ). may_leave n c) (sym same_file) left in
+    subst (λ (h : Heading). HasBodies h bodies c) same_heading (subst (λ (content : List ℕ). HasBodies journal.heading bodies content) (sym (rest.durable c here)) (bodies_at_rest journal may_leave bodies files rest))
 
 pub is_nothing : (file : List ℕ) (have : ℕ) → have ≡ length file → have ≡ 0 → file ≡ []
 is_nothing [] have size none = refl
 is_nothing (b ∷ file) have size none = absurd (omega (arith, size, none))
+
+-- a root that is empty is none of a store
+pub none_there : (files : Image) → files root_file ≡ [] → (file : ℕ) → IsBesideNew files file → (file ≢ root_file) × (file ≢ generation_file 0)
+none_there files empty file (inl some) = absurd (omega (arith, some, ap length empty))
+none_there files empty file (inr both) = both
+
+-- reads leave the root
+pub root_read : {m : Meaning} {bundle : List ℕ} {old new : DiskView} → ((image : Image) → old.left_since old.moment image → IsImage old.may_leave image) → OnlyReads old new → Leaves old new (HasOldRootOrFirst m bundle old)
+root_read only_now reads = widened (λ image left. inl (left root_file tt)) (reads_alone (λ _. Unit {0}) only_now reads).any_moment
 
 -- ---- what the book of a new store keeps
 

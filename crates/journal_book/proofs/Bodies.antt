@@ -1,11 +1,11 @@
 -- What the bodies of a store's files say.
-use Rattle.std.proofs.Common.{◌≡◌, ◌≢◌, ◌≤◌, ◌<◌, ◌+◌, inl, inr, ℕ, suc, List, [], ◌∷◌, ◌++◌, length, map, take, drop, get_or, Option, Some, None, MatchOption, refl, sym, ap, subst, ◌∙◌, arith, append_assoc, length-append}
+use Rattle.std.proofs.Common.{◌≡◌, ◌≢◌, ◌≤◌, ◌<◌, ◌+◌, inr, ℕ, suc, List, [], ◌∷◌, ◌++◌, length, map, take, drop, get_or, Option, Some, MatchOption, refl, sym, ap, subst, ◌∙◌, arith, append_assoc, length-append}
 use Rattle.std.specs.List.{AllByRecursion}
 use Rattle.std.proofs.Math.Seq.{take-suc}
 use Rattle.std.proofs.lemmas.Grind.{flat_map-append}
 use Rattle.std.proofs.lemmas.List.{append-nil, map-append, nil_from_length, take-append-drop}
 use Rattle.base_types.proofs.Everywhere.{all-append}
-use Rattle.disk_journal.specs.GateFile.{frame_length, header_length, open_record, open_records}
+use Rattle.disk_journal.specs.GateFile.{frame_length, open_record, open_records}
 use Rattle.disk_journal.proofs.Appends.{open_records_push}
 use Rattle.disk_journal.proofs.Resting.{length_open_record}
 use Rattle.stored_types.specs.Code.{number}
@@ -17,7 +17,7 @@ use Rattle.step_code.specs.Sound.{IsSound}
 use Rattle.step_code.specs.Spent.{last_given}
 use Rattle.step_code.proofs.StateLaws.{base_law}
 use Rattle.store_image.specs.Damage.{behind_bodies, NameNone}
-use Rattle.journal_book.specs.Reading.{AreGenerations, IsBase}
+use Rattle.journal_book.specs.Reading.{IsBase}
 
 -- ---- going through bodies
 

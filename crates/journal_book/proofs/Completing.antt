@@ -16,7 +16,8 @@ use Rattle.store_image.specs.Files.{generation_file, out_file}
 use Rattle.store_image.proofs.Standing.{put_file, put_there}
 use Rattle.journal_book.specs.Keeping.{longest_output, AreShort}
 use Rattle.journal_book.specs.Outputs.{AreCompleted, IsBringUpFault, IsCompleted}
-use Rattle.journal_book.specs.Running.{sealed_of, AreFronts, Begin, IsFaultAt, IsNoneOf, IsNoOut, RunsIn, RunsOut}
+use Rattle.journal_book.specs.Alone.{IsNoOut}
+use Rattle.journal_book.specs.Running.{sealed_of, AreFronts, Begin, IsFaultAt, IsNoneOf, RunsIn, RunsOut}
 use Rattle.journal_book.specs.declared.book_fault.BookFault.{BookFault}
 use Rattle.journal_book.specs.declared.book_fault.BookFault.TheVariants as fault
 use Rattle.journal_book.proofs.Flushing.{put_left, told_is_one}
@@ -33,7 +34,7 @@ sealed_here [] k out is = absurd (none-some out is)
 sealed_here (o ∷ outs) zero out is = ap (λ (x : Output). x.sealed_bytes) (here_is_one o out is)
 sealed_here (o ∷ outs) (suc k) out is = sealed_here outs k out is
 
-text_length : (lines : List (List ℕ)) → length (lines_text lines) ≡ sum_by (λ line. length line + 1) lines
+pub text_length : (lines : List (List ℕ)) → length (lines_text lines) ≡ sum_by (λ line. length line + 1) lines
 text_length lines = length-flat_map (λ (line : List ℕ). line ++ 10 ∷ []) lines ∙ (λ i. sum_by (λ (line : List ℕ). length-append line (10 ∷ []) i) lines)
 
 short_at : (outs : List Output) → AllByRecursion (λ o. out_length o ≤ longest_output) outs → (k : ℕ) (out : Output) → slice_get outs k ≡ Some out → out_length out ≤ longest_output
@@ -133,6 +134,9 @@ module _ (old mid new : DiskView) (outs : List Output) (k : ℕ) (out : Output) 
           others = λ other rests. so_far.crash_elsewhere other (λ j below. rests j) (image other) (kept.others other (rests k));
         })
         (moments fronts are mid_begin));
+    others_any_moment = run_on
+        (widened (λ image left other rests. left other (apart_before other rests)) so_far.others_any_moment)
+        (widened (λ image left other rests. so_far.crash_elsewhere other (apart_before other rests) (image other) (left other (apart_here other rests))) one.others_any_moment);
     count = omega (arith, so_far.count, one.count);
   }
 
@@ -176,6 +180,7 @@ over_all n run = record {
   crash_elsewhere = λ other rests. run.crash_elsewhere other (λ j below. rests j);
   crash = run.crash;
   any_moment = run.any_moment;
+  others_any_moment = widened (λ image left other rests. left other (λ j below. rests j)) run.others_any_moment;
   count = run.count;
 }
 

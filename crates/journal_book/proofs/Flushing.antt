@@ -20,11 +20,10 @@ use Rattle.store_image.specs.Stored.{codes_of, IsRecord, AreRecords, NamesLast, 
 use Rattle.store_image.proofs.Standing.{put_file, put_there, put_elsewhere, past_of, records_more, stands_by}
 use Rattle.store_image.proofs.Stored.{step_is_long}
 use Rattle.journal_book.specs.Book.{BookView, durable_steps, waiting_steps, IsKept}
-use Rattle.journal_book.specs.Outputs.{LeavesOuts}
 use Rattle.journal_book.specs.Keeping.{AreAtRest, AreStoreFiles, IsPending, IsReplayed}
 
 -- a journal at rest has its bodies
-bodies_at_rest : (journal : JournalView) (may_leave : ℕ → List ℕ → Type 0) (bodies : List (List ℕ)) (files : Image) → IsAtRest journal may_leave bodies files
+pub bodies_at_rest : (journal : JournalView) (may_leave : ℕ → List ℕ → Type 0) (bodies : List (List ℕ)) (files : Image) → IsAtRest journal may_leave bodies files
     → HasBodies journal.heading bodies (files journal.file)
 bodies_at_rest journal may_leave bodies files rest =
     record { gate = rest.gate; behind = []; closed = rest.closed; lengths = rest.lengths; content = rest.content ∙ sym (append-nil (gate_file journal.heading bodies rest.gate)) }
@@ -284,8 +283,3 @@ rest_flushed old now root journal later g base steps kept len body after (Some f
       journal_rests = grows files (code_of_base first_format base ∷ rest.records) was rest.journal_rests;
       content = subst (λ (ss : List Step). AreRecords (rest.records ++ body ∷ []) ss) all (records_more rest.records (take kept steps) body (drop kept steps) rest.content is);
     }
-
--- while a generation is written, outputs' files are left as they might have been before
-pub outs_left : (old now : DiskView) (file g : ℕ) (more : Image → Type 0) → file ≡ generation_file g
-    → Leaves old now (λ image. more image × LeavesOthers old file image) → Leaves old now (LeavesOuts old)
-outs_left old now file g more same run = widened (λ image left k. left.1 (out_file k) (λ is. apart_out g k (is ∙ same))) run

@@ -1,9 +1,11 @@
+pub mod Alone
 pub mod Beginning
 pub mod Causes
 pub mod Completing
 pub mod Flushing
 pub mod Histories
 pub mod Lengths
+pub mod Long
 pub mod OneMore
 pub mod Sealing
 pub mod Bodies
@@ -11,5 +13,7 @@ pub mod Opened
 pub mod Recovering
 pub mod Reopened
 pub mod Replays
+pub mod Sends
 pub mod Small
+pub mod StandsOpen
 pub mod WholeFiles

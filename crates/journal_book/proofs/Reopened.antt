@@ -1,16 +1,14 @@
 -- The book of a store that was opened.
-use Rattle.std.proofs.Common.{◌≡◌, inl, ◌≤◌, ◌+◌, ◌*◌, ℕ, false, List, [], ◌∷◌, ◌++◌, length, take, drop, min, sum_by, Option, Some, None, sym, ap, subst, ◌∙◌, arith, length-append}
+use Rattle.std.proofs.Common.{◌≡◌, inl, ◌≤◌, ◌+◌, ◌*◌, ℕ, false, List, [], ◌∷◌, ◌++◌, length, take, drop, Option, Some, None, sym, ap, subst, ◌∙◌, arith, length-append}
 use Rattle.std.specs.List.{AllByRecursion}
 use Rattle.std.proofs.lemmas.List.{append-nil, drop_all, length-take-le, take_all}
-use Rattle.std.proofs.lemmas.List.Concat.{length-flat_map}
 use Rattle.std.proofs.lemmas.Option.{none-some}
-use Rattle.base_types.specs.Number.{last_u64}
 use Rattle.disk_journal.specs.Journal.{JournalView}
 use Rattle.edge_traits.specs.Disk.{DiskView, Image, IsImage}
 use Rattle.step_code.specs.declared.base.Base.{Base}
 use Rattle.step_code.specs.declared.step.Step.{Step}
 use Rattle.step_code.specs.After.{after}
-use Rattle.step_code.specs.Code.{code_of_step, first_format, IsWritable, IsWritableBase}
+use Rattle.step_code.specs.Code.{first_format, IsWritable, IsWritableBase}
 use Rattle.step_code.specs.History.{replay}
 use Rattle.step_code.specs.Rules.{last_moment, Meaning}
 use Rattle.step_code.proofs.GivenBack.{latest_after}

@@ -29,9 +29,10 @@ use Rattle.store_image.specs.Files.{root_file, out_file, generation_file}
 use Rattle.store_image.specs.Stands.{AreSealedFrom, FrontsStand, Stands, StandsFor}
 use Rattle.store_image.specs.Stored.{HoldsSteps, NamesLast, IsStored}
 use Rattle.store_image.proofs.Standing.{past_of, put_file, put_there, stands_by, IsPast}
+use Rattle.journal_book.specs.Alone.{IsNoOut}
 use Rattle.journal_book.specs.Book.{BookView, durable_steps, waiting_steps, IsKept}
 use Rattle.journal_book.specs.Keeping.{AreAtRest, AreStoreFiles}
-use Rattle.journal_book.specs.Running.{sealed_of, AreFronts, Begin, IsNoOut, KeepsFronts, RunsOut}
+use Rattle.journal_book.specs.Running.{sealed_of, AreFronts, Begin, KeepsFronts, RunsOut}
 use Rattle.journal_book.proofs.Flushing.{put_left, rests_same, stored_now, told_is_one}
 
 -- ---- no step changes what is sealed of an output
@@ -179,6 +180,7 @@ module _ {D R : Type 0} (disk : D → DiskView) (m : Meaning) (book : BookView D
         fronts = fronts_again 0 wholes book.base.outs files image was.fronts (λ k at same.
             let is : at ≡ k = omega (arith, same) in
             ap (λ (n : ℕ). take (sealed_of book.base.outs k) (image (out_file n))) is ∙ ap (λ n. take n (image (out_file k))) (sym (long k)) ∙ keeps.begins k);
+        short = was.short;
       } in
       record {
         count = 0;

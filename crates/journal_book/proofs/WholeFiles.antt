@@ -1,8 +1,8 @@
 -- Files of outputs that are all lines which a history has written.
-use Rattle.std.proofs.Common.{◌≡◌, ◌≤◌, ◌+◌, ℕ, zero, suc, Bool, true, false, List, [], ◌∷◌, ◌++◌, length, take, drop, map, find, Option, Some, refl, sym, ap, subst, ◌∙◌, arith, append_assoc, length-append, if◌then◌else◌, None}
-use Rattle.std.specs.List.{AllByRecursion, slice_get}
+use Rattle.std.proofs.Common.{◌≡◌, ◌≤◌, ◌+◌, ℕ, zero, suc, Bool, true, false, List, [], ◌∷◌, ◌++◌, length, take, drop, map, find, Option, Some, refl, sym, ap, subst, ◌∙◌, arith, append_assoc, if◌then◌else◌, None}
+use Rattle.std.specs.List.{slice_get}
 use Rattle.std.proofs.lemmas.Grind.{flat_map-append}
-use Rattle.std.proofs.lemmas.List.{append-nil, length-take, length-take-le, take-append-drop}
+use Rattle.std.proofs.lemmas.List.{append-nil, length-take-le, take-append-drop}
 use Rattle.std.proofs.Math.Seq.{take-append_seam}
 use Rattle.std.proofs.lemmas.Option.{none-some}
 use Rattle.base_types.specs.declared.message.Moment.{Moment}
@@ -29,10 +29,8 @@ use Rattle.store_image.specs.Stands.{AreSealedFrom, FrontsStand, IsSealedFrom, I
 use Rattle.store_image.specs.Stored.{IsStored}
 use Rattle.store_image.proofs.Standing.{replay-append}
 use Rattle.store_image.proofs.Stored.{stored_is_one}
-use Rattle.journal_book.specs.Outputs.{AreCompleted, AreWhole, HaveNoneSealed, IsBringUpFault, IsFirstShort, IsNoDamage}
-use Rattle.journal_book.specs.Running.{sealed_of, AreFronts}
-use Rattle.journal_book.specs.declared.book_fault.BookFault.{BookFault}
-use Rattle.journal_book.specs.declared.book_fault.BookFault.TheVariants as fault
+use Rattle.journal_book.specs.Outputs.{AreCompleted, AreWhole, HaveNoneSealed}
+use Rattle.journal_book.specs.Running.{sealed_of}
 use Rattle.journal_book.proofs.Completing.{sealed_here}
 use Rattle.journal_book.proofs.Sealing.{front_begins, front_of, sealed_replay}
 
@@ -209,20 +207,3 @@ whole_files m first history generation base steps state may_leave old new none s
 pub before_told : (told now : Option Image) (files : Image) → (told ≡ None → now ≡ None) → now ≡ Some files → (before : Image) × (told ≡ Some before)
 before_told None now files untold tells = absurd (none-some files (sym (untold refl) ∙ tells))
 before_told (Some before) now files untold tells = (before, refl)
-
--- ---- where the fronts stand, no file is too short
-
-not_short : (outs : List Output) (fronts : ℕ → List ℕ) (files : Image) (file at : ℕ) → AreFronts outs fronts → ((k : ℕ) → take (length (fronts k)) (files (out_file k)) ≡ fronts k) → IsFirstShort outs files file at → ⊥
-not_short outs fronts files file at long begins short =
-    let k = short.place in
-    let size : length (fronts k) ≡ short.out.sealed_bytes = long k ∙ sealed_here outs k short.out short.here in
-    let whole : length (fronts k) ≤ length (files (out_file k)) = omega (arith, length-take (length (fronts k)) (files (out_file k)), ap length (begins k)) in
-    let same : length (files file) ≡ length (files (out_file k)) = ap (λ n. length (files n)) short.file_is in
-    omega (arith, size, whole, same, short.length_is, short.short)
-
-pub no_damage : (outs : List Output) (fronts : ℕ → List ℕ) (files : Image) (told : Option Image) (f : BookFault) → told ≡ Some files → AreFronts outs fronts → ((k : ℕ) → take (length (fronts k)) (files (out_file k)) ≡ fronts k) → IsBringUpFault outs told f → IsNoDamage f
-no_damage outs fronts files told fault.Disk tells long begins bad = tt
-no_damage outs fronts files told (fault.Damaged file at) tells long begins bad = not_short outs fronts files file at long begins (bad files tells)
-no_damage outs fronts files told (fault.Store have) tells long begins bad = tt
-no_damage outs fronts files told fault.Refused tells long begins bad = tt
-no_damage outs fronts files told fault.OutOfMemory tells long begins bad = tt

@@ -1,6 +1,9 @@
 -- what public contracts cite
+pub mod Alone
 pub mod Book
 pub mod Faults
+pub mod Laws
+pub mod NewStore
 pub mod Outputs
 pub mod Opening
 pub mod Staged

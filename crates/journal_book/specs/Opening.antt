@@ -1,6 +1,6 @@
 -- What opening a store finds, and what it leaves of the disk.
 use Rattle.std.specs.Prelude.{◌≡◌, ◌≢◌, ◌≤◌, ◌<◌, ℕ, false, List, [], ◌++◌, length, take, Option, Some, None}
-use Rattle.edge_traits.specs.Disk.{Adds, ChangesOnly, DiskView, Image, IsImage, Leaves}
+use Rattle.edge_traits.specs.Disk.{Adds, ChangesOnly, DiskView, Image, IsImage, Leaves, LeavesOthers}
 use Rattle.disk_journal.specs.declared.journal.JournalFault.{JournalFault}
 use Rattle.disk_journal.specs.declared.journal.JournalFault.TheVariants as journal
 use Rattle.step_code.specs.declared.base.Base.{Base}
@@ -81,5 +81,6 @@ pub record Recovers (file : ℕ) (old new : DiskView) : Type 0 where
   pub elsewhere : (files : Image) → old.told ≡ Some files → ChangesOnly files new.told file
   pub untold : old.told ≡ None → new.told ≡ None
   pub crash_elsewhere : Adds old new (λ other. other ≢ file)
+  pub others_any_moment : (files : Image) → old.told ≡ Some files → Leaves old new (LeavesOthers old file)
   pub histories : KeepsHistories old new
   pub count : old.faults ≤ new.faults

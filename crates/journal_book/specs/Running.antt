@@ -1,9 +1,10 @@
 -- What calls do that complete outputs.
 use Rattle.std.specs.Prelude.{◌≡◌, ◌≢◌, ◌≤◌, ◌<◌, ℕ, zero, suc, List, [], ◌∷◌, length, take, Option, Some, None}
-use Rattle.edge_traits.specs.Disk.{DiskView, Image, Adds, ChangesOnly, Leaves}
+use Rattle.edge_traits.specs.Disk.{DiskView, Image, Adds, ChangesOnly, Leaves, LeavesOthers}
 use Rattle.out_files.specs.Output.{KeepsFront}
 use Rattle.step_code.specs.declared.output.Output.{Output}
 use Rattle.store_image.specs.Files.{out_file}
+use Rattle.journal_book.specs.Alone.{ChangesBut, IsNoOut}
 use Rattle.journal_book.specs.declared.book_fault.BookFault.{BookFault}
 use Rattle.journal_book.specs.declared.book_fault.BookFault.TheVariants as fault
 
@@ -21,10 +22,6 @@ AreFronts outs fronts = (k : ℕ) → length (fronts k) ≡ sealed_of outs k
 abbrev pub Begin : (ℕ → List ℕ → Type 0) → (ℕ → List ℕ) → Type 0
 Begin may_leave fronts = (k : ℕ) (c : List ℕ) → may_leave (out_file k) c → take (length (fronts k)) c ≡ fronts k
 
--- no output's file
-abbrev pub IsNoOut : ℕ → Type 0
-IsNoOut file = (k : ℕ) → file ≢ out_file k
-
 -- none of the first so many outputs' files
 abbrev pub IsNoneOf : ℕ → ℕ → Type 0
 IsNoneOf n file = (k : ℕ) → k < n → file ≢ out_file k
@@ -34,16 +31,13 @@ pub record KeepsFronts (old : DiskView) (fronts : ℕ → List ℕ) (image : Ima
   pub begins : (k : ℕ) → take (length (fronts k)) (image (out_file k)) ≡ fronts k
   pub others : (other : ℕ) → IsNoOut other → old.may_leave other (image other)
 
--- what is told afterwards is the same in the files that rest
-abbrev pub ChangesBut : (ℕ → Type 0) → Image → Option Image → Type 0
-ChangesBut rests files now = (after : Image) × (now ≡ Some after) × ((other : ℕ) → rests other → after other ≡ files other)
-
 -- calls that write one file only, from a sealed length on
 pub record RunsIn (old new : DiskView) (file sealed : ℕ) : Type 0 where
   pub elsewhere : (files : Image) → old.told ≡ Some files → ChangesOnly files new.told file
   pub untold : old.told ≡ None → new.told ≡ None
   pub crash_elsewhere : Adds old new (λ other. other ≢ file)
   pub any_moment : (front : List ℕ) → length front ≡ sealed → ((c : List ℕ) → old.may_leave file c → take sealed c ≡ front) → Leaves old new (KeepsFront old file front)
+  pub others_any_moment : Leaves old new (LeavesOthers old file)
   pub count : old.faults ≤ new.faults
 
 -- calls that write files of these outputs only, each behind what is sealed of it
@@ -53,6 +47,7 @@ pub record RunsOut (old new : DiskView) (outs : List Output) (rests : ℕ → Ty
   pub crash_elsewhere : Adds old new rests
   pub crash : (files : Image) (fronts : ℕ → List ℕ) → old.told ≡ Some files → AreFronts outs fronts → Begin old.may_leave fronts → Begin new.may_leave fronts
   pub any_moment : (files : Image) (fronts : ℕ → List ℕ) → old.told ≡ Some files → AreFronts outs fronts → Begin old.may_leave fronts → Leaves old new (KeepsFronts old fronts)
+  pub others_any_moment : Leaves old new (λ image. (other : ℕ) → rests other → old.may_leave other (image other))
   pub count : old.faults ≤ new.faults
 
 -- one output is not completed: its file is too short, or another cause that says nothing of it

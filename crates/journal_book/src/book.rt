@@ -1,7 +1,7 @@
 ghost use Rattle.std.specs.Prelude.{◌≡◌, ◌≢◌, ◌↔◌, ◌⊎◌, ◌≤◌, ◌<◌, ◌+◌, ◌++◌, [], ◌∷◌, ℕ, List, true, false, length, take, drop, Option, Some, None, Err, IfOk, IfErr, OnOk, OnErr, IsErrOf};
 ghost use Rattle.ack_steps.specs.Core.{HasNearFeeds, HasSoundHands};
 ghost use Rattle.edge_traits.specs.Count.{Rose};
-ghost use Rattle.edge_traits.specs.Disk.{ChangesOnly, Image, Leaves};
+ghost use Rattle.edge_traits.specs.Disk.{Image, Leaves};
 ghost use Rattle.step_code.specs.declared.base.Base.{Base};
 ghost use Rattle.step_code.specs.declared.step.Step.{Step};
 ghost use Rattle.step_code.specs.After.{after};
@@ -14,8 +14,10 @@ ghost use Rattle.step_code.specs.Sound.{IsSound};
 ghost use Rattle.store_image.specs.Files.{generation_file, root_file};
 ghost use Rattle.store_image.specs.Stands.{StandsFor};
 ghost use Rattle.store_image.specs.Stored.{codes_of};
+ghost use Rattle.journal_book.specs.Alone.{IsApart, IsBeside, IsBesideNew, IsNoOut, LeavesAlone};
 ghost use Rattle.journal_book.specs.Book.{created, durable_steps, waiting_steps, IsKept};
 ghost use Rattle.journal_book.specs.Faults.{IsCreateFault};
+ghost use Rattle.journal_book.specs.NewStore.{HasOldRootOrFirst};
 ghost use Rattle.journal_book.specs.Outputs.{AreCompleted, AreWritten, HaveNoneSealed, IsBringUpFault, IsNoDamage, LeavesOuts};
 ghost use Rattle.store_image.specs.Opens.{Opens};
 ghost use Rattle.journal_book.specs.Opening.{opened, IsReopened, IsReopenFault, StandsNow, TellsLong};
@@ -71,6 +73,7 @@ impl<D: Disk, R: Rules> Model for Book<D, R> {
     ghost use Rattle.std.specs.Prelude.{◌≡◌, false, take, ℕ, Some};
     ghost use Rattle.edge_traits.specs.Disk.{Image};
     ghost use Rattle.journal_book.specs.Book.{BookView};
+    ghost use Rattle.store_image.specs.Opens.{AreLong};
     ghost use Rattle.journal_book.specs.Keeping.{AreAtRest, AreShort, AreStoreFiles, IsPending, IsReplayed};
 
     ghost Value = { BookView D R };
@@ -82,7 +85,8 @@ impl<D: Disk, R: Rules> Model for Book<D, R> {
         × IsPending b.steps b.durable b.pending b.used b.limit b.journal
         × AreShort b.core.state.outs
         × (b.broken ≡ false → b.journal.broken ≡ false)
-        × (b.broken ≡ false → (files : Image) → (D.disk b.disk).told ≡ Some files → AreAtRest b.root b.journal (D.disk b.disk).may_leave b.generation b.base.value (take b.durable b.steps) files) };
+        × (b.broken ≡ false → (files : Image) → (D.disk b.disk).told ≡ Some files → AreAtRest b.root b.journal (D.disk b.disk).may_leave b.generation b.base.value (take b.durable b.steps) files)
+        × (b.broken ≡ false → (files : Image) → (D.disk b.disk).told ≡ Some files → AreLong 0 b.core.state.outs files) };
 }
 
 impl<D: Disk, R: Rules> Book<D, R> {
@@ -113,6 +117,17 @@ impl<D: Disk, R: Rules> Book<D, R> {
         ensures still_err { (first : Base) (steps more : List Step) → StandsNow R.meaning first steps more (D.disk disk) → IfErr result (λ e. StandsNow R.meaning first steps more (D.disk e.1)) }
         ensures any_moment_err { (first : Base) (steps more : List Step) → StandsNow R.meaning first steps more (D.disk disk)
             → IfErr result (λ e. Leaves (D.disk disk) (D.disk e.1) (StandsFor R.meaning first steps more)) }
+
+        // The root is left as it was until the first generation is durable: where a crash leaves it empty before the call, one
+        // at any moment leaves no store, or the new one.
+        ensures generation_first { (files : Image) → (D.disk disk).told ≡ Some files
+            → IfOk result (λ book. Leaves (D.disk disk) (D.disk book.disk) (HasOldRootOrFirst R.meaning bundle.now (D.disk disk))) }
+        ensures generation_first_err { (files : Image) → (D.disk disk).told ≡ Some files
+            → IfErr result (λ e. Leaves (D.disk disk) (D.disk e.1) (HasOldRootOrFirst R.meaning bundle.now (D.disk disk))) }
+
+        // No other file is changed, and none where there is a store.
+        ensures others { (files : Image) → (D.disk disk).told ≡ Some files → IfOk result (λ book. LeavesAlone (D.disk disk) (D.disk book.disk) (IsBesideNew files)) }
+        ensures others_err { (files : Image) → (D.disk disk).told ≡ Some files → IfErr result (λ e. LeavesAlone (D.disk disk) (D.disk e.1) (IsBesideNew files)) }
         ensures fault { IfErr result (λ e. IsCreateFault R.meaning bundle.now (D.disk disk).told e.0) }
         ensures untold { (D.disk disk).told ≡ None → IfOk result (λ book. (D.disk book.disk).told ≡ None) }
         ensures failed { IfErr result (λ e. e.0 ≡ BookFault.Disk → Rose (D.disk disk).faults (D.disk e.1).faults) }
@@ -178,6 +193,10 @@ impl<D: Disk, R: Rules> Book<D, R> {
             → IfOk result (λ book. Leaves (D.disk disk) (D.disk book.disk) (StandsFor R.meaning first steps more)) }
         ensures any_moment_err { (first : Base) (steps more : List Step) → StandsNow R.meaning first steps more (D.disk disk)
             → IfErr result (λ e. Leaves (D.disk disk) (D.disk e.1) (StandsFor R.meaning first steps more)) }
+
+        // No file is changed but the root and the generation in force.
+        ensures others { (files : Image) → (D.disk disk).told ≡ Some files → IfOk result (λ book. LeavesAlone (D.disk disk) (D.disk book.disk) (IsBeside files)) }
+        ensures others_err { (files : Image) → (D.disk disk).told ≡ Some files → IfErr result (λ e. LeavesAlone (D.disk disk) (D.disk e.1) (IsBeside files)) }
         ensures fault { IfErr result (λ e. IsReopenFault R.meaning (D.disk disk).told e.0) }
         ensures untold { (D.disk disk).told ≡ None → IfOk result (λ book. (D.disk book.disk).told ≡ None) }
         ensures failed { IfErr result (λ e. e.0 ≡ BookFault.Disk → Rose (D.disk disk).faults (D.disk e.1).faults) }
@@ -360,7 +379,9 @@ impl<D: Disk, R: Rules> Book<D, R> {
         ensures still { IsErrOf result FlushFault.Broken → self.new ≡ self.old }
         ensures nothing { (self.old.broken ≡ true) ⊎ (waiting_steps self.old ≡ []) → self.new.disk ≡ self.old.disk }
         ensures untold { (D.disk self.old.disk).told ≡ None → (D.disk self.new.disk).told ≡ None }
-        ensures elsewhere { (files : Image) → (D.disk self.old.disk).told ≡ Some files → ChangesOnly files (D.disk self.new.disk).told (generation_file self.old.generation) }
+
+        // No other file is changed.
+        ensures others { (files : Image) → (D.disk self.old.disk).told ≡ Some files → LeavesAlone (D.disk self.old.disk) (D.disk self.new.disk) (λ file. file ≢ generation_file self.old.generation) }
 
         // Whatever a crash leaves now stands for all steps, if the answer is `Ok`, and else for a front of them that has each
         // one that was durable before.
@@ -369,9 +390,6 @@ impl<D: Disk, R: Rules> Book<D, R> {
         // So does what a crash at any moment of the call leaves.
         ensures any_moment { (first : Base) (past : List Step) → IsKept D.disk R.meaning first past self.old
             → Leaves (D.disk self.old.disk) (D.disk self.new.disk) (StandsFor R.meaning first (past ++ durable_steps self.old) (waiting_steps self.old)) }
-
-        // No output's file is written.
-        ensures outputs { (files : Image) → (D.disk self.old.disk).told ≡ Some files → Leaves (D.disk self.old.disk) (D.disk self.new.disk) (LeavesOuts (D.disk self.old.disk)) }
         ensures failed { IsErrOf result FlushFault.Disk → Rose (D.disk self.old.disk).faults (D.disk self.new.disk).faults }
         ensures count { (D.disk self.old.disk).faults ≤ (D.disk self.new.disk).faults }
     {
@@ -410,8 +428,9 @@ impl<D: Disk, R: Rules> Book<D, R> {
         ensures durable { IsErrOf result BookFault.Disk → (self.new.kept ≡ self.old.kept) ⊎ (self.new.kept ≡ length self.old.steps) }
         ensures still { IfErr result (λ fault. (fault ≢ BookFault.Disk) → self.new ≡ record self.old { disk = self.new.disk; kept = length self.old.steps }) }
         ensures fault { IfErr result (IsBringUpFault self.old.state.outs (D.disk self.old.disk).told) }
-        // No file is too short where the disk stands for a history.
-        ensures sound { (first : Base) (past : List Step) → IsKept D.disk R.meaning first past self.old → IfErr result IsNoDamage }
+
+        // No file is too short where the disk tells what it holds.
+        ensures undamaged { (files : Image) → (D.disk self.old.disk).told ≡ Some files → IfErr result IsNoDamage }
         ensures completed { (files after : Image) → (D.disk self.old.disk).told ≡ Some files → (D.disk self.new.disk).told ≡ Some after
             → OnOk result (AreCompleted (D.disk self.new.disk).may_leave self.old.state.outs files after) }
 
@@ -431,6 +450,9 @@ impl<D: Disk, R: Rules> Book<D, R> {
         // before, the files stand for all steps.
         ensures lines_last { (first : Base) (past : List Step) → IsKept D.disk R.meaning first past self.old
             → Leaves (D.disk self.old.disk) (D.disk self.new.disk) (λ image. LeavesOuts (D.disk self.old.disk) image ⊎ StandsFor R.meaning first (past ++ self.old.steps) [] image) }
+
+        // No file is changed but the generation's and those of outputs.
+        ensures others { (files : Image) → (D.disk self.old.disk).told ≡ Some files → LeavesAlone (D.disk self.old.disk) (D.disk self.new.disk) (IsApart self.old.generation) }
         ensures failed { IsErrOf result BookFault.Disk → Rose (D.disk self.old.disk).faults (D.disk self.new.disk).faults }
         ensures count { (D.disk self.old.disk).faults ≤ (D.disk self.new.disk).faults }
     {
@@ -447,7 +469,8 @@ impl<D: Disk, R: Rules> Book<D, R> {
         ensures disk { IsErrOf result BookFault.Disk → self.new ≡ record self.old { disk = self.new.disk; broken = true } }
         ensures still { IfErr result (λ fault. (fault ≢ BookFault.Disk) → self.new ≡ record self.old { disk = self.new.disk }) }
         ensures fault { IfErr result (IsBringUpFault self.old.state.outs (D.disk self.old.disk).told) }
-        ensures sound { (first : Base) (past : List Step) → IsKept D.disk R.meaning first past self.old → IfErr result IsNoDamage }
+        ensures undamaged { (files : Image) → (D.disk self.old.disk).told ≡ Some files → IfErr result IsNoDamage }
+        ensures others { LeavesAlone (D.disk self.old.disk) (D.disk self.new.disk) IsNoOut }
         ensures completed { (files after : Image) → (D.disk self.old.disk).told ≡ Some files → (D.disk self.new.disk).told ≡ Some after
             → OnOk result (AreCompleted (D.disk self.new.disk).may_leave self.old.state.outs files after) }
         ensures written { (first : Base) (history : List Step) → self.old.kept ≡ length self.old.steps → StandsNow R.meaning first history [] (D.disk self.new.disk) → HaveNoneSealed first.outs

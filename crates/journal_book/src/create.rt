@@ -1,8 +1,8 @@
 //! A new store.
 ghost use Rattle.std.specs.Prelude.{◌≡◌, ◌≢◌, ◌⊎◌, ◌≤◌, ◌<◌, ◌+◌, [], ◌∷◌, ℕ, List, false, length, Option, Some, None, IfOk, IfErr, OnOk, IsErrOf};
 ghost use Rattle.edge_traits.specs.Count.{Rose};
-ghost use Rattle.edge_traits.specs.Disk.{Adds, ChangesOnly, Image};
-ghost use Rattle.disk_journal.specs.GateFile.{frame_length, header_length, heading_of};
+ghost use Rattle.edge_traits.specs.Disk.{Adds, ChangesOnly, Image, Leaves, LeavesOthers};
+ghost use Rattle.disk_journal.specs.GateFile.{frame_length, header_length, heading_of, HasBodies};
 ghost use Rattle.disk_journal.specs.Journal.{IsAtRest};
 ghost use Rattle.stored_types.specs.Code.{number};
 ghost use Rattle.step_code.specs.declared.rules.Facts.{Facts};
@@ -10,9 +10,11 @@ ghost use Rattle.step_code.specs.Code.{code_of_base, first_format, IsWritableBas
 ghost use Rattle.step_code.specs.History.{first};
 ghost use Rattle.step_code.specs.Rules.{Meaning};
 ghost use Rattle.step_code.specs.Sound.{longest_base, IsSound};
-ghost use Rattle.store_image.specs.Files.{root_file};
+ghost use Rattle.store_image.specs.Files.{generation_file, root_file};
+ghost use Rattle.journal_book.specs.Alone.{IsBesideNew, LeavesAlone};
 ghost use Rattle.journal_book.specs.Faults.{HasNoFirst, IsCreateFault, Tells};
 ghost use Rattle.journal_book.specs.Keeping.{AreAtRest, AreStoreFiles, longest_waiting};
+ghost use Rattle.journal_book.specs.NewStore.{HasOldRootOrFirst};
 ghost use Rattle.journal_book.specs.Opening.{KeepsHistories};
 
 use crate::BookFault;
@@ -80,6 +82,7 @@ fn create_journal<D: Disk>(
     ensures elsewhere { (files : Image) → (D.disk disk.old).told ≡ Some files → ChangesOnly files (D.disk disk.new).told file }
     ensures untold { (D.disk disk.old).told ≡ None → (D.disk disk.new).told ≡ None }
     ensures crash_elsewhere { Adds (D.disk disk.old) (D.disk disk.new) (λ other. other ≢ file) }
+    ensures others_any_moment { Leaves (D.disk disk.old) (D.disk disk.new) (LeavesOthers (D.disk disk.old) file) }
     ensures fault { (m : Meaning) (bundle : List ℕ) (told : Option Image) → IfErr result (IsCreateFault m bundle told) }
     ensures failed { IsErrOf result BookFault.Disk → Rose (D.disk disk.old).faults (D.disk disk.new).faults }
     ensures count { (D.disk disk.old).faults ≤ (D.disk disk.new).faults }
@@ -106,6 +109,11 @@ fn make_files<D: Disk>(
     ensures journal { (files after : Image) → (D.disk disk.old).told ≡ Some files → (D.disk disk.new).told ≡ Some after
         → IfOk result (λ made. IsAtRest made.1 (D.disk disk.new).may_leave (code.now ∷ []) after) }
     ensures tells { (files : Image) → (D.disk disk.old).told ≡ Some files → Tells (D.disk disk.new).told }
+    ensures others { LeavesAlone (D.disk disk.old) (D.disk disk.new) (λ file. (file ≢ root_file) × (file ≢ generation_file 0)) }
+
+    // The root is left as it was until the generation is durable.
+    ensures generation_first { (files : Image) → (D.disk disk.old).told ≡ Some files
+        → Leaves (D.disk disk.old) (D.disk disk.new) (λ image. (D.disk disk.old).may_leave root_file (image root_file) ⊎ HasBodies (heading_of 0) (code.now ∷ []) (image (generation_file 0))) }
     ensures untold { (D.disk disk.old).told ≡ None → (D.disk disk.new).told ≡ None }
     ensures fault { (m : Meaning) (bundle : List ℕ) (told : Option Image) → IfErr result (IsCreateFault m bundle told) }
     ensures failed { IsErrOf result BookFault.Disk → Rose (D.disk disk.old).faults (D.disk disk.new).faults }
@@ -146,6 +154,9 @@ pub fn make_store<D: Disk, R: Rules>(
     ensures empty { (files : Image) → (D.disk disk.old).told ≡ Some files → OnOk result (files root_file ≡ []) }
     ensures refused_empty { (files : Image) → (D.disk disk.old).told ≡ Some files → IsErrOf result BookFault.Refused → files root_file ≡ [] }
     ensures left_alone { (files : Image) → (D.disk disk.old).told ≡ Some files → 0 < length (files root_file) → KeepsHistories (D.disk disk.old) (D.disk disk.new) }
+    ensures others { (files : Image) → (D.disk disk.old).told ≡ Some files → LeavesAlone (D.disk disk.old) (D.disk disk.new) (IsBesideNew files) }
+    ensures generation_first { (files : Image) → (D.disk disk.old).told ≡ Some files
+        → Leaves (D.disk disk.old) (D.disk disk.new) (HasOldRootOrFirst R.meaning bundle.now (D.disk disk.old)) }
     ensures fault { IfErr result (IsCreateFault R.meaning bundle.now (D.disk disk.old).told) }
     ensures untold { (D.disk disk.old).told ≡ None → (D.disk disk.new).told ≡ None }
     ensures failed { IsErrOf result BookFault.Disk → Rose (D.disk disk.old).faults (D.disk disk.new).faults }

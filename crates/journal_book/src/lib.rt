@@ -9,6 +9,7 @@ mod entering;
 mod files;
 mod first_state;
 mod history;
+mod laws;
 mod opening;
 mod outputs;
 mod reading;
@@ -18,5 +19,6 @@ mod staging;
 
 pub use book::{Book, FlushFault};
 pub use book_fault::BookFault;
+pub use laws::what_stands_opens;
 pub use stage_refusal::StageRefusal;
 pub use staging::Move;

@@ -13,6 +13,7 @@ ghost use Rattle.store_image.specs.Damage.{behind_bodies, AreNoHistory, IsDamage
 ghost use Rattle.store_image.specs.Files.{generation_file, root_file, IsStoreFile};
 ghost use Rattle.store_image.specs.Opens.{AreLong, Opens};
 ghost use Rattle.store_image.specs.Stored.{codes_of, NamesLast};
+ghost use Rattle.journal_book.specs.Alone.{IsBeside, LeavesAlone};
 ghost use Rattle.journal_book.specs.Keeping.{longest_waiting, AreAtRest, AreStoreFiles};
 ghost use Rattle.journal_book.specs.Opening.{in_file, IsFileFault, IsReopenFault, IsShortFault, KeepsHistories, Recovers, TellsLong};
 ghost use Rattle.journal_book.specs.Reading.{AreGenerations, AreHistory, IsHistory};
@@ -177,6 +178,7 @@ pub fn open_store<D: Disk, R: Rules>(
         → IfOk result (λ found. AreAtRest found.root found.journal (D.disk disk.new).may_leave found.generation found.history.base.value found.history.steps after) }
     ensures fault { IfErr result (IsReopenFault R.meaning (D.disk disk.old).told) }
     ensures histories { KeepsHistories (D.disk disk.old) (D.disk disk.new) }
+    ensures others { (files : Image) → (D.disk disk.old).told ≡ Some files → LeavesAlone (D.disk disk.old) (D.disk disk.new) (IsBeside files) }
     ensures untold { (D.disk disk.old).told ≡ None → (D.disk disk.new).told ≡ None }
     ensures failed { IsErrOf result BookFault.Disk → Rose (D.disk disk.old).faults (D.disk disk.new).faults }
     ensures count { (D.disk disk.old).faults ≤ (D.disk disk.new).faults }

@@ -22,6 +22,7 @@ no_call {old = old} file sealed only_now = record {
   crash_elsewhere = λ other ne c left. left;
   crash = λ front long begins. begins;
   any_moment = λ front long begins. started (λ image left. keeps old old file sealed front long (λ other ne c now. now) begins image (only_now image left));
+  others_any_moment = started (λ image left other ne. only_now image left other);
   count = omega arith;
 }
 
@@ -41,6 +42,7 @@ one_call {old = old} {new = new} file sealed only_now time elsewhere untold adds
   any_moment = λ front long begins.
       goes_on (started (λ image left. keeps old old file sealed front long (λ other ne c now. now) begins image (only_now image left))) time
       (keeps old new file sealed front long adds (crash front long begins));
+  others_any_moment = goes_on (started (λ image left other ne. only_now image left other)) time (λ image left other ne. adds other ne (image other) (left other));
   count = count;
 }
 
@@ -58,6 +60,7 @@ then_run first second = record {
       run_on (first.any_moment front long begins)
       (widened (λ image kept. record { front_stays = kept.front_stays; others = λ other ne. first.crash_elsewhere other ne (image other) (kept.others other ne) })
       (second.any_moment front long (first.crash front long begins)));
+  others_any_moment = run_on first.others_any_moment (widened (λ image left other ne. first.crash_elsewhere other ne (image other) (left other ne)) second.others_any_moment);
   count = omega (arith, first.count, second.count);
 }
 

@@ -1,6 +1,6 @@
 -- What calls do that write one file only, from a sealed length on.
 use Rattle.std.specs.Prelude.{◌≡◌, ◌≢◌, ◌<◌, ◌≤◌, ◌+◌, ℕ, List, ◌++◌, length, take, get_or, Some, None}
-use Rattle.edge_traits.specs.Disk.{DiskView, Image, ChangesOnly, Adds, Leaves}
+use Rattle.edge_traits.specs.Disk.{DiskView, Image, ChangesOnly, Adds, Leaves, LeavesOthers}
 use Rattle.out_files.specs.Output.{KeepsFront}
 
 -- what a crash may leave begins with these bytes, as far as it is sealed
@@ -15,6 +15,7 @@ pub record RunsAbove (old new : DiskView) (file sealed : ℕ) : Type 0 where
   pub crash : (front : List ℕ) → length front ≡ sealed → EachBegins sealed front (old.may_leave file) → EachBegins sealed front (new.may_leave file)
   pub any_moment : (front : List ℕ) → length front ≡ sealed → EachBegins sealed front (old.may_leave file)
       → Leaves old new (KeepsFront old file front)
+  pub others_any_moment : Leaves old new (LeavesOthers old file)
   pub count : old.faults ≤ new.faults
 
 -- how many bytes are gathered at least before they are written out

@@ -1,6 +1,6 @@
 ghost use Rattle.std.specs.Prelude.{◌≡◌, ◌≢◌, ◌<◌, ◌≤◌, ◌+◌, ◌++◌, [], ◌∷◌, ℕ, List, length, max, take, Some, None, IfOk, IfErr, OnOk, IsErr, IsErrOf};
 ghost use Rattle.edge_traits.specs.Count.{Rose};
-ghost use Rattle.edge_traits.specs.Disk.{Image, longest_file, ChangesOnly, Adds, Only, Leaves};
+ghost use Rattle.edge_traits.specs.Disk.{Image, longest_file, ChangesOnly, Adds, Only, Leaves, LeavesOthers};
 ghost use Rattle.out_files.specs.Output.{lines_text, completed, KeepsFront, IsFaultOf};
 ghost use Rattle.out_files.specs.Run.{HasRoom, RunsAbove, IsSoFar};
 ghost use Rattle.std.specs.Vec.{vec_capacity};
@@ -72,6 +72,9 @@ pub fn bring_up<D: Disk>(
     ensures any_moment { (front : List ℕ) → length front ≡ sealed → ((c : List ℕ) → (D.disk disk.old).may_leave file c → take sealed c ≡ front)
         → Leaves (D.disk disk.old) (D.disk disk.new)
         (KeepsFront (D.disk disk.old) file front) }
+
+    // In each other file a crash at any moment leaves what it might have left there before.
+    ensures others_any_moment { Leaves (D.disk disk.old) (D.disk disk.new) (LeavesOthers (D.disk disk.old) file) }
     ensures failed { IsErrOf result OutFault.Disk → Rose (D.disk disk.old).faults (D.disk disk.new).faults }
     ensures count { (D.disk disk.old).faults ≤ (D.disk disk.new).faults }
 

@@ -1,8 +1,8 @@
 -- What the program does for each command.
-use Rattle.std.specs.Prelude.{◌≡◌, ◌≢◌, ◌⊎◌, ◌<◌, ◌++◌, ℕ, Bool, true, false, List, [], length, codes, decimal, Option, Some, None, Result, MatchResult}
+use Rattle.std.specs.Prelude.{◌≡◌, ◌≢◌, ◌⊎◌, ◌<◌, ◌≤◌, ◌++◌, ℕ, Bool, true, false, List, [], length, codes, decimal, Option, Some, None, Result, MatchResult, ⊤}
 use Rattle.edge_traits.specs.Disk.{DiskView, Image}
 use Rattle.edge_traits.specs.Output.{TookFront}
-use Rattle.edge_traits.specs.Shelf.{ShelfView, content_of, lacks}
+use Rattle.edge_traits.specs.Shelf.{ShelfView, content_of, count_on, lacks}
 use Rattle.edge_traits.specs.Sink.{SinkView, Took}
 use Rattle.config_bundle.specs.declared.bundle.Bundle.{Bundle}
 use Rattle.config_bundle.specs.Bundle.{bundle_code}
@@ -13,7 +13,8 @@ use Rattle.step_code.specs.declared.step.Step.{Step}
 use Rattle.store_image.specs.Files.{root_file}
 use Rattle.journal_book.specs.Opening.{StandsNow}
 use Rattle.journal_book.specs.Outputs.{AreWritten, HaveNoneSealed}
-use Rattle.store_calls.specs.Calls.{StandsOn}
+use Rattle.journal_book.specs.Alone.{IsBeside, IsBesideNew, LeavesAlone}
+use Rattle.store_calls.specs.Calls.{IsEarlierIn, StandsOn}
 use Rattle.store_commands.specs.Begun.{IsBegun, IsMade, IsMadeWhole, IsNewStore}
 use Rattle.store_commands.specs.Completed.{IsCompleted}
 use Rattle.store_commands.specs.Ends.{AreWrittenAt, IsPrinted, IsShown}
@@ -85,6 +86,7 @@ pub record IsMadeOf (seen : Seen) (end : Status) (old new : DiskView) (found : B
   pub made : WhereTold old (λ files. IsMade intel files (bundle_code found.0) done seen.sink seen.sink_now)
   pub begun : WhereTold old (λ files. IsMadeWhole done → IsBegun intel (bundle_code found.0) new)
   pub left_alone : IsStill old new
+  pub others : WhereTold old (λ files. LeavesAlone old new (IsBesideNew files))
 
 -- the bundle wasn't brought: that is told where there is no store
 abbrev pub IsUnmadeEnd : DiskView → Unbrought → Status → Type 0
@@ -96,19 +98,23 @@ pub record IsUnmade (seen : Seen) (end : Status) (old new : DiskView) (why : Unb
   pub ends : IsUnmadeEnd old why end
   pub nothing : Took seen.sink seen.sink_now []
   pub still : IsStill old new
+  pub others : LeavesAlone old new (λ file. ⊤)
 
 pub record IsInit (name : List ℕ) (seen : Seen) (old new : DiskView) (end : Status) : Type 0 where
   pub brought : Result (Bundle × Plan) Unbrought
   pub brings : Brings seen.shelf name brought
   pub done : MatchResult brought (IsMadeOf seen end old new) (IsUnmade seen end old new)
 
--- the store was drained: with the bundle of this code put in force, if one is named
-pub record IsDrainedBy (ask : asked.Ask) (seen : Seen) (end : Status) (old new : DiskView) (bundle : Option (List ℕ)) : Type 0 where
+-- the store was drained: with the bundle of this code put in force, if one is named. What was fetched of the bundle may have
+-- raised the shelf's counts ahead of the turns
+pub record IsDrainedBy {D : Type 0} (disk : D → DiskView) (ask : asked.Ask) (seen : Seen) (end : Status) (old new : DiskView) (bundle : Option (List ℕ)) : Type 0 where
   pub done : DrainEnd
   pub end_is : end ≡ drain_status ask.steps done
   pub shelf : ShelfView
   pub same_shelf : shelf.told ≡ seen.shelf.told
-  pub drained : WhereTold old (λ files. IsDrainCall (outside intel shelf seen.clock most_step_bytes) files (record { opening = record { bundle = bundle; rounds = ask.round }; left = ask.steps }) old new done seen.sink seen.sink_now)
+  pub counts : (name : List ℕ) → count_on seen.shelf name ≤ count_on shelf name
+  pub drained : WhereTold old (λ files. IsDrainCall disk (outside intel shelf seen.clock most_step_bytes) seen.shelf_now files (record { opening = record { bundle = bundle; rounds = ask.round }; left = ask.steps }) old new done seen.sink seen.sink_now)
+  pub others : WhereTold old (λ files. LeavesAlone old new (IsEarlierIn files))
 
 -- the bundle wasn't brought: that is told behind what opening the store comes to, and no step is made
 pub record IsUndrained (seen : Seen) (end : Status) (old new : DiskView) (why : Unbrought) : Type 0 where
@@ -117,11 +123,12 @@ pub record IsUndrained (seen : Seen) (end : Status) (old new : DiskView) (why : 
   pub completed : WhereTold old (λ files. IsCompleted intel files (is_said why) done seen.sink seen.sink_now)
   pub written : HasOutputsAt new done
   pub still : IsStill old new
+  pub others : WhereTold old (λ files. LeavesAlone old new (IsEarlierIn files))
 
-pub record IsDrained (ask : asked.Ask) (seen : Seen) (old new : DiskView) (end : Status) : Type 0 where
+pub record IsDrained {D : Type 0} (disk : D → DiskView) (ask : asked.Ask) (seen : Seen) (old new : DiskView) (end : Status) : Type 0 where
   pub named : Result (Option (List ℕ)) Unbrought
   pub names : Names seen.shelf ask.reload named
-  pub done : MatchResult named (IsDrainedBy ask seen end old new) (IsUndrained seen end old new)
+  pub done : MatchResult named (IsDrainedBy disk ask seen end old new) (IsUndrained seen end old new)
 
 -- a drill is a drain of all turns
 abbrev pub no_ask : asked.Ask
@@ -133,7 +140,7 @@ IsUndrilled seen mid new end making = (end ≡ store_status making) × (new ≡ 
 
 -- what comes behind the making of the drill's store, which ended so: its feed is drained, or no store was made
 abbrev pub IsDrillEnd : {D : Type 0} → (D → DiskView) → (lines number : ℕ) → Seen → D → D → Status → StoreEnd → Type 0
-IsDrillEnd disk lines number seen mid new end ended.Done = IsDrainedBy no_ask (record seen { shelf = drill_shelf lines number }) end (disk mid) (disk new) None
+IsDrillEnd disk lines number seen mid new end ended.Done = IsDrainedBy disk no_ask (record seen { shelf = drill_shelf lines number; shelf_now = drill_shelf lines number }) end (disk mid) (disk new) None
 IsDrillEnd disk lines number seen mid new end ended.Memory = IsUndrilled seen mid new end ended.Memory
 IsDrillEnd disk lines number seen mid new end ended.Disk = IsUndrilled seen mid new end ended.Disk
 IsDrillEnd disk lines number seen mid new end ended.Sink = IsUndrilled seen mid new end ended.Sink
@@ -152,6 +159,7 @@ pub record IsDrilled {D : Type 0} (disk : D → DiskView) (lines number : ℕ) (
   pub made : WhereTold (disk old) (λ files. IsNewStore intel files (bundle_code drill_bundle) making)
   pub begun : WhereTold (disk old) (λ files. making ≡ ended.Done → IsBegun intel (bundle_code drill_bundle) (disk mid))
   pub left_alone : IsStill (disk old) (disk mid)
+  pub others : WhereTold (disk old) (λ files. LeavesAlone (disk old) (disk mid) (IsBesideNew files))
   pub done : IsDrillEnd disk lines number seen mid new end making
 
 -- what is asked for of a store's state is printed
@@ -160,17 +168,19 @@ pub record IsShownBy (what : Shown) (seen : Seen) (old new : DiskView) (end : St
   pub end_is : end ≡ store_status done
   pub shown : WhereTold old (λ files. IsShown intel files what done seen.sink seen.sink_now)
   pub still : IsStill old new
+  pub others : WhereTold old (λ files. LeavesAlone old new (IsBeside files))
 
 -- a dump is redone, when the clock may show this moment
-pub record IsRedoneBy (dump : ℕ) (seen : Seen) (old new : DiskView) (end : Status) : Type 0 where
+pub record IsRedoneBy {D : Type 0} (disk : D → DiskView) (dump : ℕ) (seen : Seen) (old new : DiskView) (end : Status) : Type 0 where
   pub done : StoreEnd
   pub end_is : end ≡ store_status done
   pub now : ℕ
   pub shows : (told : ℕ) → seen.clock ≡ Some told → now ≡ told
   pub redone : WhereTold old (λ files. IsRedone intel files dump now done seen.sink seen.sink_now)
+  pub others : WhereTold old (λ files. LeavesAlone old new (IsEarlierIn files))
   pub written : HasOutputsAt new done
   pub stands : (first : Base) (steps more : List Step) → StandsNow intel first steps more old
-      → IsRedoCall done (StandsOn intel first steps more old new) (RedoesStep intel first steps more old new dump now)
+      → IsRedoCall done (StandsOn intel first steps more old new) (RedoesStep disk intel first steps more old new dump now)
 
 -- ---- all
 
@@ -180,8 +190,8 @@ IsTool disk None seen old new end = (end ≡ status.Words) × (seen.sink_now ≡
 IsTool disk (Some (asked.Convert feed)) seen old new end = IsConverted feed seen end × (new ≡ old)
 IsTool disk (Some (asked.Check bundle)) seen old new end = IsChecked bundle seen end × (new ≡ old)
 IsTool disk (Some (asked.Init bundle)) seen old new end = IsInit bundle seen (disk old) (disk new) end
-IsTool disk (Some (asked.Drain ask)) seen old new end = IsDrained ask seen (disk old) (disk new) end
+IsTool disk (Some (asked.Drain ask)) seen old new end = IsDrained disk ask seen (disk old) (disk new) end
 IsTool disk (Some asked.Status) seen old new end = IsShownBy shown.State seen (disk old) (disk new) end
 IsTool disk (Some asked.Dumps) seen old new end = IsShownBy shown.Dumps seen (disk old) (disk new) end
-IsTool disk (Some (asked.Redo dump)) seen old new end = IsRedoneBy dump seen (disk old) (disk new) end
+IsTool disk (Some (asked.Redo dump)) seen old new end = IsRedoneBy disk dump seen (disk old) (disk new) end
 IsTool disk (Some (asked.Drill lines number)) seen old new end = IsDrilled disk lines number seen old new end

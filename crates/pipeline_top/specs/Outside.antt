@@ -10,9 +10,10 @@ use Rattle.bundle_fetch.specs.Fetch.{bundle_from, Files}
 use Rattle.pipeline_top.specs.declared.bringing.Unbrought.{Unbrought}
 use Rattle.pipeline_top.specs.declared.bringing.Unbrought.TheVariants as unbrought
 
--- the shelf and the sink ahead of a call, the sink behind it, and the moment that the clock tells, if it tells one
+-- the shelf and the sink ahead of a call and behind it, and the moment that the clock tells, if it tells one
 pub record Seen : Type 0 where
   pub shelf : ShelfView
+  pub shelf_now : ShelfView
   pub sink : SinkView
   pub sink_now : SinkView
   pub clock : Option ℕ

@@ -29,7 +29,7 @@ pub fn init<H: Shelf, D: Disk, S: Sink>(
     disk: D,
     out: &mut S,
 ) -> (Status, D)
-    ensures begun { (clock : Option ℕ) → IsInit name.now (record { shelf = H.shelf shelf.old; sink = S.sink out.old; sink_now = S.sink out.new; clock = clock }) (D.disk disk) (D.disk result.1) result.0 }
+    ensures begun { (clock : Option ℕ) → IsInit name.now (record { shelf = H.shelf shelf.old; shelf_now = H.shelf shelf.new; sink = S.sink out.old; sink_now = S.sink out.new; clock = clock }) (D.disk disk) (D.disk result.1) result.0 }
     ensures words { result.0 ≢ Status.Words }
     ensures disk { result.0 ≡ Status.Disk → Rose (D.disk disk).faults (D.disk result.1).faults }
     ensures sink { result.0 ≡ Status.Sink → Rose (S.sink out.old).faults (S.sink out.new).faults }

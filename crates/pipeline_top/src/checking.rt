@@ -30,7 +30,7 @@ fn print_bots<S: Sink>(alloc: Global, bots: usize, out: &mut S) -> StoreEnd
 
 /// Loads the bundle of this name, and prints how many bots it has.
 pub fn check<H: Shelf, S: Sink>(alloc: Global, name: &Text, shelf: &mut H, out: &mut S) -> Status
-    ensures checked { (clock : Option ℕ) → IsChecked name.now (record { shelf = H.shelf shelf.old; sink = S.sink out.old; sink_now = S.sink out.new; clock = clock }) result }
+    ensures checked { (clock : Option ℕ) → IsChecked name.now (record { shelf = H.shelf shelf.old; shelf_now = H.shelf shelf.new; sink = S.sink out.old; sink_now = S.sink out.new; clock = clock }) result }
     ensures words { result ≢ Status.Words }
     ensures disk { result ≢ Status.Disk }
     ensures sink { result ≡ Status.Sink → Rose (S.sink out.old).faults (S.sink out.new).faults }

@@ -30,7 +30,7 @@ pub fn drain<H: Shelf, D: Disk, S: Sink, C: Clock>(
     out: &mut S,
     clock: &C,
 ) -> (Status, D)
-    ensures drained { IsDrained (ask_of ask.entry) (record { shelf = H.shelf shelf.old; sink = S.sink out.old; sink_now = S.sink out.new; clock = C.told clock.now }) (D.disk disk) (D.disk result.1) result.0 }
+    ensures drained { IsDrained D.disk (ask_of ask.entry) (record { shelf = H.shelf shelf.old; shelf_now = H.shelf shelf.new; sink = S.sink out.old; sink_now = S.sink out.new; clock = C.told clock.now }) (D.disk disk) (D.disk result.1) result.0 }
     ensures words { result.0 ≢ Status.Words }
     ensures disk { result.0 ≡ Status.Disk → Rose (D.disk disk).faults (D.disk result.1).faults }
     ensures sink { result.0 ≡ Status.Sink → Rose (S.sink out.old).faults (S.sink out.new).faults }
@@ -57,8 +57,8 @@ pub(crate) fn drain_with<H: Shelf, D: Disk, S: Sink, C: Clock>(
     clock: &C,
 ) -> (Status, D)
     requires loads { (code : List ℕ) → bundle ≡ Some code → IsSome (intel.facts code) }
-    ensures drained { (before : ShelfView) → (H.shelf shelf.old).told ≡ before.told
-        → IsDrainedBy (ask_of ask.entry) (record { shelf = before; sink = S.sink out.old; sink_now = S.sink out.new; clock = C.told clock.now }) result.0 (D.disk disk) (D.disk result.1) bundle }
+    ensures drained { (before : ShelfView) → (H.shelf shelf.old).told ≡ before.told → ((other : List ℕ) → count_on before other ≤ count_on (H.shelf shelf.old) other)
+        → IsDrainedBy D.disk (ask_of ask.entry) (record { shelf = before; shelf_now = H.shelf shelf.new; sink = S.sink out.old; sink_now = S.sink out.new; clock = C.told clock.now }) result.0 (D.disk disk) (D.disk result.1) bundle }
     ensures words { result.0 ≢ Status.Words }
     ensures disk { result.0 ≡ Status.Disk → Rose (D.disk disk).faults (D.disk result.1).faults }
     ensures sink { result.0 ≡ Status.Sink → Rose (S.sink out.old).faults (S.sink out.new).faults }

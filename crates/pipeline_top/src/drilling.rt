@@ -35,7 +35,7 @@ pub fn drill<D: Disk, S: Sink, C: Clock>(
     out: &mut S,
     clock: &C,
 ) -> (Status, D)
-    ensures drilled { (shelf : ShelfView) → IsDrilled D.disk lines number (record { shelf = shelf; sink = S.sink out.old; sink_now = S.sink out.new; clock = C.told clock.now }) disk result.1 result.0 }
+    ensures drilled { (shelf shelf_now : ShelfView) → IsDrilled D.disk lines number (record { shelf = shelf; shelf_now = shelf_now; sink = S.sink out.old; sink_now = S.sink out.new; clock = C.told clock.now }) disk result.1 result.0 }
     ensures words { result.0 ≢ Status.Words }
     ensures feed { (name : List ℕ) → result.0 ≢ Status.Feed name FailedWhy }
     ensures disk { result.0 ≡ Status.Disk → Rose (D.disk disk).faults (D.disk result.1).faults }
@@ -71,8 +71,8 @@ fn drill_with<D: Disk, S: Sink, C: Clock>(
     clock: &C,
 ) -> (Status, D)
     requires bundle { bundle.now ≡ bundle_code drill_bundle }
-    ensures drilled { (other : ShelfView) (lines number : ℕ) → ⟦<DrillShelf as Shelf>⟧.shelf shelf ≡ drill_shelf lines number
-        → IsDrilled D.disk lines number (record { shelf = other; sink = S.sink out.old; sink_now = S.sink out.new; clock = C.told clock.now }) disk result.1 result.0 }
+    ensures drilled { (other other_now : ShelfView) (lines number : ℕ) → ⟦<DrillShelf as Shelf>⟧.shelf shelf ≡ drill_shelf lines number
+        → IsDrilled D.disk lines number (record { shelf = other; shelf_now = other_now; sink = S.sink out.old; sink_now = S.sink out.new; clock = C.told clock.now }) disk result.1 result.0 }
     ensures words { result.0 ≢ Status.Words }
     ensures feed { (name : List ℕ) → result.0 ≢ Status.Feed name FailedWhy }
     ensures disk { result.0 ≡ Status.Disk → Rose (D.disk disk).faults (D.disk result.1).faults }

@@ -14,7 +14,7 @@ use store_commands::Shown;
 
 /// Prints what is asked for of a store's state. The disk comes back.
 pub fn show<D: Disk, S: Sink>(alloc: Global, what: Shown, disk: D, out: &mut S) -> (Status, D)
-    ensures shown { (shelf : ShelfView) (clock : Option ℕ) → IsShownBy what (record { shelf = shelf; sink = S.sink out.old; sink_now = S.sink out.new; clock = clock }) (D.disk disk) (D.disk result.1) result.0 }
+    ensures shown { (shelf shelf_now : ShelfView) (clock : Option ℕ) → IsShownBy what (record { shelf = shelf; shelf_now = shelf_now; sink = S.sink out.old; sink_now = S.sink out.new; clock = clock }) (D.disk disk) (D.disk result.1) result.0 }
     ensures words { result.0 ≢ Status.Words }
     ensures feed { (name : List ℕ) (why : FeedWhy) → result.0 ≢ Status.Feed name why }
     ensures disk { result.0 ≡ Status.Disk → Rose (D.disk disk).faults (D.disk result.1).faults }
@@ -34,7 +34,7 @@ pub fn redo<D: Disk, S: Sink, C: Clock>(
     out: &mut S,
     clock: &C,
 ) -> (Status, D)
-    ensures redone { (shelf : ShelfView) → IsRedoneBy dump (record { shelf = shelf; sink = S.sink out.old; sink_now = S.sink out.new; clock = C.told clock.now }) (D.disk disk) (D.disk result.1) result.0 }
+    ensures redone { (shelf shelf_now : ShelfView) → IsRedoneBy D.disk dump (record { shelf = shelf; shelf_now = shelf_now; sink = S.sink out.old; sink_now = S.sink out.new; clock = C.told clock.now }) (D.disk disk) (D.disk result.1) result.0 }
     ensures words { result.0 ≢ Status.Words }
     ensures feed { (name : List ℕ) (why : FeedWhy) → result.0 ≢ Status.Feed name why }
     ensures disk { result.0 ≡ Status.Disk → Rose (D.disk disk).faults (D.disk result.1).faults }

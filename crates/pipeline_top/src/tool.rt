@@ -30,7 +30,7 @@ pub fn run_tool<H: Shelf, D: Disk, S: Sink, C: Clock>(
 ) -> (Status, D)
     // What is done for each command: what it brings from the shelf, what it makes of a store, at any moment of the call and behind
     // it, what it prints, and how it ends.
-    ensures done { IsTool D.disk (command_of words.now) (record { shelf = H.shelf shelf.old; sink = S.sink out.old; sink_now = S.sink out.new; clock = C.told clock.now }) disk result.1 result.0 }
+    ensures done { IsTool D.disk (command_of words.now) (record { shelf = H.shelf shelf.old; shelf_now = H.shelf shelf.new; sink = S.sink out.old; sink_now = S.sink out.new; clock = C.told clock.now }) disk result.1 result.0 }
 
     // The words are no command, and nothing is read or written.
     ensures words { (result.0 ≡ Status.Words) ↔ (is_some (command_of words.now) ≡ false) }

@@ -1,4 +1,5 @@
 -- what public contracts cite
 pub mod Longest
 -- what only proofs use
-pub mod Best
+pub mod Trie
+pub mod Growing

@@ -1,5 +1,6 @@
 -- Steps and histories of states of which one has more lines of its outputs sealed.
-use Rattle.std.proofs.Common.{◌≡◌, ◌↔◌, ◌+◌, ℕ, Bool, Option, Some, List, [], ◌∷◌, None, refl, sym, ap, subst, ◌∙◌}
+use Rattle.std.proofs.Common.{◌≡◌, ◌↔◌, ◌+◌, ℕ, Bool, Option, Some, List, [], ◌∷◌, None, refl, sym, ap, ap₂, subst, ◌∙◌, ◌-◌, find, map, min}
+use Rattle.base_types.specs.Number.{last_u64}
 use Rattle.step_code.specs.declared.base.Base.{Base}
 use Rattle.step_code.specs.declared.output.Output.{Output}
 use Rattle.step_code.specs.declared.step.Step.{Step}
@@ -14,10 +15,11 @@ use Rattle.step_code.specs.Content.{is_duplicate, live_marks, Carries, Matches, 
 use Rattle.step_code.specs.Fits.{first_failing, parts}
 use Rattle.step_code.specs.History.{replay, Legal}
 use Rattle.step_code.specs.Rules.{passes, Meaning}
+use Rattle.step_code.specs.Spent.{is_past, numbers_brought, spent, up_to_spent, NothingIsSpent}
 use Rattle.step_code.specs.State.{bots_of}
 use Rattle.store_image.specs.Stands.{AreSealedFrom, IsSealOf}
 use Rattle.seal_laws.proofs.Acted.{acted_outs, new_outs, outs_as, own_outs}
-use Rattle.seal_laws.proofs.Sealed.{sealed_new, sealed_written}
+use Rattle.seal_laws.proofs.Sealed.{as_many, same_lengths, sealed_new, sealed_on, sealed_self, sealed_written}
 
 -- ---- which steps may be taken
 
@@ -96,6 +98,24 @@ seal_kept m whole sealed step seal =
       same = is ∙ ap (λ os. outs_as (after m whole step) os) (sym outs_is);
     }
 
+-- ---- sealing nothing, and sealing twice
+
+pub seals_self : (s : Base) → IsSealOf s s
+seals_self s = record { outs = sealed_self s.outs; same = refl }
+
+pub seals_on : (a b c : Base) → IsSealOf a b → IsSealOf b c → IsSealOf a c
+seals_on a b c x y = record { outs = sealed_on a.outs b.outs c.outs x.outs y.outs; same = y.same ∙ ap (λ (s : Base). outs_as s c.outs) x.same }
+
+-- ---- the numbers that a step brings
+
+same_numbers : (w o : Base) → IsSealOf w o → numbers_brought w ≡ numbers_brought o
+same_numbers w o seal =
+    ap₂ (λ (n : ℕ) (ls : List ℕ). w.steps ∷ up_to_spent (w.next_message - 1) ∷ up_to_spent (w.next_dump - 1) ∷ w.bundle_no ∷ (n - 1) ∷ ls) (as_many w.outs o.outs seal.outs) (same_lengths w.outs o.outs seal.outs)
+    ∙ sym (ap numbers_brought seal.same)
+
+same_spent : (m : Meaning) (whole sealed : Base) (step : Step) → IsSealOf whole sealed → spent m whole step ≡ spent m sealed step
+same_spent m whole sealed step seal = ap (λ (ns : List ℕ). find is_past (map (λ n. min n last_u64) ns)) (same_numbers (after m whole step) (after m sealed step) (seal_kept m whole sealed step seal))
+
 -- ---- histories
 
 pub seals : (m : Meaning) (whole sealed : Base) (steps : List Step) → IsSealOf whole sealed → IsSealOf (replay m whole steps) (replay m sealed steps)
@@ -112,5 +132,20 @@ legal_whole m whole sealed [] seal legal = legal
 legal_whole m whole sealed (step ∷ steps) seal legal =
     ((same_steps m whole sealed step seal).1 legal.0, legal_whole m (after m whole step) (after m sealed step) steps (seal_kept m whole sealed step seal) legal.1)
 
-pub same_histories : (m : Meaning) (whole sealed : Base) (steps : List Step) → IsSealOf whole sealed → (Legal m whole steps ↔ Legal m sealed steps) × IsSealOf (replay m whole steps) (replay m sealed steps)
-same_histories m whole sealed steps seal = ((legal_sealed m whole sealed steps seal, legal_whole m whole sealed steps seal), seals m whole sealed steps seal)
+small_sealed : (m : Meaning) (whole sealed : Base) (steps : List Step) → IsSealOf whole sealed → NothingIsSpent m whole steps → NothingIsSpent m sealed steps
+small_sealed m whole sealed [] seal small = small
+small_sealed m whole sealed (step ∷ steps) seal small =
+    (sym (same_spent m whole sealed step seal) ∙ small.0, small_sealed m (after m whole step) (after m sealed step) steps (seal_kept m whole sealed step seal) small.1)
+
+pub small_whole : (m : Meaning) (whole sealed : Base) (steps : List Step) → IsSealOf whole sealed → NothingIsSpent m sealed steps → NothingIsSpent m whole steps
+small_whole m whole sealed [] seal small = small
+small_whole m whole sealed (step ∷ steps) seal small =
+    (same_spent m whole sealed step seal ∙ small.0, small_whole m (after m whole step) (after m sealed step) steps (seal_kept m whole sealed step seal) small.1)
+
+pub same_histories : (m : Meaning) (whole sealed : Base) (steps : List Step) → IsSealOf whole sealed
+    → (Legal m whole steps ↔ Legal m sealed steps) × (NothingIsSpent m whole steps ↔ NothingIsSpent m sealed steps) × IsSealOf (replay m whole steps) (replay m sealed steps)
+same_histories m whole sealed steps seal = (
+  (legal_sealed m whole sealed steps seal, legal_whole m whole sealed steps seal),
+  (small_sealed m whole sealed steps seal, small_whole m whole sealed steps seal),
+  seals m whole sealed steps seal,
+)

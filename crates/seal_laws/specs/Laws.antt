@@ -6,6 +6,7 @@ use Rattle.step_code.specs.After.{after}
 use Rattle.step_code.specs.Content.{May}
 use Rattle.step_code.specs.History.{replay, Legal}
 use Rattle.step_code.specs.Rules.{Meaning}
+use Rattle.step_code.specs.Spent.{NothingIsSpent}
 use Rattle.store_image.specs.Stands.{IsSealOf}
 
 -- the same steps may be taken
@@ -16,7 +17,7 @@ SealedSteps = (m : Meaning) (whole sealed : Base) (step : Step) → IsSealOf who
 abbrev pub SealingIsKept : Type 0
 SealingIsKept = (m : Meaning) (whole sealed : Base) (step : Step) → IsSealOf whole sealed → IsSealOf (after m whole step) (after m sealed step)
 
--- the same histories are legal, and lead to such states again
+-- the same histories are legal, and spend no number; and they lead to such states again
 abbrev pub SealedHistories : Type 0
 SealedHistories = (m : Meaning) (whole sealed : Base) (steps : List Step) → IsSealOf whole sealed
-    → (Legal m whole steps ↔ Legal m sealed steps) × IsSealOf (replay m whole steps) (replay m sealed steps)
+    → (Legal m whole steps ↔ Legal m sealed steps) × (NothingIsSpent m whole steps ↔ NothingIsSpent m sealed steps) × IsSealOf (replay m whole steps) (replay m sealed steps)

@@ -1,7 +1,7 @@
 -- Completing the outputs of a book makes no step.
-use Rattle.std.proofs.Common.{◌≡◌, ◌≢◌, ◌⊎◌, ⊎_elim, ◌≤◌, ◌++◌, List, [], length, true, Result, Ok, Err, refl, sym, ap, subst, ◌∙◌, arith}
+use Rattle.std.proofs.Common.{◌≡◌, ◌≢◌, ◌⊎◌, ⊎_elim, ◌≤◌, ◌++◌, List, [], length, true, Some, Result, Ok, Err, refl, sym, ap, subst, ◌∙◌, arith}
 use Rattle.std.specs.Prelude.{IfErr, IsErrOf, OnOk}
-use Rattle.edge_traits.specs.Disk.{DiskView, Leaves}
+use Rattle.edge_traits.specs.Disk.{DiskView, Image, Leaves}
 use Rattle.step_code.specs.declared.base.Base.{Base}
 use Rattle.step_code.specs.declared.step.Step.{Step}
 use Rattle.step_code.specs.Rules.{Meaning}
@@ -9,8 +9,9 @@ use Rattle.store_image.specs.Stands.{StandsFor}
 use Rattle.journal_book.specs.Book.{durable_steps, waiting_steps, BookView, IsKept}
 use Rattle.journal_book.specs.declared.book_fault.BookFault.{BookFault}
 use Rattle.journal_book.specs.declared.book_fault.BookFault.TheVariants as fault
-use Rattle.book_runs.specs.GoesOn.{GoesOn}
-use Rattle.book_runs.proofs.Going.{changes, makes_none}
+use Rattle.journal_book.specs.Alone.{IsApart, LeavesAlone}
+use Rattle.book_runs.specs.GoesOn.{GoesOn, IsSameBook}
+use Rattle.book_runs.proofs.Going.{apart_earlier, changes, makes_none}
 
 -- what it changes in the book, by its answer
 pub record Completed {D R : Type 0} (old new : BookView D R) (r : Result (Unit {0}) BookFault) : Type 0 where
@@ -32,15 +33,25 @@ module _ {D R : Type 0} (old new : BookView D R) where
   durable_behind (Err fault.Refused) is other = all_kept (is.still (λ e. absurd (cc)))
   durable_behind (Err fault.OutOfMemory) is other = all_kept (is.still (λ e. absurd (cc)))
 
+  -- the book stays in all else
+  pub same_book : (r : Result (Unit {0}) BookFault) → Completed old new r → IsSameBook old new
+  same_book (Ok x) is = changes old new _ _ is.ok
+  same_book (Err fault.Disk) is = changes old new _ _ (is.failed refl)
+  same_book (Err (fault.Damaged file at)) is = changes old new _ _ (is.still (λ e. absurd (cc)))
+  same_book (Err (fault.Store have)) is = changes old new _ _ (is.still (λ e. absurd (cc)))
+  same_book (Err fault.Refused) is = changes old new _ _ (is.still (λ e. absurd (cc)))
+  same_book (Err fault.OutOfMemory) is = changes old new _ _ (is.still (λ e. absurd (cc)))
+
 module _ {D R : Type 0} {disk : D → DiskView} {m : Meaning} (old new : BookView D R)
     (kept : (first : Base) (past : List Step) → IsKept disk m first past old → IsKept disk m first past new)
-    (leaves : (first : Base) (past : List Step) → IsKept disk m first past old → Leaves (disk old.disk) (disk new.disk) (StandsFor m first (past ++ durable_steps old) (waiting_steps old))) where
+    (leaves : (first : Base) (past : List Step) → IsKept disk m first past old → Leaves (disk old.disk) (disk new.disk) (StandsFor m first (past ++ durable_steps old) (waiting_steps old)))
+    (others : (files : Image) → (disk old.disk).told ≡ Some files → LeavesAlone (disk old.disk) (disk new.disk) (IsApart old.generation)) where
   by_all : new ≡ record old { disk = new.disk; kept = length old.steps } → GoesOn disk m old new []
-  by_all is = makes_none old new (changes old new _ _ is) (λ first past was. omega (arith, was.within, ap (λ (b : BookView D R). b.kept) is)) kept leaves
+  by_all is = makes_none old new (changes old new _ _ is) (λ first past was. omega (arith, was.within, ap (λ (b : BookView D R). b.kept) is)) kept leaves (apart_earlier old.generation others)
 
   by_failure : new ≡ record old { disk = new.disk; kept = new.kept; broken = true } → (new.kept ≡ old.kept) ⊎ (new.kept ≡ length old.steps) → GoesOn disk m old new []
   by_failure is which =
-      makes_none old new (changes old new _ _ is) (λ first past was. ⊎_elim (λ (same : new.kept ≡ old.kept). omega (arith, same)) (λ (all : new.kept ≡ length old.steps). omega (arith, all, was.within)) which) kept leaves
+      makes_none old new (changes old new _ _ is) (λ first past was. ⊎_elim (λ (same : new.kept ≡ old.kept). omega (arith, same)) (λ (all : new.kept ≡ length old.steps). omega (arith, all, was.within)) which) kept leaves (apart_earlier old.generation others)
 
   pub goes_on : (r : Result (Unit {0}) BookFault) → Completed old new r → GoesOn disk m old new []
   goes_on (Ok x) is = by_all is.ok

@@ -1,42 +1,73 @@
 -- How a call on a store goes on from what its disk stood for.
-use Rattle.std.proofs.Common.{◌≡◌, ◌⊎◌, ◌≤◌, ◌+◌, ◌-◌, inl, inr, ⊎_elim, ℕ, List, [], ◌++◌, length, take, drop, take_all, refl, sym, ap, ap₂, subst, ◌∙◌, arith, append_assoc, length-append}
+use Rattle.std.proofs.Common.{◌≡◌, ◌≤◌, ◌+◌, ◌-◌, ℕ, Some, List, [], ◌∷◌, ◌++◌, length, take, drop, take_all, refl, sym, ap, ap₂, subst, ◌∙◌, arith, append_assoc, length-append}
 use Rattle.std.proofs.Math.Seq.{take-append-add, take-nil, drop-append-add, drop-length}
-use Rattle.std.proofs.lemmas.List.{append-nil, drop_all}
+use Rattle.std.proofs.lemmas.List.{append-nil, drop_all, take-append-drop}
 use Rattle.edge_traits.specs.Disk.{DiskView, Image, Leaves}
 use Rattle.edge_traits.proofs.Moments.{run_on, widened}
 use Rattle.step_code.specs.declared.base.Base.{Base}
+use Rattle.step_code.specs.declared.rules.Facts.{Facts}
 use Rattle.step_code.specs.declared.step.Step.{Step}
-use Rattle.step_code.specs.History.{replay, Legal}
+use Rattle.step_code.specs.After.{after}
+use Rattle.step_code.specs.History.{first, replay, Legal}
+use Rattle.step_code.specs.Places.{IsAccounted}
 use Rattle.step_code.specs.Rules.{Meaning}
+use Rattle.step_code.specs.Spent.{NothingIsSpent}
 use Rattle.store_image.specs.Stands.{IsSealOf, Stands, StandsFor}
+use Rattle.store_image.specs.Files.{root_file}
+use Rattle.store_image.specs.Stored.{NamesLast}
 use Rattle.store_image.proofs.Standing.{replay-append}
 use Rattle.journal_book.specs.Book.{durable_steps, waiting_steps, BookView, IsKept}
 use Rattle.journal_book.specs.Opening.{opened, IsReopened, StandsNow}
+use Rattle.journal_book.specs.Alone.{IsBeside, LeavesAlone}
+use Rattle.journal_book.proofs.Alone.{alone_narrower, alone_on}
 use Rattle.book_runs.specs.GoesOn.{GoesOn}
-use Rattle.book_runs.proofs.Going.{legal-append}
+use Rattle.book_runs.proofs.Going.{legal-append, small-append}
 use Rattle.seal_laws.proofs.Histories.{legal_whole, seals}
-use Rattle.store_calls.specs.Calls.{IsCall, IsOpened, StandsAmid, StandsOn}
+use Rattle.book_runs.proofs.Seals.{small_whole}
+use Rattle.store_calls.specs.Calls.{IsCall, IsEarlierIn, IsFirstOf, IsOpened, StandsAccounted, StandsOn}
 
 -- what stands for what was read of a history stands for that history
-narrow : (m : Meaning) (first : Base) (steps more rest : List Step) (n : ℕ) (image : Image) → n ≤ length more → rest ≡ [] → StandsFor m first (steps ++ take n more) rest image → StandsFor m first steps more image
-narrow m first steps more rest n image within none stands =
+narrow : (m : Meaning) (begun : Base) (steps more rest : List Step) (n : ℕ) (image : Image) → n ≤ length more → rest ≡ [] → StandsFor m begun (steps ++ take n more) rest image → StandsFor m begun steps more image
+narrow m begun steps more rest n image within none stands =
     let nothing : take stands.count rest ≡ [] = ap (take stands.count) none ∙ take-nil stands.count in
     let history : (steps ++ take n more) ++ take stands.count rest ≡ steps ++ take n more = ap (λ (ss : List Step). (steps ++ take n more) ++ ss) nothing ∙ append-nil (steps ++ take n more) in
-    record { count = n; within = within; stands = subst (λ (h : List Step). Stands m first image h) history stands.stands }
+    record { count = n; within = within; stands = subst (λ (h : List Step). Stands m begun image h) history stands.stands }
 
 -- a store that was opened, by what opening says of it
-pub opened_so : {D R : Type 0} {disk : D → DiskView} {m : Meaning} (first : Base) (steps more : List Step) (old : D) (rules : R) (limit : ℕ) (book : BookView D R)
-    → book ≡ opened m rules book.generation book.base book.steps limit book.disk → IsReopened disk m first steps more book → Leaves (disk old) (disk book.disk) (StandsFor m first steps more)
-    → IsOpened disk m first steps more old book
-opened_so {D = D} {R = R} first steps more old rules limit book is reopened any_moment = record {
+pub opened_so : {D R : Type 0} {disk : D → DiskView} {m : Meaning} (begun : Base) (steps more : List Step) (old : D) (rules : R) (limit : ℕ) (book : BookView D R)
+    → book ≡ opened m rules book.generation book.base book.steps limit book.disk → IsReopened disk m begun steps more book → Leaves (disk old) (disk book.disk) (StandsFor m begun steps more)
+    → IsOpened disk m begun steps more old book
+opened_so {D = D} {R = R} begun steps more old rules limit book is reopened any_moment = record {
   all = ap (λ (b : BookView D R). b.kept) is;
   state = ap (λ (b : BookView D R). b.state) is;
   reopened = reopened;
   any_moment = any_moment;
 }
 
-module _ {D R : Type 0} {disk : D → DiskView} {m : Meaning} (first : Base) (steps more made : List Step) (old : D) (opened later : BookView D R)
-    (is : IsOpened disk m first steps more old opened) (run : GoesOn disk m opened later made) where
+-- each message is accounted for in every legal history of a new store
+abbrev pub AllAccounted : Meaning → Type 0
+AllAccounted m = (bots : List Facts) (bundle : List ℕ) (steps : List Step) → m.facts bundle ≡ Some bots → Legal m (first bots bundle) steps → IsAccounted m (first bots bundle) steps
+
+legal-front : (m : Meaning) (s : Base) (front more : List Step) → Legal m s (front ++ more) → Legal m s front
+legal-front m s [] more legal = tt
+legal-front m s (step ∷ front) more legal = (legal.0, legal-front m (after m s step) front more legal.1)
+
+-- a front of these steps stands where all of them are legal, and is accounted for
+accounted_front : (m : Meaning) (bundle : List ℕ) (begun : Base) (steps more : List Step) (image : Image) → AllAccounted m → IsFirstOf m bundle begun → Legal m begun (steps ++ more) → StandsFor m begun steps more image
+    → StandsAccounted m begun image
+accounted_front m bundle begun steps more image accounts is legal stands =
+    let front = steps ++ take stands.count more in
+    let whole : steps ++ more ≡ front ++ drop stands.count more = ap (λ (ss : List Step). steps ++ ss) (sym (take-append-drop stands.count more)) ∙ sym (append_assoc steps (take stands.count more) (drop stands.count more)) in
+    let here : Legal m begun front = legal-front m begun front (drop stands.count more) (subst (Legal m begun) whole legal) in
+    record {
+      history = front;
+      stands = stands.stands;
+      legal = here;
+      accounted = subst (λ (s : Base). IsAccounted m s front) (sym is.state) (accounts is.bots bundle front is.loads (subst (λ (s : Base). Legal m s front) is.state here));
+    }
+
+module _ {D R : Type 0} {disk : D → DiskView} {m : Meaning} (begun : Base) (steps more made : List Step) (old : D) (opened later : BookView D R)
+    (is : IsOpened disk m begun steps more old opened) (run : GoesOn disk m opened later made) where
   abbrev past : List Step
   past = is.reopened.past
 
@@ -47,8 +78,12 @@ module _ {D R : Type 0} {disk : D → DiskView} {m : Meaning} (first : Base) (st
   read_is : past ++ opened.steps ≡ read
   read_is = is.reopened.splits
 
-  kept_now : IsKept disk m first past later
-  kept_now = run.kept first past is.reopened.kept
+  -- so many of the steps that were made are durable
+  abbrev durable : ℕ
+  durable = (length run.archived + later.kept) - opened.kept
+
+  kept_now : IsKept disk m begun (past ++ run.archived) later
+  kept_now = run.kept begun past is.reopened.kept
 
   -- the steps that were there are durable, and none of them waits
   all_durable : durable_steps opened ≡ opened.steps
@@ -57,94 +92,132 @@ module _ {D R : Type 0} {disk : D → DiskView} {m : Meaning} (first : Base) (st
   none_waits : waiting_steps opened ≡ []
   none_waits = ap (λ n. drop n opened.steps) is.all ∙ drop-length opened.steps
 
-  steps_now : later.steps ≡ opened.steps ++ made
-  steps_now = ap (λ (b : BookView D R). b.steps) run.book
+  kept_is : length run.archived + later.kept ≡ length opened.steps + durable
+  kept_is = omega (arith, run.durable begun past is.reopened.kept, is.all)
 
-  fewer : opened.kept ≤ later.kept
-  fewer = run.durable first past is.reopened.kept
+  durable_now : run.archived ++ durable_steps later ≡ opened.steps ++ take durable made
+  durable_now =
+      sym (take-append-add run.archived later.steps later.kept) ∙ ap₂ take kept_is (sym run.splits) ∙ take-append-add opened.steps made durable
 
-  kept_is : later.kept ≡ length opened.steps + (later.kept - opened.kept)
-  kept_is = omega (arith, fewer, is.all)
-
-  durable_now : durable_steps later ≡ opened.steps ++ take (later.kept - opened.kept) made
-  durable_now = ap₂ take kept_is steps_now ∙ take-append-add opened.steps made (later.kept - opened.kept)
-
-  waiting_now : waiting_steps later ≡ drop (later.kept - opened.kept) made
-  waiting_now = ap₂ drop kept_is steps_now ∙ drop-append-add opened.steps made (later.kept - opened.kept)
+  waiting_now : waiting_steps later ≡ drop durable made
+  waiting_now =
+      sym (drop-append-add run.archived later.steps later.kept) ∙ ap₂ drop kept_is (sym run.splits) ∙ drop-append-add opened.steps made durable
 
   -- ---- at any moment
 
-  run_leaves : Leaves (disk opened.disk) (disk later.disk) (StandsFor m first read made)
+  run_leaves : Leaves (disk opened.disk) (disk later.disk) (StandsFor m begun read made)
   run_leaves =
-      let there = run.any_moment first past is.reopened.kept in
+      let there = run.any_moment begun past is.reopened.kept in
       let history : past ++ durable_steps opened ≡ read = ap (λ ss. past ++ ss) all_durable ∙ read_is in
       let waits : waiting_steps opened ++ made ≡ made = ap (λ ss. ss ++ made) none_waits in
-      subst (λ (h : List Step). Leaves (disk opened.disk) (disk later.disk) (StandsFor m first h made)) history
-      (subst (λ (w : List Step). Leaves (disk opened.disk) (disk later.disk) (StandsFor m first (past ++ durable_steps opened) w)) waits there)
+      subst (λ (h : List Step). Leaves (disk opened.disk) (disk later.disk) (StandsFor m begun h made)) history
+      (subst (λ (w : List Step). Leaves (disk opened.disk) (disk later.disk) (StandsFor m begun (past ++ durable_steps opened) w)) waits there)
 
-  amid : Leaves (disk old) (disk later.disk) (λ image. StandsFor m first steps more image ⊎ StandsFor m first read made image)
-  amid = run_on (widened (λ image stands. inl stands) is.any_moment) (widened (λ image stands. inr stands) run_leaves)
+  read_now : StandsNow m begun read [] (disk opened.disk)
+  read_now =
+      let history : past ++ durable_steps opened ≡ read = ap (λ ss. past ++ ss) all_durable ∙ read_is in
+      record {
+        files = is.reopened.kept.files;
+        tells = is.reopened.kept.tells;
+        each = λ image left. subst (λ (w : List Step). StandsFor m begun read w image) none_waits
+            (subst (λ (h : List Step). StandsFor m begun h (waiting_steps opened) image) history (is.reopened.kept.each image left));
+      }
 
   -- ---- behind the call
 
-  stands_now : StandsNow m first (read ++ take (later.kept - opened.kept) made) (drop (later.kept - opened.kept) made) (disk later.disk)
+  stands_now : StandsNow m begun (read ++ take durable made) (drop durable made) (disk later.disk)
   stands_now =
-      let history : past ++ durable_steps later ≡ read ++ take (later.kept - opened.kept) made =
-      ap (λ ss. past ++ ss) durable_now ∙ sym (append_assoc past opened.steps (take (later.kept - opened.kept) made)) ∙ ap (λ ss. ss ++ take (later.kept - opened.kept) made) read_is in
+      let history : (past ++ run.archived) ++ durable_steps later ≡ read ++ take durable made =
+      append_assoc past run.archived (durable_steps later) ∙ ap (λ ss. past ++ ss) durable_now ∙ sym (append_assoc past opened.steps (take durable made)) ∙ ap (λ ss. ss ++ take durable made) read_is in
       record {
         files = kept_now.files;
         tells = kept_now.tells;
-        each = λ image left. subst (λ (w : List Step). StandsFor m first (read ++ take (later.kept - opened.kept) made) w image) waiting_now
-            (subst (λ (h : List Step). StandsFor m first h (waiting_steps later) image) history (kept_now.each image left));
+        each = λ image left. subst (λ (w : List Step). StandsFor m begun (read ++ take durable made) w image) waiting_now
+            (subst (λ (h : List Step). StandsFor m begun h (waiting_steps later) image) history (kept_now.each image left));
       }
 
   -- ---- legal
 
-  pub sealed_state : IsSealOf (replay m first read) opened.state
+  pub sealed_state : IsSealOf (replay m begun read) opened.state
   sealed_state =
-      let behind = seals m (replay m first past) opened.base opened.steps is.reopened.kept.seals in
-      subst (λ (s : Base). IsSealOf (replay m first read) s) (sym is.state)
-      (subst (λ (s : Base). IsSealOf s (replay m opened.base opened.steps)) (sym (replay-append m first past opened.steps) ∙ ap (replay m first) read_is) behind)
+      let behind = seals m (replay m begun past) opened.base opened.steps is.reopened.kept.seals in
+      subst (λ (s : Base). IsSealOf (replay m begun read) s) (sym is.state)
+      (subst (λ (s : Base). IsSealOf s (replay m opened.base opened.steps)) (sym (replay-append m begun past opened.steps) ∙ ap (replay m begun) read_is) behind)
 
-  legal_now : Legal m first read → Legal m first (read ++ made)
-  legal_now legal = legal-append m first read made legal (legal_whole m (replay m first read) opened.state made sealed_state run.legal)
+  legal_now : Legal m begun read → Legal m begun (read ++ made)
+  legal_now legal = legal-append m begun read made legal (legal_whole m (replay m begun read) opened.state made sealed_state run.legal)
 
-  pub called : IsCall m first steps more (disk old) (disk later.disk) made (later.kept - opened.kept)
-  called = record { count = is.reopened.count; within = is.reopened.within; any_moment = amid; now = stands_now; legal = legal_now }
+  small_now : NothingIsSpent m begun read → NothingIsSpent m begun (read ++ made)
+  small_now small = small-append m begun read made small (small_whole m (replay m begun read) opened.state made sealed_state run.small)
 
-  pub count_called : called.count ≡ is.reopened.count
+  -- ---- accounted for
+
+  legal_read : Legal m begun (steps ++ more) → Legal m begun read
+  legal_read legal =
+      let n = is.reopened.count in
+      let whole : steps ++ more ≡ read ++ drop n more = ap (λ (ss : List Step). steps ++ ss) (sym (take-append-drop n more)) ∙ sym (append_assoc steps (take n more) (drop n more)) in
+      legal-front m begun read (drop n more) (subst (Legal m begun) whole legal)
+
+  accounted_now : AllAccounted m → (bundle : List ℕ) → IsFirstOf m bundle begun → Legal m begun (steps ++ more) → Leaves (disk old) (disk later.disk) (StandsAccounted m begun)
+  accounted_now accounts bundle of legal =
+      run_on (widened (λ image stands. accounted_front m bundle begun steps more image accounts of legal stands) is.any_moment)
+      (widened (λ image stands. accounted_front m bundle begun read made image accounts of (legal_now (legal_read legal)) stands) run_leaves)
+
+  pub called : AllAccounted m → IsCall disk m begun steps more (disk old) (disk later.disk) made durable
+  called accounts = record {
+    count = is.reopened.count;
+    within = is.reopened.within;
+    mid = opened.disk;
+    before = is.any_moment;
+    read = read_now;
+    behind = run_leaves;
+    now = stands_now;
+    legal = legal_now;
+    small = small_now;
+    accounted = accounted_now accounts;
+  }
+
+  pub count_called : (accounts : AllAccounted m) → (called accounts).count ≡ is.reopened.count
   unfolding called
-  count_called = refl
+  count_called accounts = refl
 
-  pub called_durably : later.kept ≡ length later.steps → IsCall m first steps more (disk old) (disk later.disk) made (length made)
-  called_durably all =
-      let number : later.kept - opened.kept ≡ length made = omega (arith, all, is.all, ap length steps_now, length-append opened.steps made) in
-      subst (λ (n : ℕ). IsCall m first steps more (disk old) (disk later.disk) made n) number called
+  -- all that was made is durable where all steps of the book are
+  pub all_made : later.kept ≡ length later.steps → durable ≡ length made
+  all_made all = omega (arith, all, is.all, ap length run.splits, length-append opened.steps made, length-append run.archived later.steps)
+
+  pub called_durably : AllAccounted m → later.kept ≡ length later.steps → IsCall disk m begun steps more (disk old) (disk later.disk) made (length made)
+  called_durably accounts all = subst (λ (n : ℕ). IsCall disk m begun steps more (disk old) (disk later.disk) made n) (all_made all) (called accounts)
 
   -- a run that makes no step leaves the history as it stood
-  pub still_stands : made ≡ [] → StandsOn m first steps more (disk old) (disk later.disk)
+  pub still_stands : made ≡ [] → StandsOn m begun steps more (disk old) (disk later.disk)
   still_stands none =
-      let n = called.count in
-      let still : (image : Image) → StandsAmid m first steps more (steps ++ take n more) made image → StandsFor m first steps more image =
-      λ image. ⊎_elim (λ was. was) (narrow m first steps more made n image called.within none) in
-      let durable = later.kept - opened.kept in
-      let kept : (steps ++ take n more) ++ take durable made ≡ steps ++ take n more =
-      ap (λ (ss : List Step). (steps ++ take n more) ++ take durable ss) none ∙ ap (λ (ss : List Step). (steps ++ take n more) ++ ss) (take-nil durable) ∙ append-nil (steps ++ take n more) in
+      let n = is.reopened.count in
+      let kept : read ++ take durable made ≡ read = ap (λ (ss : List Step). read ++ take durable ss) none ∙ ap (λ (ss : List Step). read ++ ss) (take-nil durable) ∙ append-nil read in
       let rest : drop durable made ≡ [] = ap (drop durable) none ∙ drop_all durable [] (omega arith) in
       record {
-        any_moment = widened still called.any_moment;
+        any_moment = run_on is.any_moment (widened (λ image. narrow m begun steps more made n image is.reopened.within none) run_leaves);
         now = record {
-          files = called.now.files;
-          tells = called.now.tells;
+          files = kept_now.files;
+          tells = kept_now.tells;
           each = λ image left.
-              narrow m first steps more (drop durable made) n image called.within rest (subst (λ (h : List Step). StandsFor m first h (drop durable made) image) kept (called.now.each image left));
+              narrow m begun steps more (drop durable made) n image is.reopened.within rest (subst (λ (h : List Step). StandsFor m begun h (drop durable made) image) kept (stands_now.each image left));
         };
       }
 
+-- opening a store leaves earlier files alone, and so does a run behind it
+pub left_closed : {old new : DiskView} (files : Image) → LeavesAlone old new (IsBeside files) → LeavesAlone old new (IsEarlierIn files)
+left_closed files left = alone_narrower (λ file is. (is.0, λ generation named. (is.1 generation named).2 generation (omega arith))) left
+
+pub left_open : {D R : Type 0} {disk : D → DiskView} {m : Meaning} (old : D) (opened later : BookView D R) (made : List Step) (files : Image) → (disk old).told ≡ Some files → NamesLast (files root_file) opened.generation
+    → LeavesAlone (disk old) (disk opened.disk) (IsBeside files) → GoesOn disk m opened later made → LeavesAlone (disk old) (disk later.disk) (IsEarlierIn files)
+left_open old opened later made files told named left run =
+    let mid = left.told files told in
+    alone_on (left_closed files left) (alone_narrower (λ file is. is.1 opened.generation named) (run.others mid.0 mid.1))
+
 -- what was read of a history is one that the disk stood for
-pub stands_read : {D R : Type 0} {disk : D → DiskView} {m : Meaning} (first : Base) (steps more : List Step) (opened : BookView D R) → opened.kept ≡ length opened.steps
-    → IsReopened disk m first steps more opened → StandsNow m first steps more (disk opened.disk)
-stands_read {disk = disk} {m = m} first steps more opened all is = record {
+pub stands_read : {D R : Type 0} {disk : D → DiskView} {m : Meaning} (begun : Base) (steps more : List Step) (opened : BookView D R) → opened.kept ≡ length opened.steps
+    → IsReopened disk m begun steps more opened → StandsNow m begun steps more (disk opened.disk)
+stands_read {disk = disk} {m = m} begun steps more opened all is = record {
   files = is.kept.files;
   tells = is.kept.tells;
   each = λ image left.
@@ -154,5 +227,5 @@ stands_read {disk = disk} {m = m} first steps more opened all is = record {
       let none : take here.count (waiting_steps opened) ≡ [] = ap (take here.count) waits ∙ take-nil here.count in
       let history : (is.past ++ durable_steps opened) ++ take here.count (waiting_steps opened) ≡ steps ++ take is.count more =
       ap₂ (λ (a b : List Step). (is.past ++ a) ++ b) durable none ∙ append-nil (is.past ++ opened.steps) ∙ is.splits in
-      record { count = is.count; within = is.within; stands = subst (λ (h : List Step). Stands m first image h) history here.stands };
+      record { count = is.count; within = is.within; stands = subst (λ (h : List Step). Stands m begun image h) history here.stands };
 }

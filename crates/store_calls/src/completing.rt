@@ -3,10 +3,9 @@ ghost use Rattle.edge_traits.specs.Count.{Rose};
 ghost use Rattle.edge_traits.specs.Disk.{Image};
 ghost use Rattle.step_code.specs.declared.base.Base.{Base};
 ghost use Rattle.step_code.specs.declared.step.Step.{Step};
-ghost use Rattle.journal_book.specs.Book.{IsKept};
 ghost use Rattle.journal_book.specs.Opening.{StandsNow};
 ghost use Rattle.journal_book.specs.Outputs.{AreCompleted, AreWritten, HaveNoneSealed, IsBringUpFault, IsNoDamage};
-ghost use Rattle.book_runs.specs.GoesOn.{GoesOn};
+ghost use Rattle.book_runs.specs.GoesOn.{GoesOn, IsSameBook};
 
 use edge_traits::Disk;
 use journal_book::{Book, BookFault};
@@ -21,12 +20,13 @@ use step_code::Rules;
 pub fn complete_outputs<D: Disk, R: Rules>(book: &mut Book<D, R>) -> Result<(), BookFault>
     requires whole { book.old.broken ≡ false }
     ensures goes_on { GoesOn D.disk R.meaning book.old book.new [] }
+    ensures same { IsSameBook book.old book.new }
     ensures durable { (result ≢ Err BookFault.Disk) → book.new.kept ≡ length book.new.steps }
     ensures completed { (files after : Image) → (D.disk book.old.disk).told ≡ Some files → (D.disk book.new.disk).told ≡ Some after
         → OnOk result (AreCompleted (D.disk book.new.disk).may_leave book.old.state.outs files after) }
     ensures written { (first : Base) (history : List Step) → StandsNow R.meaning first history [] (D.disk book.new.disk) → HaveNoneSealed first.outs
         → OnOk result (AreWritten R.meaning first history (D.disk book.new.disk)) }
-    ensures sound { (first : Base) (past : List Step) → IsKept D.disk R.meaning first past book.old → IfErr result IsNoDamage }
+    ensures undamaged { (files : Image) → (D.disk book.old.disk).told ≡ Some files → IfErr result IsNoDamage }
     ensures fault { IfErr result (IsBringUpFault book.old.state.outs (D.disk book.old.disk).told) }
     ensures failed { IsErrOf result BookFault.Disk → Rose (D.disk book.old.disk).faults (D.disk book.new.disk).faults }
     ensures untold { (D.disk book.old.disk).told ≡ None → (D.disk book.new.disk).told ≡ None }

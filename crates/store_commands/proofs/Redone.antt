@@ -1,30 +1,28 @@
 -- What a call leaves of a store's history that makes the step that redoes a dump, or none.
-use Rattle.std.proofs.Common.{◌≡◌, ◌⊎◌, ⊎_elim, ◌≤◌, ◌+◌, ◌-◌, ℕ, List, [], ◌∷◌, ◌++◌, length, take, drop, sym, ap, subst, ◌∙◌, arith, length-append}
-use Rattle.std.proofs.Math.Seq.{take-nil}
-use Rattle.std.proofs.lemmas.List.{append-nil, drop_all}
-use Rattle.edge_traits.specs.Disk.{DiskView, Leaves}
-use Rattle.edge_traits.proofs.Moments.{widened}
+use Rattle.std.proofs.Common.{◌≡◌, ◌+◌, ◌-◌, ℕ, List, [], ◌∷◌, ◌++◌, length, take, sym, ap, subst, ◌∙◌}
+use Rattle.edge_traits.specs.Disk.{DiskView}
 use Rattle.step_code.specs.declared.base.Base.{Base}
 use Rattle.step_code.specs.declared.step.Step.{Step}
 use Rattle.step_code.specs.After.{after}
 use Rattle.step_code.specs.History.{replay}
 use Rattle.step_code.specs.Rules.{Meaning}
-use Rattle.store_image.specs.Stands.{Stands, StandsFor}
 use Rattle.journal_book.specs.Book.{BookView}
-use Rattle.journal_book.specs.Opening.{StandsNow}
-use Rattle.store_calls.specs.Calls.{IsCall, IsOpened, StandsAmid, StandsOn}
-use Rattle.store_calls.proofs.Called.{called, count_called, sealed_state, still_stands}
+use Rattle.store_calls.specs.Calls.{IsCall, IsOpened, StandsOn}
+use Rattle.store_calls.proofs.Called.{all_made, called, count_called, sealed_state, still_stands, AllAccounted}
 use Rattle.store_commands.specs.Redone.{redo_step, AreMadeAt, RedoesStep, Redid}
 use Rattle.store_commands.specs.declared.end.StoreEnd.{StoreEnd}
 use Rattle.store_commands.specs.declared.end.StoreEnd.TheVariants as end
 
-module _ {D R : Type 0} {disk : D → DiskView} {m : Meaning} (first : Base) (steps more : List Step) (old : D) (opened later : BookView D R)
+module _ {D R : Type 0} {disk : D → DiskView} {m : Meaning} (accounts : AllAccounted m) (first : Base) (steps more : List Step) (old : D) (opened later : BookView D R)
     (is : IsOpened disk m first steps more old opened) (dump now : ℕ) (e : StoreEnd) (redid : Redid disk m opened later (redo_step opened.state dump now) e) where
   abbrev step : Step
   step = redo_step opened.state dump now
 
-  whole : IsCall m first steps more (disk old) (disk later.disk) redid.made (later.kept - opened.kept)
-  whole = called first steps more redid.made old opened later is redid.run
+  abbrev durable : ℕ
+  durable = (length redid.run.archived + later.kept) - opened.kept
+
+  whole : IsCall disk m first steps more (disk old) (disk later.disk) redid.made durable
+  whole = called first steps more redid.made old opened later is redid.run accounts
 
   -- no step was made
   pub stands : redid.made ≡ [] → StandsOn m first steps more (disk old) (disk later.disk)
@@ -34,28 +32,27 @@ module _ {D R : Type 0} {disk : D → DiskView} {m : Meaning} (first : Base) (st
   unfolding whole
   step_is =
       ap (λ (b : Base). redo_step b dump now) (sealed_state first steps more redid.made old opened later is redid.run).same
-      ∙ ap (λ (n : ℕ). redo_step (replay m first (steps ++ take n more)) dump now) (sym (count_called first steps more redid.made old opened later is redid.run))
+      ∙ ap (λ (n : ℕ). redo_step (replay m first (steps ++ take n more)) dump now) (sym (count_called first steps more redid.made old opened later is redid.run accounts))
 
   -- the step was made
-  pub makes : redid.made ≡ step ∷ [] → RedoesStep m first steps more (disk old) (disk later.disk) dump now (later.kept - opened.kept)
+  pub makes : redid.made ≡ step ∷ [] → RedoesStep disk m first steps more (disk old) (disk later.disk) dump now durable
   makes one = from_call redid.made (sym one) whole step_is
     where
-      from_call : (made : List Step) → step ∷ [] ≡ made → (call : IsCall m first steps more (disk old) (disk later.disk) made (later.kept - opened.kept)) → step ≡ redo_step (replay m first (steps ++ take call.count more)) dump now
-          → RedoesStep m first steps more (disk old) (disk later.disk) dump now (later.kept - opened.kept)
+      from_call : (made : List Step) → step ∷ [] ≡ made → (call : IsCall disk m first steps more (disk old) (disk later.disk) made durable) → step ≡ redo_step (replay m first (steps ++ take call.count more)) dump now
+          → RedoesStep disk m first steps more (disk old) (disk later.disk) dump now durable
       from_call made same =
-          subst (λ (ms : List Step). (call : IsCall m first steps more (disk old) (disk later.disk) ms (later.kept - opened.kept)) → step ≡ redo_step (replay m first (steps ++ take call.count more)) dump now
-          → RedoesStep m first steps more (disk old) (disk later.disk) dump now (later.kept - opened.kept))
+          subst (λ (ms : List Step). (call : IsCall disk m first steps more (disk old) (disk later.disk) ms durable) → step ≡ redo_step (replay m first (steps ++ take call.count more)) dump now
+          → RedoesStep disk m first steps more (disk old) (disk later.disk) dump now durable)
           same (λ call here. record { step = step; call = call; step_is = here })
 
   -- and it is durable, where all steps of the book are
-  pub makes_durably : later.kept ≡ length later.steps → redid.made ≡ step ∷ [] → RedoesStep m first steps more (disk old) (disk later.disk) dump now 1
+  pub makes_durably : later.kept ≡ length later.steps → redid.made ≡ step ∷ [] → RedoesStep disk m first steps more (disk old) (disk later.disk) dump now 1
   makes_durably all one =
-      let now_there : length later.steps ≡ length opened.steps + length redid.made = ap (λ (b : BookView D R). length b.steps) redid.run.book ∙ length-append opened.steps redid.made in
-      let number : later.kept - opened.kept ≡ 1 = omega (arith, all, is.all, now_there, ap length one) in
-      subst (λ (n : ℕ). RedoesStep m first steps more (disk old) (disk later.disk) dump now n) number (makes one)
+      let number : durable ≡ 1 = all_made first steps more redid.made old opened later is redid.run all ∙ ap length one in
+      subst (λ (n : ℕ). RedoesStep disk m first steps more (disk old) (disk later.disk) dump now n) number (makes one)
 
 -- the state behind the step
 pub state_behind : {D R : Type 0} {disk : D → DiskView} {m : Meaning} (old new : BookView D R) (step : Step) (e : StoreEnd) → Redid disk m old new step e
     → e ≡ end.Done → new.state ≡ after m old.state step
 state_behind {D} {R} {disk} {m} old new one e redid done =
-    ap (λ (b : BookView D R). b.state) redid.run.book ∙ ap (replay m old.state) (subst (λ (d : StoreEnd). AreMadeAt d one redid.made) done redid.made_is)
+    ap (λ (b : BookView D R). b.state) redid.book ∙ ap (replay m old.state) (subst (λ (d : StoreEnd). AreMadeAt d one redid.made) done redid.made_is)

@@ -1,25 +1,18 @@
 -- What `init` makes of a disk.
-use Rattle.std.specs.Prelude.{◌≡◌, ◌<◌, ℕ, List, [], length, Some}
+use Rattle.std.specs.Prelude.{◌≡◌, ◌<◌, ℕ, List, [], length}
 use Rattle.edge_traits.specs.Disk.{DiskView, Image}
 use Rattle.edge_traits.specs.Output.{TookFront}
 use Rattle.edge_traits.specs.Sink.{SinkView, Took}
 use Rattle.step_code.specs.declared.base.Base.{Base}
-use Rattle.step_code.specs.declared.rules.Facts.{Facts}
 use Rattle.step_code.specs.Code.{code_of_base, first_format}
-use Rattle.step_code.specs.History.{first}
 use Rattle.step_code.specs.Rules.{Meaning}
 use Rattle.step_code.specs.Sound.{longest_base}
 use Rattle.state_texts.specs.Texts.{summary}
 use Rattle.store_image.specs.Files.{root_file}
 use Rattle.journal_book.specs.Opening.{StandsNow}
+use Rattle.store_calls.specs.Calls.{IsFirstOf}
 use Rattle.store_commands.specs.declared.end.StoreEnd.{StoreEnd}
 use Rattle.store_commands.specs.declared.end.StoreEnd.TheVariants as end
-
--- a new store of this bundle begins with this state
-pub record IsFirstOf (m : Meaning) (bundle : List ℕ) (s : Base) : Type 0 where
-  pub bots : List Facts
-  pub loads : m.facts bundle ≡ Some bots
-  pub state : s ≡ first bots bundle
 
 -- no store begins with this bundle: it has no bots, or the code of its first state would be longer than a store may hold
 abbrev pub HasNoStore : Meaning → List ℕ → Type 0

@@ -22,7 +22,7 @@ use Rattle.journal_book.specs.Staged.{step_cause, stamp}
 use Rattle.journal_book.specs.declared.book_fault.BookFault.{BookFault}
 use Rattle.journal_book.specs.declared.stage_refusal.StageRefusal.{StageRefusal}
 use Rattle.journal_book.specs.declared.stage_refusal.StageRefusal.TheVariants as refusal
-use Rattle.book_runs.specs.GoesOn.{GoesOn}
+use Rattle.book_runs.specs.GoesOn.{longer, GoesOn}
 use Rattle.store_calls.specs.Calls.{IsCall}
 use Rattle.store_commands.specs.Ends.{end_of, IsOpenIn}
 use Rattle.store_commands.specs.declared.end.StoreEnd.{StoreEnd}
@@ -67,9 +67,9 @@ IsRedone m files dump now end.Refused old new = ⊥
 -- ---- at any moment
 
 -- the call made the one step that redoes the dump in the state behind what was read, and so many of its steps are durable
-pub record RedoesStep (m : Meaning) (first : Base) (steps more : List Step) (old new : DiskView) (dump now durable : ℕ) : Type 0 where
+pub record RedoesStep {D : Type 0} (disk : D → DiskView) (m : Meaning) (first : Base) (steps more : List Step) (old new : DiskView) (dump now durable : ℕ) : Type 0 where
   pub step : Step
-  pub call : IsCall m first steps more old new (step ∷ []) durable
+  pub call : IsCall disk m first steps more old new (step ∷ []) durable
   pub step_is : step ≡ redo_step (replay m first (steps ++ take call.count more)) dump now
 
 -- at these ends a call made its step, and it is durable; at those it made none; where the disk failed or memory ran out, either
@@ -121,4 +121,5 @@ AreMadeAt end.Refused step made = made ≡ []
 pub record Redid {D R : Type 0} (disk : D → DiskView) (m : Meaning) (old new : BookView D R) (step : Step) (end : StoreEnd) : Type 0 where
   pub made : List Step
   pub run : GoesOn disk m old new made
+  pub book : new ≡ longer m old made new
   pub made_is : AreMadeAt end step made

@@ -1,10 +1,11 @@
-ghost use Rattle.std.specs.Prelude.{◌≡◌, ◌≢◌, ◌≤◌, List, length, Some, IfOk, IsErr};
+ghost use Rattle.std.specs.Prelude.{◌≡◌, ◌≢◌, ◌≤◌, List, length, Some, IfOk, IsErr, ⊤};
 ghost use Rattle.edge_traits.specs.Count.{Rose};
 ghost use Rattle.edge_traits.specs.Disk.{Image};
 ghost use Rattle.step_code.specs.declared.base.Base.{Base};
 ghost use Rattle.step_code.specs.declared.step.Step.{Step};
 ghost use Rattle.step_code.specs.Rules.{Meaning};
 ghost use Rattle.store_image.specs.Files.{root_file};
+ghost use Rattle.journal_book.specs.Alone.{IsBesideNew, LeavesAlone};
 ghost use Rattle.journal_book.specs.Opening.{StandsNow};
 ghost use Rattle.store_calls.specs.Calls.{StandsOn};
 ghost use Rattle.store_commands.specs.Begun.{IsBegun, IsMade, IsMadeWhole, IsNewStore};
@@ -42,6 +43,9 @@ pub fn init<D: Disk, R: Rules, S: Sink>(
     ensures left_alone { (first : Base) (steps more : List Step) → StandsNow R.meaning first steps more (D.disk disk)
         → StandsOn R.meaning first steps more (D.disk disk) (D.disk result.1) }
 
+    // The files that are none of its own are left alone, where the disk tells what it holds.
+    ensures others { (files : Image) → (D.disk disk).told ≡ Some files → LeavesAlone (D.disk disk) (D.disk result.1) (IsBesideNew files) }
+
     // The outside failed, as its counts show.
     ensures disk { result.0 ≡ StoreEnd.Disk → Rose (D.disk disk).faults (D.disk result.1).faults }
     ensures sink { result.0 ≡ StoreEnd.Sink → Rose (S.sink out.old).faults (S.sink out.new).faults }
@@ -77,6 +81,9 @@ pub fn make_store<D: Disk, R: Rules>(
     ensures left_alone { (first : Base) (steps more : List Step) → StandsNow R.meaning first steps more (D.disk disk)
         → StandsOn R.meaning first steps more (D.disk disk) (D.disk result.1) }
 
+    // The files that are none of its own are left alone, where the disk tells what it holds.
+    ensures others { (files : Image) → (D.disk disk).told ≡ Some files → LeavesAlone (D.disk disk) (D.disk result.1) (IsBesideNew files) }
+
     // Nothing is printed.
     ensures unprinted { result.0 ≢ StoreEnd.Sink }
 
@@ -102,6 +109,7 @@ pub fn find_store<D: Disk>(disk: &mut D) -> Result<u64, Failed>
     ensures stands { (m : Meaning) (first : Base) (steps more : List Step) → StandsNow m first steps more (D.disk disk.old)
         → StandsOn m first steps more (D.disk disk.old) (D.disk disk.new) }
     ensures told { (D.disk disk.new).told ≡ (D.disk disk.old).told }
+    ensures others { LeavesAlone (D.disk disk.old) (D.disk disk.new) (λ file. ⊤) }
     ensures failed { IsErr result → Rose (D.disk disk.old).faults (D.disk disk.new).faults }
     ensures count { (D.disk disk.old).faults ≤ (D.disk disk.new).faults }
 {

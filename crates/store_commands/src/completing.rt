@@ -3,9 +3,10 @@ ghost use Rattle.edge_traits.specs.Count.{Rose};
 ghost use Rattle.edge_traits.specs.Disk.{Image};
 ghost use Rattle.step_code.specs.declared.base.Base.{Base};
 ghost use Rattle.step_code.specs.declared.step.Step.{Step};
+ghost use Rattle.journal_book.specs.Alone.{LeavesAlone};
 ghost use Rattle.journal_book.specs.Opening.{StandsNow};
 ghost use Rattle.journal_book.specs.Outputs.{AreWritten, HaveNoneSealed};
-ghost use Rattle.store_calls.specs.Calls.{StandsOn};
+ghost use Rattle.store_calls.specs.Calls.{IsEarlierIn, StandsOn};
 ghost use Rattle.store_commands.specs.Ends.{AreWrittenAt, IsPrinted};
 ghost use Rattle.store_commands.specs.Completed.{said, IsCompleted};
 
@@ -38,6 +39,9 @@ pub fn complete<D: Disk, R: Rules, S: Sink>(
     // Each output's file is all lines of the history that the disk stands for, where that began with nothing sealed.
     ensures written { (first : Base) (history : List Step) → StandsNow R.meaning first history [] (D.disk result.1) → HaveNoneSealed first.outs
         → AreWrittenAt result.0 (AreWritten R.meaning first history (D.disk result.1)) }
+
+    // The files that are none of its own are left alone, where the disk tells what it holds.
+    ensures others { (files : Image) → (D.disk disk).told ≡ Some files → LeavesAlone (D.disk disk) (D.disk result.1) (IsEarlierIn files) }
 
     // The outside failed, as its counts show.
     ensures disk { result.0 ≡ StoreEnd.Disk → Rose (D.disk disk).faults (D.disk result.1).faults }

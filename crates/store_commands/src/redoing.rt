@@ -3,12 +3,13 @@ ghost use Rattle.edge_traits.specs.Count.{Rose};
 ghost use Rattle.edge_traits.specs.Disk.{Image};
 ghost use Rattle.step_code.specs.declared.base.Base.{Base};
 ghost use Rattle.step_code.specs.declared.step.Step.{Step};
+ghost use Rattle.journal_book.specs.Alone.{LeavesAlone};
 ghost use Rattle.journal_book.specs.Opening.{StandsNow};
 ghost use Rattle.journal_book.specs.Outputs.{AreWritten, HaveNoneSealed};
 ghost use Rattle.journal_book.specs.Staged.{step_cause};
-ghost use Rattle.book_runs.specs.GoesOn.{GoesOn};
+ghost use Rattle.book_runs.specs.GoesOn.{GoesOn, IsSameBook};
 ghost use Rattle.state_texts.specs.Texts.{summary};
-ghost use Rattle.store_calls.specs.Calls.{StandsOn};
+ghost use Rattle.store_calls.specs.Calls.{IsEarlierIn, StandsOn};
 ghost use Rattle.store_commands.specs.Ends.{AreWrittenAt, IsPrinted};
 ghost use Rattle.store_commands.specs.Redone.{redo_step, EndsAs, IsRedoCall, IsRedoEnd, IsRedone, RedoesStep, Redid};
 
@@ -17,6 +18,7 @@ use crate::printing::print_summary;
 use crate::{STEP_BYTES, StoreEnd};
 use ack_steps::Core;
 use edge_traits::{Disk, Sink};
+use history_laws::each_message_stands_in_one_place;
 use journal_book::{Book, Move};
 use std::alloc::Global;
 use step_code::Rules;
@@ -40,11 +42,14 @@ pub fn redo<D: Disk, R: Rules, S: Sink>(
     // At any moment of the call, and behind it, the disk stands for the history that it stood for, or for that and the step.
     ensures stands { (first : Base) (steps more : List Step) → StandsNow R.meaning first steps more (D.disk disk)
         → IsRedoCall result.0 (StandsOn R.meaning first steps more (D.disk disk) (D.disk result.1))
-        (RedoesStep R.meaning first steps more (D.disk disk) (D.disk result.1) dump now) }
+        (RedoesStep D.disk R.meaning first steps more (D.disk disk) (D.disk result.1) dump now) }
 
     // Each output's file is all lines of the history that the disk stands for, where that began with nothing sealed.
     ensures written { (first : Base) (history : List Step) → StandsNow R.meaning first history [] (D.disk result.1) → HaveNoneSealed first.outs
         → AreWrittenAt result.0 (AreWritten R.meaning first history (D.disk result.1)) }
+
+    // The files that are none of its own are left alone, where the disk tells what it holds.
+    ensures others { (files : Image) → (D.disk disk).told ≡ Some files → LeavesAlone (D.disk disk) (D.disk result.1) (IsEarlierIn files) }
 
     // The outside failed, as its counts show.
     ensures disk { result.0 ≡ StoreEnd.Disk → Rose (D.disk disk).faults (D.disk result.1).faults }
@@ -52,6 +57,8 @@ pub fn redo<D: Disk, R: Rules, S: Sink>(
     ensures disk_count { (D.disk disk).faults ≤ (D.disk result.1).faults }
     ensures sink_count { (S.sink out.old).faults ≤ (S.sink out.new).faults }
 {
+    // Nothing is lost and nothing is invented in a legal history.
+    each_message_stands_in_one_place::<R>();
     match Book::reopen(alloc, disk, rules, STEP_BYTES) {
         Ok(book) => {
             let mut book = book;
@@ -87,6 +94,7 @@ fn complete<D: Disk, R: Rules>(book: &mut Book<D, R>, end: StoreEnd) -> StoreEnd
     requires another { end ≢ StoreEnd.Disk }
     ensures end { EndsAs book.old.state.outs (D.disk book.old.disk).told end result }
     ensures goes_on { GoesOn D.disk R.meaning book.old book.new [] }
+    ensures same { IsSameBook book.old book.new }
     ensures durable { (result ≢ StoreEnd.Disk) → book.new.kept ≡ length book.new.steps }
     ensures written { (first : Base) (history : List Step) → StandsNow R.meaning first history [] (D.disk book.new.disk) → HaveNoneSealed first.outs
         → AreWrittenAt result (AreWritten R.meaning first history (D.disk book.new.disk)) }

@@ -40,6 +40,7 @@ stands_alike m first steps more a b alike is =
         stored = stored_alike a b alike stands.generation stands.base stands.steps stands.stored;
         seals = stands.seals;
         fronts = fronts_same 0 (replay m first stands.past).outs stands.base.outs a b alike.outs stands.fronts;
+        short = stands.short;
       };
     }
 

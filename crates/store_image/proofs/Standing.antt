@@ -1,5 +1,5 @@
 -- Files that stand for a history, after what a crash may have done to them.
-use Rattle.std.proofs.Common.{◌≡◌, ◌≢◌, ◌+◌, ◌==◌, ℕ, suc, List, [], ◌∷◌, ◌++◌, length, take, refl, sym, ap, subst, ◌∙◌, arith, append_assoc, if◌then◌else◌}
+use Rattle.std.proofs.Common.{◌≡◌, ◌≢◌, ◌≤◌, ◌+◌, ◌==◌, ℕ, suc, List, [], ◌∷◌, ◌++◌, length, take, refl, sym, ap, subst, ◌∙◌, arith, append_assoc, if◌then◌else◌}
 use Rattle.std.proofs.Math.Seq.{take-append_seam}
 use Rattle.std.proofs.lemmas.Bool.{eq-eqb, ne_eqb}
 use Rattle.std.proofs.lemmas.List.{append-nil}
@@ -8,8 +8,10 @@ use Rattle.step_code.specs.declared.base.Base.{Base}
 use Rattle.step_code.specs.declared.output.Output.{Output}
 use Rattle.step_code.specs.declared.step.Step.{Step}
 use Rattle.step_code.specs.After.{after}
+use Rattle.step_code.specs.Code.{code_of_base, first_format}
 use Rattle.step_code.specs.History.{replay}
 use Rattle.step_code.specs.Rules.{Meaning}
+use Rattle.step_code.specs.Sound.{longest_base}
 use Rattle.step_code.proofs.GivenBack.{steps_after}
 use Rattle.store_image.specs.Files.{out_file}
 use Rattle.store_image.specs.Stored.{IsRecord, AreRecords, IsStored}
@@ -48,17 +50,19 @@ fronts_same k (whole ∷ wholes) (out ∷ more) a b same stand =
 pub record IsPast (m : Meaning) (first : Base) (past : List Step) (base : Base) (image : Image) : Type 0 where
   pub seals : IsSealOf (replay m first past) base
   pub fronts : FrontsStand 0 (replay m first past).outs base.outs image
+  pub short : length (code_of_base first_format base) ≤ longest_base
 
 seal_steps : (whole sealed : Base) → IsSealOf whole sealed → sealed.steps ≡ whole.steps
 seal_steps whole sealed seals = ap (λ (b : Base). b.steps) seals.same
 
 past_again : (m : Meaning) (first : Base) (past other kept rest : List Step) (base : Base) (image : Image) → base.steps ≡ first.steps + length past
-    → IsSealOf (replay m first other) base → FrontsStand 0 (replay m first other).outs base.outs image → (past ++ kept) ++ rest ≡ other ++ kept → IsPast m first past base image
-past_again m first past other kept rest base image counted seals fronts splits =
+    → IsSealOf (replay m first other) base → FrontsStand 0 (replay m first other).outs base.outs image → length (code_of_base first_format base) ≤ longest_base → (past ++ kept) ++ rest ≡ other ++ kept
+    → IsPast m first past base image
+past_again m first past other kept rest base image counted seals fronts short splits =
     let size : length past ≡ length other = omega (arith, counted, seal_steps (replay m first other) base seals, replay_steps m first other) in
     let whole : past ++ (kept ++ rest) ≡ other ++ kept = sym (append_assoc past kept rest) ∙ splits in
     let same : past ≡ other = sym (take-append_seam past (kept ++ rest)) ∙ ap (take (length past)) whole ∙ ap (λ n. take n (other ++ kept)) size ∙ take-append_seam other kept in
-    subst (λ (ps : List Step). IsPast m first ps base image) (sym same) (record { seals = seals; fronts = fronts })
+    subst (λ (ps : List Step). IsPast m first ps base image) (sym same) (record { seals = seals; fronts = fronts; short = short })
 
 -- where the files hold a state behind so many steps, the past is one
 pub past_of : (m : Meaning) (first : Base) (past kept rest : List Step) (base : Base) (g : ℕ) (image : Image) → IsStored image g base kept → base.steps ≡ first.steps + length past
@@ -68,6 +72,7 @@ past_of m first past kept rest base g image stored counted stands =
     past_again m first past stands.past kept rest base image counted
     (subst (λ (b : Base). IsSealOf (replay m first stands.past) b) one.1 stands.seals)
     (subst (λ (b : Base). FrontsStand 0 (replay m first stands.past).outs b.outs image) one.1 stands.fronts)
+    (subst (λ (b : Base). length (code_of_base first_format b) ≤ longest_base) one.1 stands.short)
     (stands.splits ∙ ap (λ ss. stands.past ++ ss) one.2)
 
 -- files stand for what their generation holds, behind its past
@@ -82,6 +87,7 @@ stands_by m first past steps base g before image is same stored = record {
   stored = stored;
   seals = is.seals;
   fronts = fronts_same 0 (replay m first past).outs base.outs before image same is.fronts;
+  short = is.short;
 }
 
 -- a history in two parts

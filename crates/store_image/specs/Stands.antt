@@ -6,8 +6,10 @@ use Rattle.out_files.specs.Output.{lines_text}
 use Rattle.step_code.specs.declared.base.Base.{Base}
 use Rattle.step_code.specs.declared.output.Output.{Output}
 use Rattle.step_code.specs.declared.step.Step.{Step}
+use Rattle.step_code.specs.Code.{code_of_base, first_format}
 use Rattle.step_code.specs.History.{replay}
 use Rattle.step_code.specs.Rules.{Meaning}
+use Rattle.step_code.specs.Sound.{longest_base}
 use Rattle.store_image.specs.Files.{out_file}
 use Rattle.store_image.specs.Stored.{IsStored}
 
@@ -41,7 +43,7 @@ FrontsStand k (whole ∷ wholes) [] image = Unit {0}
 FrontsStand k (whole ∷ wholes) (sealed ∷ more) image = FrontStands whole sealed (image (out_file k)) × FrontsStand (suc k) wholes more image
 
 -- the files stand for this history of the store whose first state is `first`: their generation begins with the state
--- behind some of its steps, and holds the others
+-- behind some of its steps, whose code is no longer than a store may hold, and holds the others
 pub record Stands (m : Meaning) (first : Base) (image : Image) (history : List Step) : Type 0 where
   pub generation : ℕ
   pub base : Base
@@ -51,6 +53,7 @@ pub record Stands (m : Meaning) (first : Base) (image : Image) (history : List S
   pub stored : IsStored image generation base steps
   pub seals : IsSealOf (replay m first past) base
   pub fronts : FrontsStand 0 (replay m first past).outs base.outs image
+  pub short : length (code_of_base first_format base) ≤ longest_base
 
 -- the files stand for these steps and a front of those behind them
 pub record StandsFor (m : Meaning) (first : Base) (steps more : List Step) (image : Image) : Type 0 where

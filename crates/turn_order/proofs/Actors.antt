@@ -1,9 +1,10 @@
 -- What a bot that may step stands for.
-use Rattle.std.proofs.Common.{◌≡◌, ◌≤◌, ◌<◌, ◌+◌, ◌-◌, ◌&&◌, ◌==◌, ℕ, zero, suc, Bool, true, false, not, is_some, is_none, nat_le, List, [], ◌∷◌, Option, Some, None, option_map, map, filter, refl, ap, subst, ◌∙◌, arith, if◌then◌else◌}
+use Rattle.std.proofs.Common.{◌≡◌, ◌≤◌, ◌<◌, ◌+◌, ◌-◌, ◌&&◌, ◌==◌, ℕ, zero, suc, Bool, true, false, not, is_some, nat_le, List, [], ◌∷◌, Option, Some, None, IsSome, option_map, map, filter, find, refl, ap, subst, ◌∙◌, arith, if◌then◌else◌}
 use Rattle.std.specs.List.{AllByRecursion}
 use Rattle.std.specs.Option.{option_or}
 use Rattle.std.specs.Cmp.Lexicographic.{slice_cmp}
 use Rattle.std.specs.List.Sorted.{IsStrictlySortedBy}
+use Rattle.std.specs.Str.{bytes_eq}
 use Rattle.std.specs.Ordering.{nat_cmp}
 use Rattle.std.specs.declared.cmp.Ordering.TheVariants.{Less}
 use Rattle.std.proofs.lemmas.Bool.{eq-eqb, eqb-false, eqb-true, le-leb}
@@ -11,16 +12,18 @@ use Rattle.std.proofs.lemmas.Slice.Eq.{bytes_eq-Decides}
 use Rattle.base_types.proofs.Everywhere.{all_found}
 use Rattle.base_types.proofs.Names.{less_differs}
 use Rattle.base_types.specs.Name.{queue_name}
+use Rattle.stored_types.specs.Hand.{is_hand}
 use Rattle.stored_types.specs.declared.hand.Hand.{Hand}
 use Rattle.step_code.specs.declared.base.Base.{Base}
 use Rattle.step_code.specs.declared.rules.Facts.{Facts}
-use Rattle.step_code.specs.declared.step.StepKind.TheVariants as kind
-use Rattle.step_code.specs.Fits.{first_failing, in_hand_parts, is_empty, parts}
+use Rattle.step_code.specs.Fits.{first_failing, in_hand_parts, is_empty}
 use Rattle.step_code.specs.Rules.{AreSound, IsSoundBot, Meaning, bot_named, collects, passes}
+use Rattle.step_code.specs.Sound.{IsSoundHand}
 use Rattle.step_code.specs.State.{bots_in_force, hand_of, held, is_halted, is_instance, waiting}
-use Rattle.turn_order.specs.Laws.{FullHandsFit, TakesFit}
+use Rattle.ack_steps.specs.Core.{HasSoundHands}
+use Rattle.turn_order.specs.Laws.{FirstActorsMayAct, FullHandsFit, HandsAreLive, TakesFit}
 use Rattle.turn_order.specs.Order.{first_among, worker_of}
-use Rattle.turn_order.specs.Turn.{actor_of, first_actor, first_some, lowest_full, may_take}
+use Rattle.turn_order.specs.Turn.{actor_of, first_actor, first_some, lowest_full, may_take, IsFreeToTake}
 use Rattle.turn_order.specs.declared.actor.Actor.{Actor}
 use Rattle.turn_order.specs.declared.actor.Actor.TheVariants.{Full, Take}
 
@@ -156,30 +159,77 @@ in_hand_fits m s bot i hand live holds =
     rw (live, eq-eqb s.bundle_no s.bundle_no refl, ap (passes (λ no. no == hand.message.no)) held_is ∙ eq-eqb hand.message.no hand.message.no refl) refl
 
 pub full_hands_fit : FullHandsFit
-full_hands_fit m s bot i sound is =
+full_hands_fit m s bot i hand live holds = in_hand_fits m s bot i hand live holds
+
+-- what is found passes
+pub found_passes : {A : Type 0} (p : A → Bool) (xs : List A) (x : A) → find p xs ≡ Some x → p x ≡ true
+found_passes p [] x is = absurd (cc)
+found_passes p (y ∷ ys) x is = go (found_passes p ys x) (p y) refl is
+  where
+    go : (find p ys ≡ Some x → p x ≡ true) → (b : Bool) → p y ≡ b → find p (y ∷ ys) ≡ Some x → p x ≡ true
+    go later true passes is = let same : y ≡ x = cc (rw (passes) at is) in subst (λ z. p z ≡ true) same passes
+    go later false passes is = later (rw (passes) at is)
+
+pub both : (a b : Bool) → a && b ≡ true → (a ≡ true) × (b ≡ true)
+both true b is = (refl, is)
+both false b is = absurd (cc)
+
+pub hands_are_live : HandsAreLive
+hands_are_live m s bot i sound full = go (hand_of bot i s) refl full
+  where
+    go : (o : Option Hand) → hand_of bot i s ≡ o → IsSome o → is_instance (bots_in_force m s) bot i ≡ true
+    go None is full = absurd (cc)
+    go (Some hand) is full =
+        let names = both (bytes_eq hand.bot bot) (hand.instance == i) (found_passes (is_hand bot i) s.hands hand is) in
+        let live = (all_found (IsSoundHand (bots_in_force m s) (map (λ q. q.name) s.queues)) (is_hand bot i) s.hands hand sound.each_hand is).live in
+        subst (λ (b : List ℕ). is_instance (bots_in_force m s) b i ≡ true) ((bytes_eq-Decides hand.bot bot).0 names.0)
+        (subst (λ (k : ℕ). is_instance (bots_in_force m s) hand.bot k ≡ true) (eqb-true hand.instance i names.1) live)
+
+-- a live instance with a full hand
+pub record IsFull (m : Meaning) (s : Base) (bot : List ℕ) (i : ℕ) : Type 0 where
+  pub live : is_instance (bots_in_force m s) bot i ≡ true
+  pub hand : Hand
+  pub holds : hand_of bot i s ≡ Some hand
+
+-- each full hand is one,
+pub full_hand : (m : Meaning) (s : Base) (bot : List ℕ) (i : ℕ) → HasSoundHands m s → IsSome (hand_of bot i s) → IsFull m s bot i
+full_hand m s bot i sound full = go (hand_of bot i s) refl full
+  where
+    go : (o : Option Hand) → hand_of bot i s ≡ o → IsSome o → IsFull m s bot i
+    go None is some = absurd (cc)
+    go (Some hand) is some = record { live = hands_are_live m s bot i sound full; hand = hand; holds = is }
+
+-- and so is the first bot that may step,
+pub first_is_full : (m : Meaning) (s : Base) (bot : List ℕ) (i : ℕ) → AreSound (bots_in_force m s) → first_actor m s ≡ Some (Full bot i) → IsFull m s bot i
+first_is_full m s bot i sound is =
     let step = steps_by m s (Full bot i) sound is in
     let f = step.facts in
     let full = full_of s f bot i step.acts in
     let low = lowest_is f.bot 1 f.instances i s full.1 in
     let hand = hand_there f.bot i s low.full in
     let live = instance_of (bots_in_force m s) f i step.named step.worker low.from (omega (arith, low.below)) in
-    subst (λ (b : List ℕ). (h : Hand) × (hand_of b i s ≡ Some h) × (first_failing (in_hand_parts m s b i h.message.no s.bundle_no) ≡ None)) full.0 (hand.0, hand.1, in_hand_fits m s f.bot i hand.0 live hand.1)
+    subst (λ (b : List ℕ). IsFull m s b i) full.0 (record { live = live; hand = hand.0; holds = hand.1 })
 
-empty_none : {A : Type 0} (o : Option A) → is_some o ≡ false → is_none o ≡ true
+empty_none : {A : Type 0} (o : Option A) → is_some o ≡ false → o ≡ None
 empty_none (Some x) is = absurd (cc)
 empty_none None is = refl
 
-pub both : (a b : Bool) → a && b ≡ true → (a ≡ true) × (b ≡ true)
-both true b is = (refl, is)
-both false b is = absurd (cc)
-
-pub takes_fit : TakesFit
-takes_fit m s bot message sound is =
+-- or its first instance may take a message
+pub first_is_free : (m : Meaning) (s : Base) (bot : List ℕ) → AreSound (bots_in_force m s) → first_actor m s ≡ Some (Take bot) → IsFreeToTake m s bot 1
+first_is_free m s bot sound is =
     let step = steps_by m s (Take bot) sound is in
     let f = step.facts in
     let takes = take_of s f bot step.acts in
-    let may = both (not (is_halted f.bot s)) (not (is_empty (waiting (queue_name f.bot) s))) takes.2 in
     let some = (all_found IsSoundBot _ (bots_in_force m s) f sound.each step.named).some_instance in
     let live = instance_of (bots_in_force m s) f 1 step.named step.worker (omega arith) some in
-    let hands = empty_none (held f.bot 1 s) (none_full f.bot 1 f.instances 1 s takes.1 (omega arith) (omega (arith, some))) in
-    subst (λ (b : List ℕ). first_failing (parts m s (kind.Take b 1 message)) ≡ None) takes.0 (rw (live, may.0, hands, may.1) refl)
+    let empty = empty_none (held f.bot 1 s) (none_full f.bot 1 f.instances 1 s takes.1 (omega arith) (omega (arith, some))) in
+    subst (λ (b : List ℕ). IsFreeToTake m s b 1) takes.0 (record { live = live; empty = empty; takes = takes.2 })
+
+pub takes_fit : TakesFit
+takes_fit m s bot i message free =
+    let may = both (not (is_halted bot s)) (not (is_empty (waiting (queue_name bot) s))) free.takes in
+    rw (free.live, may.0, free.empty, may.1) refl
+
+pub first_actors_may_act : FirstActorsMayAct
+first_actors_may_act m s (Full bot i) sound is = ap is_some (first_is_full m s bot i sound is).holds
+first_actors_may_act m s (Take bot) sound is = first_is_free m s bot sound is

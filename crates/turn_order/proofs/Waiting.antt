@@ -19,19 +19,10 @@ use Rattle.turn_order.specs.Laws.{NothingWaits}
 use Rattle.turn_order.specs.Order.{worker_of as worker_does}
 use Rattle.turn_order.specs.Turn.{actor_of, lowest_full, may_take, workers}
 use Rattle.turn_order.specs.declared.actor.Actor.TheVariants.{Full, Take}
-use Rattle.turn_order.proofs.Actors.{among_all, both, none_first, none_full}
-
--- what is found passes
-found_passes : {A : Type 0} (p : A → Bool) (xs : List A) (x : A) → find p xs ≡ Some x → p x ≡ true
-found_passes p [] x is = absurd (cc)
-found_passes p (y ∷ ys) x is = go (found_passes p ys x) (p y) refl is
-  where
-    go : (find p ys ≡ Some x → p x ≡ true) → (b : Bool) → p y ≡ b → find p (y ∷ ys) ≡ Some x → p x ≡ true
-    go later true passes is = let same : y ≡ x = cc (rw (passes) at is) in subst (λ z. p z ≡ true) same passes
-    go later false passes is = later (rw (passes) at is)
+use Rattle.turn_order.proofs.Actors.{among_all, both, found_passes, none_first, none_full}
 
 -- an instance is one of a bot of the plan
-record IsWorker (bots : List Facts) (bot : List ℕ) (i : ℕ) : Type 0 where
+pub record IsWorker (bots : List Facts) (bot : List ℕ) (i : ℕ) : Type 0 where
   pub facts : Facts
   pub named : bot_named bot bots ≡ Some facts
   pub name : facts.bot ≡ bot
@@ -39,7 +30,7 @@ record IsWorker (bots : List Facts) (bot : List ℕ) (i : ℕ) : Type 0 where
   pub from : 1 ≤ i
   pub upto : i ≤ facts.instances
 
-worker_of : (bots : List Facts) (bot : List ℕ) (i : ℕ) → is_instance bots bot i ≡ true → IsWorker bots bot i
+pub worker_of : (bots : List Facts) (bot : List ℕ) (i : ℕ) → is_instance bots bot i ≡ true → IsWorker bots bot i
 worker_of bots bot i is = go (bot_named bot bots) refl is
   where
     go : (o : Option Facts) → bot_named bot bots ≡ o → passes (λ (f : Facts). not (collects f) && nat_le 1 i && nat_le i f.instances) o ≡ true → IsWorker bots bot i

@@ -1,5 +1,5 @@
 -- Whose turn it is, in the order of one thread.
-use Rattle.std.specs.Prelude.{◌&&◌, ℕ, zero, suc, Bool, not, is_some, List, [], ◌∷◌, Option, Some, None, option_map, map, filter, if◌then◌else◌}
+use Rattle.std.specs.Prelude.{◌≡◌, ◌&&◌, ℕ, zero, suc, Bool, true, not, is_some, List, [], ◌∷◌, Option, Some, None, IsSome, option_map, map, filter, if◌then◌else◌}
 use Rattle.std.specs.List.{list_all}
 use Rattle.std.specs.Option.{option_or}
 use Rattle.base_types.specs.Name.{queue_name}
@@ -7,7 +7,7 @@ use Rattle.step_code.specs.declared.base.Base.{Base}
 use Rattle.step_code.specs.declared.rules.Facts.{Facts}
 use Rattle.step_code.specs.Fits.{is_empty}
 use Rattle.step_code.specs.Rules.{Meaning, collects}
-use Rattle.step_code.specs.State.{bots_in_force, has_finished, held, is_halted, waiting}
+use Rattle.step_code.specs.State.{bots_in_force, hand_of, has_finished, held, is_halted, is_instance, waiting}
 use Rattle.turn_order.specs.declared.actor.Actor.{Actor}
 use Rattle.turn_order.specs.declared.actor.Actor.TheVariants.{Full, Take}
 
@@ -26,6 +26,17 @@ lowest_full bot instance (suc more) s = if is_some (held bot instance s) then So
 -- the bot isn't halted, and a message waits for it
 abbrev pub may_take : Base → List ℕ → Bool
 may_take s bot = not (is_halted bot s) && not (is_empty (waiting (queue_name bot) s))
+
+-- a live instance holds no message, and it may take one
+pub record IsFreeToTake (m : Meaning) (s : Base) (bot : List ℕ) (instance : ℕ) : Type 0 where
+  pub live : is_instance (bots_in_force m s) bot instance ≡ true
+  pub empty : held bot instance s ≡ None
+  pub takes : may_take s bot ≡ true
+
+-- a bot may do this: the instance's hand is full; or its first instance may take a message
+abbrev pub MayAct : Meaning → Base → Actor → Type 0
+MayAct m s (Full bot instance) = IsSome (hand_of bot instance s)
+MayAct m s (Take bot) = IsFreeToTake m s bot 1
 
 -- what a bot does next: a full hand goes first, the lowest instance; else the front of its queue is taken
 abbrev pub actor_of : Base → Facts → Option Actor

@@ -6,5 +6,7 @@ mod laws;
 mod order;
 
 pub use actor::Actor;
-pub use laws::{full_hands_fit, idle_is_told, nothing_waits, takes_fit};
+pub use laws::{
+    first_actors_may_act, full_hands_fit, hands_are_live, idle_is_told, nothing_waits, takes_fit,
+};
 pub use order::{first_actor, has_finished, is_idle};

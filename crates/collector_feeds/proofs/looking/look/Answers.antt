@@ -1,4 +1,4 @@
-use Rattle.std.proofs.Common.{◌≢◌, ◌≤◌, sym, ap, subst, ◌∙◌, arith}
+use Rattle.std.proofs.Common.{◌≢◌, ◌≤◌, sym, subst, ◌∙◌, arith}
 use Rattle.edge_traits.specs.Shelf.{count_on}
 use Rattle.step_code.specs.declared.rules.FeedFacts.{FeedFacts}
 use Rattle.collector_feeds.specs.Standing.{FeedView, RoseBy, all_faults}

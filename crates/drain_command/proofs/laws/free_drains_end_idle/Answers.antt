@@ -1,5 +1,8 @@
+use Rattle.std.proofs.Common.{sym, subst}
+use Rattle.journal_book.specs.Laws.{WhatStandsOpens}
 use Rattle.drain_command.proofs.Unhindered.{drains_end_idle}
 use Rattle.drain_command.proofs.laws.free_drains_end_idle.Goals as goal
 
 pub returns : goal.returns
-returns g c = λ o feeds files asked old new e before after free call. drains_end_idle (g.D.Disk.disk old) (g.D.Disk.disk new) (g.met.D.Disk.honest old) o feeds files asked free e before after call
+returns g c = λ o feeds files asked old new now e before after same free call.
+    drains_end_idle g.D.Disk.disk (g.D.Disk.disk old) (g.D.Disk.disk new) (g.met.D.Disk.honest old) o (subst WhatStandsOpens (sym same) c.what_stands_opens.ensures) feeds files asked free now e before after call

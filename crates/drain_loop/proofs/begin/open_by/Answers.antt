@@ -15,7 +15,7 @@ returns-then-is_none_left-clause-opened g c = λ first later.
     let book = c.args.book.now in
     let o = outside g.R.Rules.meaning first (g.C.Clock.told c.args.clock.now) book.limit in
     ends_opening o (place_with (c.args.what ∷ later) book c.args.left) later book book end.Left (λ none. absurd (never_none c.args.what later none), c.is_none_left.ensures.none c.if-is_none_left.true)
-    (goes_nowhere book (g.met.D.Disk.only_now book.disk))
+    (goes_nowhere book (g.met.D.Disk.only_now book.disk)) refl
 
 pub end_of-requires : goal.end_of-requires
 end_of-requires g c =
@@ -32,12 +32,12 @@ returns-in-Ok-clause-opened g c = λ first later.
     let step = staged m book.state c.now.result c.args.what in
     let due = opening_due o p c.args.what later c.now.result refl (c.is_none_left.ensures.some c.if-is_none_left.false) c.state.ensures.latest c.requires.plain c.requires.fits c.now.ensures in
     opens_one o c.args.what later c.args.left c.one_less.result book c.commit.new.book step
-    (made_is o p step due (not_refused book.broken (step_cause m book.state book.steps book.limit step) c.requires.whole c.in-Ok.ensures.causes)) c.in-Ok.ensures.ok c.one_less.ensures
+    (made_is o p step due (not_refused book.broken (step_cause m book.state book.steps book.limit step) c.requires.whole c.in-Ok.ensures.causes)) c.in-Ok.ensures.ok c.in-Ok.ensures.book c.one_less.ensures
 
 pub returns-in-Ok-clause-step : goal.returns-in-Ok-clause-step
 returns-in-Ok-clause-step g c =
     let m = g.R.Rules.meaning in let s = c.args.book.now.state in
-    (staged m s c.now.result c.args.what, plain_staged m s c.now.result c.args.what c.requires.plain, ap (λ (b : BookView _ _). b.state) c.in-Ok.ensures.ok.book)
+    (staged m s c.now.result c.args.what, plain_staged m s c.now.result c.args.what c.requires.plain, ap (λ (b : BookView _ _). b.state) c.in-Ok.ensures.book)
 
 pub returns-in-Err-clause-opened : goal.returns-in-Err-clause-opened
 returns-in-Err-clause-opened g c = λ first later.
@@ -49,4 +49,4 @@ returns-in-Err-clause-opened g c = λ first later.
     ends_opening o p later book c.commit.new.book c.end_of.result
     (subst (Ends o p) (sym c.end_of.ensures)
     (not_made o p step c.in-Err.fault due (whole_cause book.broken (step_cause m book.state book.steps book.limit step) c.in-Err.fault c.requires.whole c.in-Err.ensures.refused)))
-    c.in-Err.ensures.err
+    c.in-Err.ensures.err c.in-Err.ensures.same

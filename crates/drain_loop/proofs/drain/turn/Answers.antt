@@ -81,6 +81,7 @@ returns-in-Ok-commit-clause-made g c = λ first told.
       is_made = made_is o p step (due_is o p next.0 c.in-Ok.what c.now.result on next.1 next.2 c.now.ensures)
           (not_refused book.broken (step_cause m book.state book.steps book.limit step) c.requires.whole c.in-Ok-commit.ensures.causes);
       goes_on = c.in-Ok-commit.ensures.ok;
+      book = c.in-Ok-commit.ensures.book;
     }
 
 pub returns-in-Ok-commit-clause-works : goal.returns-in-Ok-commit-clause-works
@@ -99,7 +100,7 @@ returns-in-Ok-commit-clause-bundle g c =
     let same = ap (λ (v : CoreView _). v.state) c.state-core.ensures.core in
     let next = subst (λ (b : Base). IsNextMove (outside m shelf None 0) b c.in-Ok.what) same (c.in-Ok.ensures.next shelf None 0 refl) in
     let step = staged m s c.now.result c.in-Ok.what in
-    ap (λ (b : BookView _ _). b.state.bundle) c.in-Ok-commit.ensures.ok.book ∙ (made_keeps m s next.0 step (screened_act m s (stamp s c.now.result).0 next.0 c.in-Ok.what next.2.is)).bundle
+    ap (λ (b : BookView _ _). b.state.bundle) c.in-Ok-commit.ensures.book ∙ (made_keeps m s next.0 step (screened_act m s (stamp s c.now.result).0 next.0 c.in-Ok.what next.2.is)).bundle
 
 pub returns-in-Ok-commit-clause-fewer : goal.returns-in-Ok-commit-clause-fewer
 returns-in-Ok-commit-clause-fewer g c =
@@ -110,7 +111,7 @@ returns-in-Ok-commit-clause-fewer g c =
     let kept = made_keeps m s next.0 step (screened_act m s (stamp s c.now.result).0 next.0 c.in-Ok.what next.2.is) in
     let none = not_refused book.broken (step_cause m s book.steps book.limit step) c.requires.whole c.in-Ok-commit.ensures.causes in
     let small = number_small m s step (nothing_refuses m s book.steps book.limit step none).1 in
-    omega (arith, kept.steps, small, ap (λ (b : BookView _ _). b.state.steps) c.in-Ok-commit.ensures.ok.book)
+    omega (arith, kept.steps, small, ap (λ (b : BookView _ _). b.state.steps) c.in-Ok-commit.ensures.book)
 
 pub returns-in-Err-commit-clause-ends : goal.returns-in-Err-commit-clause-ends
 returns-in-Err-commit-clause-ends g c = λ first told.

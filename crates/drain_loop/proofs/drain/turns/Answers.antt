@@ -1,5 +1,4 @@
-use Rattle.std.proofs.Common.{ℕ, List, refl, sym, ap, subst, ◌∙◌, arith}
-use Rattle.journal_book.specs.Book.{BookView}
+use Rattle.std.proofs.Common.{ℕ, List, refl, sym, subst, ◌∙◌, arith}
 use Rattle.drain_turns.specs.Drained.{Ends}
 use Rattle.drain_turns.specs.Works.{AreReady}
 use Rattle.drain_loop.specs.Calls.{outside, place_of}
@@ -34,7 +33,7 @@ turns-preserved g c =
           c.one_less-left.ensures;
       whole = c.in-Ok.ensures.whole;
       bundle = c.turn.ensures.bundle ∙ inv.bundle;
-      limit = ap (λ (b : BookView _ _). b.limit) one.goes_on.book ∙ inv.limit;
+      limit = one.goes_on.same.1 ∙ inv.limit;
       looked = looked_further c.args.feeds.now c.turns.feeds c.turn.new.feeds (g.H.Shelf.shelf c.args.shelf.now) (g.H.Shelf.shelf c.turns.shelf) (g.H.Shelf.shelf c.turn.new.shelf) inv.looked c.turn.ensures.looked
           (λ name differ. same_files c.args.feeds.now c.turns.feeds name inv.looked.same differ);
       works = subst (λ (b : List ℕ). AreReady g.R.Rules.task_of b c.turn.new.works.items) inv.bundle c.turn.ensures.works;
@@ -49,7 +48,7 @@ returns-in-Err-clause-drained g c = λ first told.
     let o = outside m first (g.C.Clock.told c.args.clock.now) c.args.book.now.limit in
     run_ends o c.args.left c.turns.left c.args.book.now c.turns.book c.turn.new.book c.in-Err.end (inv.run first told)
     (subst (λ (n : ℕ). Ends (outside m first (g.C.Clock.told c.args.clock.now) n) (place_of c.turns.book c.turns.left) c.in-Err.end) inv.limit (c.in-Err.ensures.ends first (told ∙ sym inv.looked.shelf.told)))
-    c.in-Err.ensures.still
+    c.in-Err.ensures.still c.in-Err.ensures.same
 
 pub returns-in-Err-clause-looked : goal.returns-in-Err-clause-looked
 returns-in-Err-clause-looked g c =

@@ -3,10 +3,16 @@ use Rattle.drain_turns.specs.Turn.{IsCollectorsTurn, going}
 use Rattle.drain_turns.proofs.Moving.{all_sound}
 use Rattle.drain_turns.proofs.Nobody.{nobody_only_if_halted}
 use Rattle.drain_turns.proofs.Turning.{never_acts}
+use Rattle.turn_order.proofs.Actors.{first_actors_may_act}
 use Rattle.turn_order.specs.Turn.{collectors}
 use Rattle.drain_loop.specs.Calls.{outside}
 use Rattle.drain_loop.proofs.Moving.{asked_turn, failed_ends, failed_one, found_file, found_next, halted_ends}
 use Rattle.drain_loop.proofs.next.next_move.Goals as goal
+
+pub actor_move-requires-clause-actor : goal.actor_move-requires-clause-actor
+actor_move-requires-clause-actor g c =
+    let m = g.R.Rules.meaning in let s = c.args.core.now.state in
+    first_actors_may_act m s c.in-Some.actor (all_sound m s g.met.R.Rules.bots_are_sound) (sym c.in-Some.ensures)
 
 pub found_move-requires : goal.found_move-requires
 found_move-requires g c =

@@ -1,8 +1,12 @@
-use Rattle.std.proofs.Common.{◌≡◌, [], ◌∷◌, List, ℕ, length, refl, sym, ◌∙◌, ap, subst, arith}
+use Rattle.std.proofs.Common.{◌≡◌, inl, inr, ⊎_elim, [], ◌∷◌, List, ℕ, length, refl, sym, ◌∙◌, ap, subst, arith}
+use Rattle.edge_traits.proofs.Moments.{run_on, widened}
 use Rattle.disk_journal.specs.Journal.{IsAtRest}
 use Rattle.step_code.specs.declared.base.Base.{Base}
 use Rattle.step_code.specs.Code.{code_of_base, first_format}
-use Rattle.journal_book.proofs.Beginning.{is_nothing}
+use Rattle.journal_book.specs.Alone.{IsBesideNew}
+use Rattle.journal_book.proofs.Alone.{alone_narrower, alone_on, reads_alone}
+use Rattle.journal_book.proofs.Beginning.{first_holds, is_nothing, none_there, root_read}
+use Rattle.journal_book.proofs.Recovering.{call_reads}
 use Rattle.journal_book.proofs.create.make_store.Goals as goal
 
 pub returns-in-Err-clause-fault : goal.returns-in-Err-clause-fault
@@ -48,3 +52,59 @@ returns-in-Err-make_files-clause-left_alone g c = λ files told some. absurd (om
 
 pub returns-in-Err-make_files-clause-refused_empty : goal.returns-in-Err-make_files-clause-refused_empty
 returns-in-Err-make_files-clause-refused_empty g c = λ files told refused. is_nothing _ c.in_ok-have.have (c.in_ok-have.ensures.len files told) c.if-have-ne0.false
+
+pub returns-in_err-have-clause-others : goal.returns-in_err-have-clause-others
+returns-in_err-have-clause-others g c = λ files told. reads_alone (IsBesideNew files) (g.met.D.Disk.only_now c.args.disk.now) (call_reads c.len.ensures.told c.len.ensures.crash c.len.ensures.time c.len.ensures.count)
+
+pub returns-in_err-have-clause-generation_first : goal.returns-in_err-have-clause-generation_first
+returns-in_err-have-clause-generation_first g c = λ files told. root_read (g.met.D.Disk.only_now c.args.disk.now) (call_reads c.len.ensures.told c.len.ensures.crash c.len.ensures.time c.len.ensures.count)
+
+pub returns-then-have-ne0-clause-others : goal.returns-then-have-ne0-clause-others
+returns-then-have-ne0-clause-others g c = λ files told. reads_alone (IsBesideNew files) (g.met.D.Disk.only_now c.args.disk.now) (call_reads c.len.ensures.told c.len.ensures.crash c.len.ensures.time c.len.ensures.count)
+
+pub returns-then-have-ne0-clause-generation_first : goal.returns-then-have-ne0-clause-generation_first
+returns-then-have-ne0-clause-generation_first g c = λ files told. root_read (g.met.D.Disk.only_now c.args.disk.now) (call_reads c.len.ensures.told c.len.ensures.crash c.len.ensures.time c.len.ensures.count)
+
+pub returns-in-Err-clause-others : goal.returns-in-Err-clause-others
+returns-in-Err-clause-others g c = λ files told. reads_alone (IsBesideNew files) (g.met.D.Disk.only_now c.args.disk.now) (call_reads c.len.ensures.told c.len.ensures.crash c.len.ensures.time c.len.ensures.count)
+
+pub returns-in-Err-clause-generation_first : goal.returns-in-Err-clause-generation_first
+returns-in-Err-clause-generation_first g c = λ files told. root_read (g.met.D.Disk.only_now c.args.disk.now) (call_reads c.len.ensures.told c.len.ensures.crash c.len.ensures.time c.len.ensures.count)
+
+pub returns-in-Err-begin-clause-others : goal.returns-in-Err-begin-clause-others
+returns-in-Err-begin-clause-others g c = λ files told. reads_alone (IsBesideNew files) (g.met.D.Disk.only_now c.args.disk.now) (call_reads c.len.ensures.told c.len.ensures.crash c.len.ensures.time c.len.ensures.count)
+
+pub returns-in-Err-begin-clause-generation_first : goal.returns-in-Err-begin-clause-generation_first
+returns-in-Err-begin-clause-generation_first g c = λ files told. root_read (g.met.D.Disk.only_now c.args.disk.now) (call_reads c.len.ensures.told c.len.ensures.crash c.len.ensures.time c.len.ensures.count)
+
+pub returns-in-Ok-make_files-clause-others : goal.returns-in-Ok-make_files-clause-others
+returns-in-Ok-make_files-clause-others g c = λ files told.
+    alone_on (reads_alone (IsBesideNew files) (g.met.D.Disk.only_now c.args.disk.now) (call_reads c.len.ensures.told c.len.ensures.crash c.len.ensures.time c.len.ensures.count))
+    (alone_narrower (λ file beside. none_there files (is_nothing _ c.in_ok-have.have (c.in_ok-have.ensures.len files told) c.if-have-ne0.false) file beside) c.make_files.ensures.others)
+
+pub returns-in-Ok-make_files-clause-generation_first : goal.returns-in-Ok-make_files-clause-generation_first
+returns-in-Ok-make_files-clause-generation_first g c = λ files told.
+    let code : c.bytes.result.now ≡ code_of_base first_format c.in-Ok.first = c.bytes.ensures ∙ c.in-Ok-begin.ensures.code in
+    run_on (root_read (g.met.D.Disk.only_now c.args.disk.now) (call_reads c.len.ensures.told c.len.ensures.crash c.len.ensures.time c.len.ensures.count))
+    (widened
+    (λ image found.
+    ⊎_elim (λ left. inl (c.len.ensures.crash 0 tt (image 0) left))
+    (λ has. inr (first_holds g.R.Rules.meaning c.in-Ok.ensures.base.0 c.args.bundle.now c.in-Ok.first c.bytes.result.now image c.in-Ok.ensures.base.1 c.in-Ok.ensures.base.2 c.in-Ok-begin.ensures.sound c.in-Ok-begin.ensures.writable code has))
+    found)
+    (c.make_files.ensures.generation_first files (c.len.ensures.told ∙ told)))
+
+pub returns-in-Err-make_files-clause-others : goal.returns-in-Err-make_files-clause-others
+returns-in-Err-make_files-clause-others g c = λ files told.
+    alone_on (reads_alone (IsBesideNew files) (g.met.D.Disk.only_now c.args.disk.now) (call_reads c.len.ensures.told c.len.ensures.crash c.len.ensures.time c.len.ensures.count))
+    (alone_narrower (λ file beside. none_there files (is_nothing _ c.in_ok-have.have (c.in_ok-have.ensures.len files told) c.if-have-ne0.false) file beside) c.make_files.ensures.others)
+
+pub returns-in-Err-make_files-clause-generation_first : goal.returns-in-Err-make_files-clause-generation_first
+returns-in-Err-make_files-clause-generation_first g c = λ files told.
+    let code : c.bytes.result.now ≡ code_of_base first_format c.in-Ok.first = c.bytes.ensures ∙ c.in-Ok-begin.ensures.code in
+    run_on (root_read (g.met.D.Disk.only_now c.args.disk.now) (call_reads c.len.ensures.told c.len.ensures.crash c.len.ensures.time c.len.ensures.count))
+    (widened
+    (λ image found.
+    ⊎_elim (λ left. inl (c.len.ensures.crash 0 tt (image 0) left))
+    (λ has. inr (first_holds g.R.Rules.meaning c.in-Ok.ensures.base.0 c.args.bundle.now c.in-Ok.first c.bytes.result.now image c.in-Ok.ensures.base.1 c.in-Ok.ensures.base.2 c.in-Ok-begin.ensures.sound c.in-Ok-begin.ensures.writable code has))
+    found)
+    (c.make_files.ensures.generation_first files (c.len.ensures.told ∙ told)))

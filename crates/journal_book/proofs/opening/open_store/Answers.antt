@@ -7,6 +7,8 @@ use Rattle.store_image.specs.Files.{generation_file}
 use Rattle.store_image.specs.Opens.{AreLong}
 use Rattle.journal_book.specs.declared.book_fault.BookFault.{BookFault}
 use Rattle.journal_book.specs.Opening.{in_file, IsFileFault, IsReopenFault, IsShortFault}
+use Rattle.journal_book.specs.Alone.{IsBeside}
+use Rattle.journal_book.proofs.Alone.{alone_narrower, alone_on, reads_alone, recovers_alone}
 use Rattle.journal_book.proofs.Opened.{generation_fault, journal_short, opens_with, outs_fault, root_apart, root_fault, short_with, some_bytes, store_rests}
 use Rattle.journal_book.proofs.Recovering.{call_reads, keeps_on, reads_keep}
 use Rattle.journal_book.proofs.opening.open_store.Goals as goal
@@ -99,3 +101,44 @@ pub returns-in-Err-check_outs-clause-histories : goal.returns-in-Err-check_outs-
 returns-in-Err-check_outs-clause-histories g c =
     keeps_on (reads_keep (g.met.D.Disk.only_now c.args.disk.now) (call_reads c.len.ensures.told c.len.ensures.crash c.len.ensures.time c.len.ensures.count))
     (keeps_on c.open_root.ensures.recovers.histories (keeps_on c.open_generation.ensures.recovers.histories (reads_keep (g.met.D.Disk.only_now c.open_generation.new.disk) c.check_outs.ensures.reads)))
+
+pub returns-in_err-have-clause-others : goal.returns-in_err-have-clause-others
+returns-in_err-have-clause-others g c = λ files told. reads_alone (IsBeside files) (g.met.D.Disk.only_now c.args.disk.now) (call_reads c.len.ensures.told c.len.ensures.crash c.len.ensures.time c.len.ensures.count)
+
+pub returns-then-have-eq0-clause-others : goal.returns-then-have-eq0-clause-others
+returns-then-have-eq0-clause-others g c = λ files told. reads_alone (IsBeside files) (g.met.D.Disk.only_now c.args.disk.now) (call_reads c.len.ensures.told c.len.ensures.crash c.len.ensures.time c.len.ensures.count)
+
+pub returns-in-Err-clause-others : goal.returns-in-Err-clause-others
+returns-in-Err-clause-others g c = λ files told.
+    let told_len = c.len.ensures.told ∙ told in
+    alone_on (reads_alone (IsBeside files) (g.met.D.Disk.only_now c.args.disk.now) (call_reads c.len.ensures.told c.len.ensures.crash c.len.ensures.time c.len.ensures.count))
+    (alone_narrower (λ file beside. beside.0) (recovers_alone 0 c.open_root.ensures.recovers files told_len))
+
+pub returns-in-Err-open_generation-clause-others : goal.returns-in-Err-open_generation-clause-others
+returns-in-Err-open_generation-clause-others g c = λ files told.
+    let told_len = c.len.ensures.told ∙ told in
+    let gen = c.in-Ok.found.1 in
+    let mid = c.open_root.ensures.recovers.elsewhere files told_len in
+    alone_on (reads_alone (IsBeside files) (g.met.D.Disk.only_now c.args.disk.now) (call_reads c.len.ensures.told c.len.ensures.crash c.len.ensures.time c.len.ensures.count))
+    (alone_on (alone_narrower (λ file beside. beside.0) (recovers_alone 0 c.open_root.ensures.recovers files told_len))
+    (alone_narrower (λ file beside. beside.1 gen (c.in-Ok.ensures.named files told_len)) (recovers_alone (generation_file gen) c.open_generation.ensures.recovers mid.0 mid.1)))
+
+pub returns-in-Ok-check_outs-clause-others : goal.returns-in-Ok-check_outs-clause-others
+returns-in-Ok-check_outs-clause-others g c = λ files told.
+    let told_len = c.len.ensures.told ∙ told in
+    let gen = c.in-Ok.found.1 in
+    let mid = c.open_root.ensures.recovers.elsewhere files told_len in
+    alone_on (reads_alone (IsBeside files) (g.met.D.Disk.only_now c.args.disk.now) (call_reads c.len.ensures.told c.len.ensures.crash c.len.ensures.time c.len.ensures.count))
+    (alone_on (alone_narrower (λ file beside. beside.0) (recovers_alone 0 c.open_root.ensures.recovers files told_len))
+    (alone_on (alone_narrower (λ file beside. beside.1 gen (c.in-Ok.ensures.named files told_len)) (recovers_alone (generation_file gen) c.open_generation.ensures.recovers mid.0 mid.1))
+    (reads_alone (IsBeside files) (g.met.D.Disk.only_now c.open_generation.new.disk) c.check_outs.ensures.reads)))
+
+pub returns-in-Err-check_outs-clause-others : goal.returns-in-Err-check_outs-clause-others
+returns-in-Err-check_outs-clause-others g c = λ files told.
+    let told_len = c.len.ensures.told ∙ told in
+    let gen = c.in-Ok.found.1 in
+    let mid = c.open_root.ensures.recovers.elsewhere files told_len in
+    alone_on (reads_alone (IsBeside files) (g.met.D.Disk.only_now c.args.disk.now) (call_reads c.len.ensures.told c.len.ensures.crash c.len.ensures.time c.len.ensures.count))
+    (alone_on (alone_narrower (λ file beside. beside.0) (recovers_alone 0 c.open_root.ensures.recovers files told_len))
+    (alone_on (alone_narrower (λ file beside. beside.1 gen (c.in-Ok.ensures.named files told_len)) (recovers_alone (generation_file gen) c.open_generation.ensures.recovers mid.0 mid.1))
+    (reads_alone (IsBeside files) (g.met.D.Disk.only_now c.open_generation.new.disk) c.check_outs.ensures.reads)))

@@ -1,8 +1,12 @@
-use Rattle.std.proofs.Common.{◌+◌, ◌==◌, refl, arith}
+use Rattle.std.proofs.Common.{◌≡◌, ◌+◌, ◌==◌, refl, sym, ◌∙◌, subst, arith}
 use Rattle.std.proofs.lemmas.Option.{slice_get_within}
 use Rattle.edge_traits.proofs.Counts.{rose_later}
+use Rattle.edge_traits.specs.Disk.{Image}
 use Rattle.store_image.specs.Files.{out_file}
+use Rattle.store_image.specs.Opens.{AreLong}
 use Rattle.journal_book.proofs.Completing.{done_more, fault_of_all, one_output, output_at, over_all}
+use Rattle.journal_book.proofs.Flushing.{told_is_one}
+use Rattle.journal_book.proofs.Long.{long_so_far}
 use Rattle.journal_book.proofs.outputs.complete_all.Goals as goal
 
 pub returns-in-Err-clause-fault : goal.returns-in-Err-clause-fault
@@ -30,6 +34,14 @@ pub returns-in-Err-clause-failed : goal.returns-in-Err-clause-failed
 returns-in-Err-clause-failed g c = λ is.
     let found = output_at c.args.core.now.state.outs c.outputs.k (omega (arith, c.outputs-test.true, c.outputs.invariant.end)) in
     rose_later _ _ _ c.outputs.invariant.run.count (c.complete_one.ensures.run found.0 found.1).count (c.in-Err.ensures.failed is)
+
+pub returns-in-Err-clause-long : goal.returns-in-Err-clause-long
+returns-in-Err-clause-long g c = λ files after told now long apart.
+    let outs = c.args.core.now.state.outs in
+    let before = c.outputs.invariant.run.elsewhere files told in
+    let same : after ≡ before.0 = told_is_one (g.D.Disk.disk c.outputs.disk).told after before.0 (sym (c.in-Err.ensures.still apart) ∙ now) before.1 in
+    subst (λ (i : Image). AreLong 0 outs i) (sym same)
+    (long_so_far (g.D.Disk.disk c.outputs.disk).may_leave outs c.outputs.k files before.0 (λ j out below is. c.outputs.invariant.done files before.0 told before.1 j out below is) before.2 long)
 
 pub outputs-preserved : goal.outputs-preserved
 outputs-preserved g c =

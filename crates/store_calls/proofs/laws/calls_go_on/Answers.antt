@@ -2,4 +2,4 @@ use Rattle.store_calls.proofs.Called.{called}
 use Rattle.store_calls.proofs.laws.calls_go_on.Goals as goal
 
 pub returns : goal.returns
-returns g c first steps more made old opened later is run = called first steps more made old opened later is run
+returns g c begun steps more made old opened later is run = called begun steps more made old opened later is run c.each_message_stands_in_one_place.ensures

@@ -3,7 +3,9 @@ use Rattle.step_code.specs.declared.base.Base.{Base}
 use Rattle.step_code.specs.History.{first}
 use Rattle.state_texts.specs.Texts.{summary}
 use Rattle.journal_book.specs.Book.{BookView}
-use Rattle.store_commands.specs.Begun.{IsBegun, IsFirstOf, IsMade}
+use Rattle.store_calls.specs.Calls.{IsFirstOf}
+use Rattle.journal_book.specs.Alone.{IsBesideNew, LeavesAlone}
+use Rattle.store_commands.specs.Begun.{IsBegun, IsMade}
 use Rattle.store_commands.specs.Ends.{IsPrinted}
 use Rattle.store_commands.specs.declared.end.StoreEnd.{StoreEnd}
 use Rattle.store_commands.proofs.Begun.{begun_by, made_whole, no_store, not_made, not_new, FirstsAreSound}
@@ -37,3 +39,6 @@ returns-in-Err-clause-made g c = λ files told.
 
 pub returns-in-Err-clause-left_alone : goal.returns-in-Err-clause-left_alone
 returns-in-Err-clause-left_alone g c = λ first steps more was. record { any_moment = c.in-Err.ensures.any_moment_err first steps more was; now = c.in-Err.ensures.still_err first steps more was }
+
+pub returns-in-Ok-clause-others : goal.returns-in-Ok-clause-others
+returns-in-Ok-clause-others g c = λ files told. subst (λ d. LeavesAlone (g.D.Disk.disk c.args.disk) (g.D.Disk.disk d) (IsBesideNew files)) (sym c.into_disk.ensures) (c.in-Ok.ensures.others files told)

@@ -1,5 +1,6 @@
 use Rattle.std.proofs.Common.{[], refl, sym, subst}
 use Rattle.step_code.specs.History.{first}
+use Rattle.journal_book.specs.Alone.{IsBesideNew, LeavesAlone}
 use Rattle.store_commands.specs.Begun.{IsBegun, IsNewStore}
 use Rattle.store_commands.specs.declared.end.StoreEnd.{StoreEnd}
 use Rattle.store_commands.proofs.Begun.{begun_by, never_sink, no_store, not_new, FirstsAreSound}
@@ -30,3 +31,6 @@ returns-in-Err-clause-left_alone g c = λ first steps more was. record { any_mom
 
 pub returns-in-Err-clause-unprinted : goal.returns-in-Err-clause-unprinted
 returns-in-Err-clause-unprinted g c = never_sink c.in-Err.fault c.end_of.result c.end_of.ensures
+
+pub returns-in-Ok-clause-others : goal.returns-in-Ok-clause-others
+returns-in-Ok-clause-others g c = λ files told. subst (λ d. LeavesAlone (g.D.Disk.disk c.args.disk) (g.D.Disk.disk d) (IsBesideNew files)) (sym c.into_disk.ensures) (c.in-Ok.ensures.others files told)

@@ -1,11 +1,12 @@
 use Rattle.std.proofs.Common.{◌≡◌, [], refl, sym, ap, subst, ◌∙◌}
 use Rattle.edge_traits.specs.Disk.{Image}
 use Rattle.step_code.specs.declared.base.Base.{Base}
+use Rattle.journal_book.specs.Alone.{LeavesAlone}
 use Rattle.journal_book.specs.Book.{BookView}
 use Rattle.journal_book.specs.Opening.{StandsNow}
 use Rattle.journal_book.specs.Outputs.{AreWritten}
-use Rattle.store_calls.specs.Calls.{IsOpened, StandsOn}
-use Rattle.store_calls.proofs.Called.{opened_so, still_stands}
+use Rattle.store_calls.specs.Calls.{IsEarlierIn, IsOpened, StandsOn}
+use Rattle.store_calls.proofs.Called.{left_closed, left_open, opened_so, still_stands}
 use Rattle.store_commands.specs.Completed.{said, IsCompleted}
 use Rattle.store_commands.specs.Ends.{IsOpenIn, IsPrinted}
 use Rattle.store_commands.specs.declared.end.StoreEnd.{StoreEnd}
@@ -23,7 +24,7 @@ returns-in-Ok-complete_outputs-clause-completed g c = λ files told.
       opens = c.in-Ok.ensures.opens files told;
       state = ap (λ (b : BookView _ _). b.state) c.in-Ok.ensures.book;
     } in
-    let same : later.state ≡ opened.state = ap (λ (b : BookView _ _). b.state) c.complete_outputs.ensures.goes_on.book in
+    let same : later.state ≡ opened.state = ap (λ (b : BookView _ _). b.state) c.complete_outputs.ensures.same in
     let core : c.state.result.now.state ≡ opened.state = (λ i. (c.state.ensures.core i).state) ∙ same in
     completed_open m files c.args.is_said opened.state c.say-end.result (g.S.Sink.sink c.args.out.now) (g.S.Sink.sink c.say-end.new.out) open_in
     (subst (λ (b : Base). IsPrinted (said c.args.is_said b) c.say-end.result (g.S.Sink.sink c.args.out.now) (g.S.Sink.sink c.say-end.new.out)) core c.say-end.ensures.printed)
@@ -78,3 +79,16 @@ returns-in-Err-complete_outputs-clause-written g c = λ first history now none.
 pub returns-in-Err-clause-written : goal.returns-in-Err-clause-written
 returns-in-Err-clause-written g c = λ first history now none.
     unwritten_end c.in-Err.fault c.end_of-in-Err.result (AreWritten g.R.Rules.meaning first history (g.D.Disk.disk c.in-Err.disk)) c.end_of-in-Err.ensures
+
+pub returns-in-Ok-complete_outputs-clause-others : goal.returns-in-Ok-complete_outputs-clause-others
+returns-in-Ok-complete_outputs-clause-others g c = λ files told.
+    subst (λ d. LeavesAlone (g.D.Disk.disk c.args.disk) (g.D.Disk.disk d) (IsEarlierIn files)) (sym c.into_disk.ensures)
+    (left_open c.args.disk c.in-Ok.book c.complete_outputs.new.book [] files told (c.in-Ok.ensures.opens files told).stored.named (c.in-Ok.ensures.others files told) c.complete_outputs.ensures.goes_on)
+
+pub returns-in-Err-complete_outputs-clause-others : goal.returns-in-Err-complete_outputs-clause-others
+returns-in-Err-complete_outputs-clause-others g c = λ files told.
+    subst (λ d. LeavesAlone (g.D.Disk.disk c.args.disk) (g.D.Disk.disk d) (IsEarlierIn files)) (sym c.into_disk-in-Err-complete_outputs.ensures)
+    (left_open c.args.disk c.in-Ok.book c.complete_outputs.new.book [] files told (c.in-Ok.ensures.opens files told).stored.named (c.in-Ok.ensures.others files told) c.complete_outputs.ensures.goes_on)
+
+pub returns-in-Err-clause-others : goal.returns-in-Err-clause-others
+returns-in-Err-clause-others g c = λ files told. left_closed files (c.in-Err.ensures.others_err files told)

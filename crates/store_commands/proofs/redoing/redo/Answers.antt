@@ -1,13 +1,14 @@
-use Rattle.std.proofs.Common.{◌≡◌, ◌-◌, ℕ, List, [], length, refl, sym, ap, subst, ◌∙◌}
+use Rattle.std.proofs.Common.{◌≡◌, ◌+◌, ◌-◌, ℕ, List, [], length, refl, sym, ap, subst, ◌∙◌}
 use Rattle.step_code.specs.declared.base.Base.{Base}
 use Rattle.step_code.specs.declared.step.Step.{Step}
 use Rattle.step_code.specs.History.{replay}
+use Rattle.journal_book.specs.Alone.{LeavesAlone}
 use Rattle.journal_book.specs.Book.{BookView}
 use Rattle.journal_book.specs.Opening.{StandsNow}
 use Rattle.journal_book.specs.Outputs.{AreWritten}
 use Rattle.journal_book.specs.Staged.{step_cause}
-use Rattle.store_calls.specs.Calls.{IsOpened, StandsOn}
-use Rattle.store_calls.proofs.Called.{opened_so}
+use Rattle.store_calls.specs.Calls.{IsEarlierIn, IsOpened, StandsOn}
+use Rattle.store_calls.proofs.Called.{left_closed, left_open, opened_so}
 use Rattle.store_commands.specs.Ends.{AreWrittenAt}
 use Rattle.store_commands.specs.Redone.{redo_step, IsAsked, IsRedoCall, IsRedone, RedoesStep}
 use Rattle.store_commands.specs.declared.end.StoreEnd.{StoreEnd}
@@ -42,14 +43,16 @@ returns-in-Ok-clause-stands g c = λ first steps more was.
     let later = c.redo_dump-end.new.book in
     let step = redo_step opened.state c.args.dump c.args.now in
     let run = c.redo_dump-end.ensures.run in
+    let accounts = c.each_message_stands_in_one_place.ensures in
     let is : IsOpened g.D.Disk.disk m first steps more c.args.disk opened =
     opened_so first steps more c.args.disk c.args.rules _ opened c.in-Ok.ensures.book (c.in-Ok.ensures.kept first steps more was) (c.in-Ok.ensures.any_moment first steps more was) in
     let e = c.redo_dump-end.result in
     let call = call_open step run.made e _ _ (no_damage opened.state _ (g.D.Disk.disk opened.disk).told c.args.dump e c.redo_dump-end.ensures.end (c.in-Ok.ensures.long was.files was.tells)) run.made_is
-    (stands first steps more c.args.disk opened later is c.args.dump c.args.now e run) (λ one. (later.kept - opened.kept, makes first steps more c.args.disk opened later is c.args.dump c.args.now e run one))
-    (λ other one. makes_durably first steps more c.args.disk opened later is c.args.dump c.args.now e run (c.redo_dump-end.ensures.durable other) one) in
+    (stands accounts first steps more c.args.disk opened later is c.args.dump c.args.now e run)
+    (λ one. ((length run.run.archived + later.kept) - opened.kept, makes accounts first steps more c.args.disk opened later is c.args.dump c.args.now e run one))
+    (λ other one. makes_durably accounts first steps more c.args.disk opened later is c.args.dump c.args.now e run (c.redo_dump-end.ensures.durable other) one) in
     subst (λ d. IsRedoCall c.report-end.result (StandsOn m first steps more (g.D.Disk.disk c.args.disk) (g.D.Disk.disk d))
-    (RedoesStep m first steps more (g.D.Disk.disk c.args.disk) (g.D.Disk.disk d) c.args.dump c.args.now))
+    (RedoesStep g.D.Disk.disk m first steps more (g.D.Disk.disk c.args.disk) (g.D.Disk.disk d) c.args.dump c.args.now))
     (sym c.into_disk.ensures)
     (call_told e c.report-end.result _ _ _ _ _ c.report-end.ensures.printed c.report-end.ensures.kept call)
 
@@ -65,7 +68,7 @@ returns-in-Err-clause-stands g c = λ first steps more was.
     let m = g.R.Rules.meaning in
     let disk = c.in-Err.disk in
     subst (λ (e : StoreEnd). IsRedoCall e (StandsOn m first steps more (g.D.Disk.disk c.args.disk) (g.D.Disk.disk disk))
-    (RedoesStep m first steps more (g.D.Disk.disk c.args.disk) (g.D.Disk.disk disk) c.args.dump c.args.now))
+    (RedoesStep g.D.Disk.disk m first steps more (g.D.Disk.disk c.args.disk) (g.D.Disk.disk disk) c.args.dump c.args.now))
     (sym c.end_of.ensures)
     (call_closed c.in-Err.fault _ _ (record { any_moment = c.in-Err.ensures.any_moment_err first steps more was; now = c.in-Err.ensures.still_err first steps more was }))
 
@@ -80,3 +83,11 @@ returns-in-Ok-clause-written g c = λ first history now none.
 pub returns-in-Err-clause-written : goal.returns-in-Err-clause-written
 returns-in-Err-clause-written g c = λ first history now none.
     unwritten_end c.in-Err.fault c.end_of.result (AreWritten g.R.Rules.meaning first history (g.D.Disk.disk c.in-Err.disk)) c.end_of.ensures
+
+pub returns-in-Ok-clause-others : goal.returns-in-Ok-clause-others
+returns-in-Ok-clause-others g c = λ files told.
+    subst (λ d. LeavesAlone (g.D.Disk.disk c.args.disk) (g.D.Disk.disk d) (IsEarlierIn files)) (sym c.into_disk.ensures)
+    (left_open c.args.disk c.in-Ok.book c.redo_dump-end.new.book c.redo_dump-end.ensures.run.made files told (c.in-Ok.ensures.opens files told).stored.named (c.in-Ok.ensures.others files told) c.redo_dump-end.ensures.run.run)
+
+pub returns-in-Err-clause-others : goal.returns-in-Err-clause-others
+returns-in-Err-clause-others g c = λ files told. left_closed files (c.in-Err.ensures.others_err files told)

@@ -1,8 +1,8 @@
 use Rattle.std.proofs.Common.{◌≡◌, inl, inr, List, [], ◌∷◌, refl, sym, ap, subst, ◌∙◌}
 use Rattle.journal_book.specs.Book.{BookView}
 use Rattle.journal_book.specs.Staged.{step_cause}
-use Rattle.book_runs.specs.GoesOn.{GoesOn}
-use Rattle.book_runs.proofs.Going.{goes_further, makes_one}
+use Rattle.book_runs.specs.GoesOn.{GoesOn, IsSameBook}
+use Rattle.book_runs.proofs.Going.{goes_further, longer_none, longer_on, longer_one, makes_one, stays_small}
 use Rattle.store_commands.specs.Redone.{redo_step, AreMadeAt, IsRedoEnd}
 use Rattle.store_commands.specs.declared.end.StoreEnd.{StoreEnd}
 use Rattle.store_commands.specs.declared.end.StoreEnd.TheVariants as end
@@ -27,7 +27,9 @@ returns-in-Ok-clause-run g c =
     let step = redo_step old.state c.args.dump c.args.now in
     record {
       made = step ∷ [];
-      run = goes_further old mid c.complete.new.book (step ∷ []) [] (makes_one old mid step c.in-Ok.ensures.ok c.in-Ok.ensures.may (g.met.D.Disk.only_now old.disk) c.stage.ensures.kept) c.complete.ensures.goes_on;
+      run = goes_further old mid c.complete.new.book (step ∷ []) [] (makes_one old mid step c.in-Ok.ensures.ok c.in-Ok.ensures.may
+          (stays_small g.R.Rules.meaning old.state old.steps old.limit step old.broken c.in-Ok.ensures.causes) (g.met.D.Disk.only_now old.disk) c.stage.ensures.kept) c.complete.ensures.goes_on;
+      book = longer_on g.R.Rules.meaning old mid c.complete.new.book (step ∷ []) [] (longer_one g.R.Rules.meaning old mid step c.in-Ok.ensures.ok) (longer_none g.R.Rules.meaning mid c.complete.new.book c.complete.ensures.same);
       made_is = made_so mid.state.outs (g.D.Disk.disk mid.disk).told step (step ∷ []) end.Done c.complete.result c.complete.ensures.end refl (inr refl);
     }
 
@@ -51,6 +53,7 @@ returns-in-Err-clause-run g c =
     record {
       made = [];
       run = subst (λ (b : BookView _ _). GoesOn g.D.Disk.disk g.R.Rules.meaning b c.complete-in-Err.new.book []) c.in-Err.ensures.err c.complete-in-Err.ensures.goes_on;
+      book = longer_none g.R.Rules.meaning old c.complete-in-Err.new.book (subst (λ (b : BookView _ _). IsSameBook b c.complete-in-Err.new.book) c.in-Err.ensures.err c.complete-in-Err.ensures.same);
       made_is = made_so mid.state.outs (g.D.Disk.disk mid.disk).told step [] c.refusal_end.result c.complete-in-Err.result c.complete-in-Err.ensures.end
           (subst (λ (e : StoreEnd). AreMadeAt e step []) (sym c.refusal_end.ensures) (none_made c.args.dump step c.in-Err.refusal)) (inl refl);
     }

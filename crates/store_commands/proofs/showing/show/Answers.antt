@@ -1,6 +1,7 @@
 use Rattle.std.proofs.Common.{◌≡◌, length, sym, ap, subst, ◌∙◌}
 use Rattle.edge_traits.specs.Disk.{Leaves}
 use Rattle.store_image.specs.Stands.{StandsFor}
+use Rattle.journal_book.specs.Alone.{IsBeside, LeavesAlone}
 use Rattle.journal_book.specs.Book.{BookView}
 use Rattle.journal_book.specs.Opening.{StandsNow}
 use Rattle.store_calls.proofs.Called.{stands_read}
@@ -39,3 +40,6 @@ returns-in-Err-clause-shown g c = λ files told.
 pub returns-in-Err-clause-stands : goal.returns-in-Err-clause-stands
 returns-in-Err-clause-stands g c = λ first steps more was.
     record { any_moment = c.in-Err.ensures.any_moment_err first steps more was; now = c.in-Err.ensures.still_err first steps more was }
+
+pub returns-in-Ok-clause-others : goal.returns-in-Ok-clause-others
+returns-in-Ok-clause-others g c = λ files told. subst (λ d. LeavesAlone (g.D.Disk.disk c.args.disk) (g.D.Disk.disk d) (IsBeside files)) (sym c.into_disk.ensures) (c.in-Ok.ensures.others files told)

@@ -2,10 +2,12 @@ use Rattle.std.proofs.Common.{◌≡◌, ◌++◌, [], ◌∷◌, List, None, ta
 use Rattle.step_code.specs.declared.base.Base.{Base}
 use Rattle.step_code.specs.declared.step.Step.{Step}
 use Rattle.step_code.specs.After.{after}
+use Rattle.store_image.specs.Opens.{AreLong}
 use Rattle.journal_book.specs.Book.{BookView}
 use Rattle.journal_book.specs.Keeping.{AreShort, IsPending, IsReplayed}
 use Rattle.journal_book.specs.Staged.{step_cause}
 use Rattle.journal_book.proofs.Flushing.{stores_still}
+use Rattle.journal_book.proofs.Long.{long_after}
 use Rattle.journal_book.proofs.OneMore.{durable_more, nothing_refuses, pending_more, pending_still, replayed_more, rest_roomier, short_outs}
 use Rattle.journal_book.proofs.book.Book.commit.Goals as goal
 
@@ -39,6 +41,7 @@ invariant_of-self g c =
       λ whole files told.
           rest_roomier i.root i.journal c.enter.new.journal (g.D.Disk.disk i.disk).may_leave i.generation i.base.value (take i.durable i.steps) (take i.durable c.in_ok-steps.steps) files (c.self.invariant.5 whole files told) journal
           (durable_more i.durable i.steps c.in_ok-steps.steps step c.self.invariant.1.within pushed),
+      λ whole files told. subst (λ (s : Base). AreLong 0 s.outs files) (sym state_is) (long_after m i.core.state step files (c.self.invariant.6 whole files told)),
     )
 
 pub invariant_of-self-in-Err : goal.invariant_of-self-in-Err
@@ -54,4 +57,5 @@ invariant_of-self-in-Err g c =
       λ whole. ap (λ j. j.broken) journal ∙ c.self.invariant.4 whole,
       λ whole files told.
           rest_roomier i.root i.journal c.enter.new.journal (g.D.Disk.disk i.disk).may_leave i.generation i.base.value (take i.durable i.steps) (take i.durable i.steps) files (c.self.invariant.5 whole files told) journal refl,
+      λ whole files told. subst (λ (s : Base). AreLong 0 s.outs files) (sym state_is) (c.self.invariant.6 whole files told),
     )

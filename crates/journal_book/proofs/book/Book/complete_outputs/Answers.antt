@@ -4,15 +4,16 @@ use Rattle.std.proofs.lemmas.List.{append-nil}
 use Rattle.std.proofs.lemmas.Bool.{false_from_ne_true}
 use Rattle.edge_traits.specs.Disk.{Leaves}
 use Rattle.step_code.specs.declared.step.Step.{Step}
-use Rattle.store_image.specs.Files.{out_file}
 use Rattle.store_image.specs.Stands.{Stands, StandsFor}
 use Rattle.store_image.specs.Stored.{IsStored}
+use Rattle.journal_book.specs.Alone.{IsNoOut, LeavesAlone}
 use Rattle.journal_book.specs.Book.{BookView, durable_steps, waiting_steps, IsKept}
 use Rattle.journal_book.specs.Outputs.{AreCompleted, IsBringUpFault}
 use Rattle.journal_book.proofs.Completing.{fault_is_one}
+use Rattle.journal_book.proofs.Long.{long_completed, no_damage}
 use Rattle.journal_book.proofs.Flushing.{stored_now}
-use Rattle.journal_book.proofs.Sealing.{are_fronts, begin, kept_later, outs_leave, rest_completed}
-use Rattle.journal_book.proofs.WholeFiles.{before_told, no_damage, whole_files}
+use Rattle.journal_book.proofs.Sealing.{kept_later, outs_leave, rest_completed}
+use Rattle.journal_book.proofs.WholeFiles.{before_told, whole_files}
 use Rattle.journal_book.proofs.book.Book.complete_outputs.Goals as goal
 
 pub invariant_of-self : goal.invariant_of-self
@@ -26,6 +27,7 @@ invariant_of-self g c =
       λ whole after told.
           rest_completed (g.D.Disk.disk i.disk) (g.D.Disk.disk c.complete_all.new.disk) i.core.state.outs i.root i.journal i.generation i.base.value (take i.durable i.steps) after (g.D.Disk.disk i.disk).told
           refl told c.self.invariant.0 c.complete_all.ensures.run (c.self.invariant.5 whole),
+      λ whole after told. long_completed (g.D.Disk.disk i.disk).told (g.D.Disk.disk c.complete_all.new.disk).told _ i.core.state.outs after c.complete_all.ensures.run.untold told c.in-Ok.ensures.completed,
     )
 
 pub invariant_of-self-in-Err : goal.invariant_of-self-in-Err
@@ -40,6 +42,9 @@ invariant_of-self-in-Err g c =
       λ whole after told.
           rest_completed (g.D.Disk.disk i.disk) (g.D.Disk.disk c.complete_all.new.disk) i.core.state.outs i.root i.journal i.generation i.base.value (take i.durable i.steps) after (g.D.Disk.disk i.disk).told
           refl told c.self.invariant.0 c.complete_all.ensures.run (c.self.invariant.5 before),
+      λ whole after told.
+          let was = before_told (g.D.Disk.disk i.disk).told (g.D.Disk.disk c.complete_all.new.disk).told after c.complete_all.ensures.run.untold told in
+          c.in-Err.ensures.long was.0 after was.1 told (c.self.invariant.6 before was.0 was.1) (λ is. absurd (cc (c.is_disk-self-inside.ensures.1 is, whole))),
     )
 
 pub returns-in-Ok-clause-completed : goal.returns-in-Ok-clause-completed
@@ -124,14 +129,20 @@ returns-in-Err-clause-any_moment g c = λ first past kept.
     first past here c.complete_all.new.disk i.core.state i.steps here.tells c.self.invariant.1.behind c.complete_all.ensures.run in
     subst (λ (b : BookView g.row.D.Denot g.row.R.Denot). Leaves (g.D.Disk.disk b.disk) (g.D.Disk.disk c.complete_all.new.disk) (StandsFor g.R.Rules.meaning first (past ++ durable_steps b) (waiting_steps b))) c.self.view_is run
 
-pub returns-in-Err-clause-sound : goal.returns-in-Err-clause-sound
-returns-in-Err-clause-sound g c = λ first past kept.
-    let m = g.R.Rules.meaning in
+pub returns-in-Err-clause-undamaged : goal.returns-in-Err-clause-undamaged
+returns-in-Err-clause-undamaged g c = λ files told.
     let i = c.self.inside in
-    let here = subst (λ (b : BookView g.row.D.Denot g.row.R.Denot). IsKept g.D.Disk.disk m first past b) (sym c.self.view_is) kept in
-    let rest = c.self.invariant.5 (ap (λ b. b.broken) c.self.view_is ∙ c.requires.whole) here.files here.tells in
-    let honest = g.met.D.Disk.honest i.disk here.files here.tells in
-    let begins = begin g.D.Disk.disk m _ i.root i.journal here.files honest c.self.invariant.0 c.self.invariant.1.writable rest first past here in
-    let long = are_fronts g.D.Disk.disk m _ i.root i.journal here.files honest c.self.invariant.0 c.self.invariant.1.writable rest first past here
-    i.core.state i.steps c.self.invariant.1.behind in
-    no_damage i.core.state.outs _ here.files (g.D.Disk.disk i.disk).told c.in-Err.fault here.tells long (λ k. begins k (here.files (out_file k)) (honest (out_file k))) c.in-Err.ensures.fault
+    let here = ap (λ b. (g.D.Disk.disk b.disk).told) c.self.view_is ∙ told in
+    no_damage i.core.state.outs (g.D.Disk.disk i.disk).told files c.in-Err.fault here (c.self.invariant.6 (ap (λ b. b.broken) c.self.view_is ∙ c.requires.whole) files here) c.in-Err.ensures.fault
+
+pub returns-in-Ok-clause-others : goal.returns-in-Ok-clause-others
+returns-in-Ok-clause-others g c =
+    let run = c.complete_all.ensures.run in
+    subst (λ (b : BookView g.row.D.Denot g.row.R.Denot). LeavesAlone (g.D.Disk.disk b.disk) (g.D.Disk.disk c.complete_all.new.disk) IsNoOut) c.self.view_is
+    (record { told = run.elsewhere; now = run.crash_elsewhere; any_moment = run.others_any_moment })
+
+pub returns-in-Err-clause-others : goal.returns-in-Err-clause-others
+returns-in-Err-clause-others g c =
+    let run = c.complete_all.ensures.run in
+    subst (λ (b : BookView g.row.D.Denot g.row.R.Denot). LeavesAlone (g.D.Disk.disk b.disk) (g.D.Disk.disk c.complete_all.new.disk) IsNoOut) c.self.view_is
+    (record { told = run.elsewhere; now = run.crash_elsewhere; any_moment = run.others_any_moment })

@@ -1,6 +1,10 @@
-use Rattle.std.proofs.Common.{[], refl, sym, ap, subst}
+use Rattle.std.proofs.Common.{[], filter, refl, sym, ◌∙◌, ap, subst}
+use Rattle.step_code.specs.declared.base.Base.{Base}
+use Rattle.step_code.specs.Rules.{writes}
+use Rattle.store_image.specs.Opens.{AreLong}
 use Rattle.journal_book.specs.Book.{BookView, IsKept}
 use Rattle.journal_book.proofs.Beginning.{kept_created, new_outs_short, pending_created, replayed_created, rest_created, view_created}
+use Rattle.journal_book.proofs.Long.{new_outs_long}
 use Rattle.journal_book.proofs.Recovering.{some_root}
 use Rattle.journal_book.proofs.book.Book.create.Goals as goal
 
@@ -15,6 +19,7 @@ invariant_of-result g c =
       λ whole. c.in-Ok.ensures.whole,
       λ whole after told.
           rest_created (g.D.Disk.disk c.args.disk) (g.D.Disk.disk c.make_store.new.disk) made.root made.journal made.base.value after (g.D.Disk.disk c.args.disk).told refl told c.in-Ok.ensures.untold c.in-Ok.ensures.at_rest,
+      λ whole files told. subst (λ (b : Base). AreLong 0 b.outs files) (sym (state_is ∙ c.in-Ok.ensures.base.2)) (new_outs_long 0 (filter writes c.in-Ok.ensures.base.0) files),
     )
 
 pub returns-in-Ok-clause-kept : goal.returns-in-Ok-clause-kept
@@ -22,7 +27,7 @@ returns-in-Ok-clause-kept g c = λ files told.
     let made = c.in-Ok.field-0 in
     let after = c.in-Ok.ensures.tells files told in
     let kept = kept_created g.D.Disk.disk g.R.Rules.meaning c.in-Ok.ensures.base.0 _ made.base.value c.args.rules c.args.limit c.make_store.new.disk made.root made.journal after.0 c.in-Ok.ensures.base.2
-    (g.met.D.Disk.honest c.make_store.new.disk after.0 after.1) after.1 c.in-Ok.ensures.files c.in-Ok.ensures.writable (c.in-Ok.ensures.at_rest files after.0 told after.1) in
+    (g.met.D.Disk.honest c.make_store.new.disk after.0 after.1) after.1 c.in-Ok.ensures.files c.in-Ok.ensures.writable c.in-Ok.ensures.sound.short (c.in-Ok.ensures.at_rest files after.0 told after.1) in
     subst (λ (b : BookView g.row.D.Denot g.row.R.Denot). IsKept g.D.Disk.disk g.R.Rules.meaning made.base.value [] b)
     (sym (view_created c.args.rules made.core.rules made.base.value made.core.state c.new.result c.args.limit c.make_store.new.disk (ap (λ core. core.rules) c.in-Ok.ensures.core) (ap (λ core. core.state) c.in-Ok.ensures.core) c.new.ensures))
     kept

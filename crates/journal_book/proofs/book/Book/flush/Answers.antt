@@ -1,11 +1,14 @@
-use Rattle.std.proofs.Common.{◌≡◌, ◌⊎◌, inl, inr, ◌≤◌, ◌++◌, [], ◌∷◌, ℕ, List, Bool, true, false, length, refl, sym, ◌∙◌, ap, subst, arith}
+use Rattle.std.proofs.Common.{◌≡◌, ◌≢◌, ◌⊎◌, inl, inr, ◌≤◌, ◌++◌, [], ◌∷◌, ℕ, List, Bool, true, false, length, refl, sym, ◌∙◌, ap, subst, arith}
 use Rattle.edge_traits.specs.Disk.{Leaves}
 use Rattle.step_code.specs.declared.step.Step.{Step}
 use Rattle.step_code.specs.Code.{code_of_base, first_format}
+use Rattle.store_image.specs.Files.{generation_file}
 use Rattle.store_image.specs.Stands.{StandsFor}
+use Rattle.journal_book.specs.Alone.{LeavesAlone}
 use Rattle.journal_book.specs.Book.{BookView, durable_steps, waiting_steps, IsKept}
-use Rattle.journal_book.specs.Outputs.{LeavesOuts}
-use Rattle.journal_book.proofs.Flushing.{flush_leaves, kept_flushed, outs_left, pending_flushed, record_is, replayed_flushed, rest_flushed, room_left, some_wait, stores_still}
+use Rattle.journal_book.proofs.Alone.{written_alone}
+use Rattle.journal_book.proofs.Flushing.{flush_leaves, kept_flushed, pending_flushed, record_is, replayed_flushed, rest_flushed, room_left, some_wait, stores_still}
+use Rattle.journal_book.proofs.Long.{long_flushed}
 use Rattle.journal_book.proofs.Sealing.{kept_later}
 use Rattle.journal_book.proofs.book.Book.flush.Goals as goal
 
@@ -37,6 +40,8 @@ invariant_of-self g c =
           rest_flushed (g.D.Disk.disk i.disk) (g.D.Disk.disk c.append.new.disk) i.root i.journal c.append.new.self i.generation i.base.value i.steps i.durable c.len-self-inside.result _ after (g.D.Disk.disk i.disk).told
           refl told c.self.invariant.0 record_of c.len-self-inside.ensures c.in-Ok.ensures.untold c.in-Ok.ensures.elsewhere c.in-Ok.ensures.crash_elsewhere (c.self.invariant.5 whole)
           (λ files bodies was rests. c.in-Ok.ensures.at_rest files after bodies was told rests),
+      λ whole after told.
+          long_flushed (g.D.Disk.disk i.disk).told (g.D.Disk.disk c.append.new.disk).told i.generation i.journal.file i.core.state.outs after c.in-Ok.ensures.untold c.in-Ok.ensures.elsewhere c.self.invariant.0.file_is told (c.self.invariant.6 whole),
     )
 
 -- some step waits, in a book that is whole
@@ -107,18 +112,18 @@ returns-in-Err-clause-any_moment g c = λ first past kept.
     _ is first past c.append.new.disk here (c.in-Err.ensures.any_moment here.files _ here.tells rest.journal_rests) in
     subst (λ (b : BookView g.row.D.Denot g.row.R.Denot). Leaves (g.D.Disk.disk b.disk) (g.D.Disk.disk c.append.new.disk) (StandsFor g.R.Rules.meaning first (past ++ durable_steps b) (waiting_steps b))) c.self.view_is run
 
-pub returns-in-Ok-clause-outputs : goal.returns-in-Ok-clause-outputs
-returns-in-Ok-clause-outputs g c = λ files told.
+pub returns-in-Ok-clause-others : goal.returns-in-Ok-clause-others
+returns-in-Ok-clause-others g c = λ files told.
     let i = c.self.inside in
     let here = ap (λ b. (g.D.Disk.disk b.disk).told) c.self.view_is ∙ told in
     let rest = c.self.invariant.5 c.if-self.false files here in
-    subst (λ (b : BookView g.row.D.Denot g.row.R.Denot). Leaves (g.D.Disk.disk b.disk) (g.D.Disk.disk c.append.new.disk) (LeavesOuts (g.D.Disk.disk b.disk))) c.self.view_is
-    (outs_left (g.D.Disk.disk i.disk) (g.D.Disk.disk c.append.new.disk) i.journal.file i.generation _ c.self.invariant.0.file_is (c.in-Ok.ensures.any_moment files _ here rest.journal_rests))
+    subst (λ (b : BookView g.row.D.Denot g.row.R.Denot). LeavesAlone (g.D.Disk.disk b.disk) (g.D.Disk.disk c.append.new.disk) (λ file. file ≢ generation_file b.generation)) c.self.view_is
+    (written_alone (g.D.Disk.disk i.disk) (g.D.Disk.disk c.append.new.disk) i.journal.file i.generation _ c.self.invariant.0.file_is c.in-Ok.ensures.elsewhere c.in-Ok.ensures.crash_elsewhere (c.in-Ok.ensures.any_moment files _ here rest.journal_rests))
 
-pub returns-in-Err-clause-outputs : goal.returns-in-Err-clause-outputs
-returns-in-Err-clause-outputs g c = λ files told.
+pub returns-in-Err-clause-others : goal.returns-in-Err-clause-others
+returns-in-Err-clause-others g c = λ files told.
     let i = c.self.inside in
     let here = ap (λ b. (g.D.Disk.disk b.disk).told) c.self.view_is ∙ told in
     let rest = c.self.invariant.5 c.if-self.false files here in
-    subst (λ (b : BookView g.row.D.Denot g.row.R.Denot). Leaves (g.D.Disk.disk b.disk) (g.D.Disk.disk c.append.new.disk) (LeavesOuts (g.D.Disk.disk b.disk))) c.self.view_is
-    (outs_left (g.D.Disk.disk i.disk) (g.D.Disk.disk c.append.new.disk) i.journal.file i.generation _ c.self.invariant.0.file_is (c.in-Err.ensures.any_moment files _ here rest.journal_rests))
+    subst (λ (b : BookView g.row.D.Denot g.row.R.Denot). LeavesAlone (g.D.Disk.disk b.disk) (g.D.Disk.disk c.append.new.disk) (λ file. file ≢ generation_file b.generation)) c.self.view_is
+    (written_alone (g.D.Disk.disk i.disk) (g.D.Disk.disk c.append.new.disk) i.journal.file i.generation _ c.self.invariant.0.file_is c.in-Err.ensures.elsewhere c.in-Err.ensures.crash_elsewhere (c.in-Err.ensures.any_moment files _ here rest.journal_rests))

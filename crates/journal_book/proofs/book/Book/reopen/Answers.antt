@@ -1,11 +1,9 @@
-use Rattle.std.proofs.Common.{List, length, min, sum_by, refl, sym, ◌∙◌, ap, subst}
-use Rattle.base_types.specs.Number.{last_u64}
+use Rattle.std.proofs.Common.{refl, sym, ap, subst}
 use Rattle.step_code.specs.declared.base.Base.{Base}
-use Rattle.step_code.specs.declared.step.Step.{Step}
-use Rattle.step_code.specs.Code.{code_of_step}
 use Rattle.journal_book.specs.Book.{BookView}
 use Rattle.journal_book.specs.Keeping.{AreShort}
 use Rattle.journal_book.specs.Opening.{IsReopened}
+use Rattle.journal_book.proofs.Long.{long_reopened}
 use Rattle.journal_book.proofs.Opened.{history_small}
 use Rattle.journal_book.proofs.Reopened.{kept_reopened, pending_reopened, replayed_reopened, rest_reopened, view_reopened}
 use Rattle.journal_book.proofs.book.Book.reopen.Goals as goal
@@ -23,6 +21,7 @@ invariant_of-result g c =
       λ whole after told.
           rest_reopened (g.D.Disk.disk c.args.disk) (g.D.Disk.disk c.open_store.new.disk) _ _ _ _ _ c.len-durable.result after (g.D.Disk.disk c.args.disk).told refl told
           c.open_store.ensures.untold c.in-Ok.ensures.at_rest c.len-durable.ensures,
+      λ whole after told. long_reopened (g.D.Disk.disk c.args.disk).told (g.D.Disk.disk c.open_store.new.disk).told _ after c.open_store.ensures.untold told c.in-Ok.ensures.long,
     )
 
 pub returns-in-Ok-clause-kept : goal.returns-in-Ok-clause-kept
