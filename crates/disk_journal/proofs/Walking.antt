@@ -2,7 +2,8 @@
 use Rattle.std.proofs.Common.{◌≡◌, ◌<◌, ◌+◌, ◌^◌, ⊎_elim, inr, ℕ, List, [], ◌∷◌, ◌++◌, length, take, drop, false, Result, Ok, Err, OnOk, is_err, refl, sym, ◌∙◌, ap, subst, arith, append_assoc, length-append}
 use Rattle.std.specs.Prelude.{Some}
 use Rattle.std.specs.Int.{to_be_bytes, w64}
-use Rattle.std.proofs.lemmas.List.{take-append-drop, length-take-le, drop-drop}
+use Rattle.std.proofs.Math.Seq.{drop-append_seam}
+use Rattle.std.proofs.lemmas.List.{take-append-drop, length-take-le, drop-drop, length-drop}
 use Rattle.edge_traits.specs.Disk.{DiskView, Image}
 use Rattle.disk_journal.specs.GateFile.{Heading, header, header_length, open_record, open_records, IsDamagedAt}
 use Rattle.disk_journal.specs.Journal.{IsFaultOf}
@@ -10,7 +11,7 @@ use Rattle.disk_journal.specs.declared.journal.JournalFault.{JournalFault}
 use Rattle.disk_journal.specs.declared.journal.JournalFault.TheVariants as fault
 use Rattle.disk_journal.proofs.Appends.{have_lengths_push, open_records_push}
 use Rattle.disk_journal.proofs.Resting.{length_open_record}
-use Rattle.disk_journal.specs.Reads.{OnlyReads, IsReadTo, IsCutShort, IsOpen}
+use Rattle.disk_journal.specs.Reads.{OnlyReads, BeginsWithBody, IsReadTo, IsCutShort, IsOpen}
 
 -- one run of reads after another
 pub reads_on : {old mid new : DiskView} → OnlyReads old mid → OnlyReads mid new → OnlyReads old new
@@ -35,7 +36,7 @@ pushed (Ok x) holds ok = holds
 pushed (Err e) holds ok = absurd (cc)
 
 -- one body more
-pub place_more : (at size : ℕ) (bodies more : List (List ℕ)) (body : List ℕ) → at ≡ header_length + length (open_records bodies) → more ≡ bodies ++ body ∷ [] → length body ≡ size
+pub place_more : (at size : ℕ) (bodies more : List (List ℕ)) (body : List ℕ) → at ≡ header_length + length (open_records bodies) → more ≡ bodies ++ body ∷ [] → size ≡ length body
     → at + (9 + size) ≡ header_length + length (open_records more)
 place_more at size bodies more body place pushed is =
     omega (arith, ap (λ bs. length (open_records bs)) pushed, ap length (open_records_push bodies body), length-append (open_records bodies) (open_record body), length_open_record body)
@@ -58,32 +59,41 @@ damage_found (fault.Damaged place) heading bodies at file to found =
 damage_found fault.Disk heading bodies at file to found = tt
 damage_found fault.OutOfMemory heading bodies at file to found = tt
 
--- a whole record more
-pub record_read : (heading : Heading) (bodies : List (List ℕ)) (at size : ℕ) (body file : List ℕ) → IsReadTo heading bodies at (drop at file) file → size < 2 ^ 64
-    → IsOpen (drop at file) size → body ≡ take size (drop (at + 9) file) → IsReadTo heading (bodies ++ body ∷ []) (at + (9 + size)) (drop (at + (9 + size)) file) file
-record_read heading bodies at size body file to short opened is =
-    let front = header heading ++ open_records bodies in
+-- behind an open gate and a length stands a body of that length
+pub body_read : (at size : ℕ) (body file : List ℕ) → size < 2 ^ 64 → IsOpen (drop at file) size → body ≡ take size (drop (at + 9) file) → BeginsWithBody (drop at file) body
+body_read at size body file small opened is =
     let behind = opened.behind in
     let word = to_be_bytes w64 size in
     let rest : drop (at + 9) file ≡ behind = sym (drop-drop 9 at file) ∙ ap (drop 9) opened.content in
     let is_body : body ≡ take size behind = is ∙ ap (take size) rest in
     let length_body : length body ≡ size = ap length is_body ∙ length-take-le size behind (omega (arith, opened.fits)) in
-    let after : drop (at + (9 + size)) file ≡ drop size behind = ap (λ k. drop k file) (sum at size) ∙ sym (drop-drop size (at + 9) file) ∙ ap (drop size) rest in
     let whole : open_record body ++ drop size behind ≡ drop at file =
     ap (λ n. 1 ∷ to_be_bytes w64 n ++ body ++ drop size behind) length_body
     ∙ append_assoc (1 ∷ word) body (drop size behind)
     ∙ ap (λ b. 1 ∷ word ++ (b ++ drop size behind)) is_body
     ∙ ap (λ l. 1 ∷ word ++ l) (take-append-drop size behind)
     ∙ sym opened.content in
+    record {
+      behind = drop size behind;
+      small = omega (arith, small, length_body);
+      content = sym whole;
+      ends = omega (arith, opened.fits, length-drop size behind);
+    }
+
+-- a whole record more
+pub record_read : (heading : Heading) (bodies : List (List ℕ)) (at : ℕ) (body file : List ℕ) → IsReadTo heading bodies at (drop at file) file → BeginsWithBody (drop at file) body
+    → IsReadTo heading (bodies ++ body ∷ []) (at + (9 + length body)) (drop (at + (9 + length body)) file) file
+record_read heading bodies at body file to here =
+    let front = header heading ++ open_records bodies in
+    let size : length (open_record body) ≡ 9 + length body = length_open_record body in
+    let after : drop (at + (9 + length body)) file ≡ here.behind =
+    sym (drop-drop (9 + length body) at file) ∙ ap (drop (9 + length body)) here.content ∙ ap (λ n. drop n (open_record body ++ here.behind)) (sym size) ∙ drop-append_seam (open_record body) here.behind in
     let longer : header heading ++ open_records (bodies ++ body ∷ []) ≡ front ++ open_record body =
     ap (λ l. header heading ++ l) (open_records_push bodies body) ∙ sym (append_assoc (header heading) (open_records bodies) (open_record body)) in
     record {
-      lengths = have_lengths_push bodies body to.lengths (omega (arith, short, length_body));
+      lengths = have_lengths_push bodies body to.lengths here.small;
       content =
-          to.content ∙ ap (λ l. front ++ l) (sym whole) ∙ sym (append_assoc front (open_record body) (drop size behind))
-          ∙ ap (λ l. l ++ drop size behind) (sym longer) ∙ ap (λ l. header heading ++ open_records (bodies ++ body ∷ []) ++ l) (sym after);
-      place = omega (arith, to.place, ap length longer, length-append front (open_record body), length_body, length_open_record body);
+          to.content ∙ ap (λ l. front ++ l) here.content ∙ sym (append_assoc front (open_record body) here.behind)
+          ∙ ap (λ l. l ++ here.behind) (sym longer) ∙ ap (λ l. header heading ++ open_records (bodies ++ body ∷ []) ++ l) (sym after);
+      place = omega (arith, to.place, ap length longer, length-append front (open_record body), size);
     }
-  where
-    sum : (at size : ℕ) → at + (9 + size) ≡ at + 9 + size
-    sum at size = omega arith

@@ -1,8 +1,8 @@
 -- What reading a gate file finds, and what it leaves as it is.
-use Rattle.std.specs.Prelude.{◌≡◌, ◌≢◌, ◌⊎◌, ◌<◌, ◌≤◌, ℕ, List, ◌∷◌, ◌++◌, length, ⊤}
+use Rattle.std.specs.Prelude.{◌≡◌, ◌≢◌, ◌⊎◌, ◌<◌, ◌≤◌, ◌^◌, ℕ, List, ◌∷◌, ◌++◌, length, ⊤}
 use Rattle.std.specs.Int.{to_be_bytes, w64}
 use Rattle.edge_traits.specs.Disk.{DiskView, Image, IsImage, Adds}
-use Rattle.disk_journal.specs.GateFile.{Heading, header, open_records, HaveLengths, BeginsWithRecord}
+use Rattle.disk_journal.specs.GateFile.{Heading, header, open_record, open_records, HaveLengths, BeginsWithRecord}
 
 -- the disk only read: nothing changed, and a crash leaves what it might have left before
 pub record OnlyReads (old new : DiskView) : Type 0 where
@@ -30,6 +30,13 @@ pub record IsClosed (rest : List ℕ) : Type 0 where
   pub behind : List ℕ
   pub closed : gate ≢ 1
   pub content : rest ≡ gate ∷ behind
+
+-- these bytes begin with an open gate, the length of this body, and the body, and a gate at least stands behind it
+pub record BeginsWithBody (rest body : List ℕ) : Type 0 where
+  pub behind : List ℕ
+  pub small : length body < 2 ^ 64
+  pub content : rest ≡ open_record body ++ behind
+  pub ends : 0 < length behind
 
 -- these bytes begin with an open gate and a length, and so many bytes and a gate stand behind them
 pub record IsOpen (rest : List ℕ) (size : ℕ) : Type 0 where

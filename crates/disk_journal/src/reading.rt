@@ -4,7 +4,7 @@ ghost use Rattle.edge_traits.specs.Count.{Rose};
 ghost use Rattle.edge_traits.specs.Disk.{Image};
 ghost use Rattle.disk_journal.specs.GateFile.{Heading, heading_of, header, header_length, open_records, gate_file, IsDamagedAt};
 ghost use Rattle.disk_journal.specs.Journal.{IsFaultOf};
-ghost use Rattle.disk_journal.specs.Reads.{OnlyReads, IsReadTo, IsCutShort, IsClosed, IsOpen};
+ghost use Rattle.disk_journal.specs.Reads.{OnlyReads, BeginsWithBody, IsReadTo, IsCutShort, IsClosed, IsOpen};
 
 use crate::JournalFault;
 use crate::header::{FRAME, HEADER, OPEN, header};
@@ -55,14 +55,41 @@ fn read_records<D: Disk>(
     let mut bodies = BlobList::new(alloc);
     let mut at = HEADER as u64;
     'records: loop {
-        let Some(size) = read_gate(disk, file, end, at)? else {
+        let Some(body) = next_record(alloc, disk, file, end, at)? else {
             return Ok((bodies, at));
         };
-        let body = read_body(alloc, disk, file, at, size)?;
+        at += FRAME as u64 + body.bytes().len() as u64;
         if bodies.push(body).is_err() {
             return Err(JournalFault::OutOfMemory);
         }
-        at += FRAME as u64 + size;
+    }
+}
+
+/// The body of the record behind the gate at this offset in bytes, where that gate is open: none where the records end there.
+/// The file has `end` bytes.
+///
+/// # Errors
+///
+/// `Damaged` at this offset where an open gate has no whole record and gate behind it. `Disk`, `OutOfMemory`.
+pub fn next_record<D: Disk>(
+    alloc: Global,
+    disk: &mut D,
+    file: u64,
+    end: u64,
+    at: u64,
+) -> Result<Option<Blob>, JournalFault>
+    requires { at < end }
+    ensures fits { IfOk result (λ found. IfSome found (λ body. at + 9 + length body < end)) }
+    ensures record { (files : Image) → (D.disk disk.old).told ≡ Some files → end ≡ length (files file)
+        → IfOk result (λ found. MatchOption found (IsClosed (drop at (files file))) (BeginsWithBody (drop at (files file)))) }
+    ensures damaged { (files : Image) (place : ℕ) → (D.disk disk.old).told ≡ Some files → end ≡ length (files file)
+        → IsErrOf result (JournalFault.Damaged place) → (place ≡ at) × IsCutShort (drop at (files file)) }
+    ensures reads { OnlyReads (D.disk disk.old) (D.disk disk.new) }
+    ensures failed { IsErrOf result JournalFault.Disk → Rose (D.disk disk.old).faults (D.disk disk.new).faults }
+{
+    match read_gate(disk, file, end, at)? {
+        Some(size) => Ok(Some(read_body(alloc, disk, file, at, size)?)),
+        None => Ok(None),
     }
 }
 

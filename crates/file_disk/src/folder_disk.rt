@@ -14,6 +14,9 @@ use std::os::unix::fs::FileExt;
 use std::rt::Files;
 use std::{fs, io};
 
+// Where so many files are open, one that is durable is closed before another is opened.
+const MOST_OPEN: usize = 32;
+
 // What is known of the folder.
 #[derive(Drop)]
 enum FolderState<F> {
@@ -39,7 +42,7 @@ pub struct FolderDisk<'a, R: Files> {
     files: &'a R,
     folder: &'a Text,
     state: FolderState<R::File>,
-    // The files that were opened.
+    // The files that are open.
     handles: Vec<Handle<R::File>>,
     faults: u64,
 }
@@ -157,6 +160,11 @@ where
         ensures place { IfOk result (λ place. IfSome place (λ i. i < length self.new.handles.items)) }
         ensures faults { self.new.faults ≡ self.old.faults }
     {
+        if self.handles.len() >= MOST_OPEN
+            && let Some(i) = self.handles.iter().position(Handle::is_durable)
+        {
+            self.handles.swap_remove(i);
+        }
         let place = self.handles.len();
         self.handles.push(handle)?;
         Ok(Some(place))

@@ -10,7 +10,9 @@ use std::os::unix::fs::FileExt;
 pub(crate) struct Handle<F> {
     pub(crate) number: u64,
     file: F,
-    // The length has changed since the file was durable last.
+    // Bytes were written, or the length has changed, since the file was durable last.
+    is_changed: bool,
+    // The length has changed since then.
     is_resized: bool,
     /// Its name in its folder was made durable.
     pub(crate) is_named: bool,
@@ -24,6 +26,7 @@ impl<F: OpenFile + FileExt + Drop> Handle<F> {
         Ok(Handle {
             number,
             file,
+            is_changed: false,
             is_resized: false,
             is_named: false,
         })
@@ -34,6 +37,7 @@ impl<F: OpenFile + FileExt + Drop> Handle<F> {
         Handle {
             number,
             file,
+            is_changed: true,
             is_resized: true,
             is_named: false,
         }
@@ -69,6 +73,7 @@ impl<F: OpenFile + FileExt + Drop> Handle<F> {
         if at.saturating_add(bytes.len() as u64) > self.len()? {
             self.is_resized = true;
         }
+        self.is_changed = true;
         self.file.write_all_at(bytes, at)
     }
 
@@ -76,17 +81,25 @@ impl<F: OpenFile + FileExt + Drop> Handle<F> {
         if len == self.len()? {
             return Ok(());
         }
+        self.is_changed = true;
         self.is_resized = true;
         self.file.set_len(len)
     }
 
     /// Makes the bytes and the length durable. Where the length stayed, the bytes alone are cheaper.
     pub(crate) fn sync(&mut self) -> io::Result<()> {
-        if !self.is_resized {
-            return self.file.sync_data();
+        if self.is_resized {
+            self.file.sync_all()?;
+        } else {
+            self.file.sync_data()?;
         }
-        self.file.sync_all()?;
+        self.is_changed = false;
         self.is_resized = false;
         Ok(())
+    }
+
+    /// Nothing of the file is left to be made durable, so it may be closed and opened again.
+    pub(crate) fn is_durable(&self) -> bool {
+        !self.is_changed
     }
 }

@@ -12,6 +12,7 @@ use Rattle.edge_traits.proofs.Moments.{run_on, widened}
 use Rattle.out_files.specs.Output.{lines_text, completed, KeepsFront}
 use Rattle.step_code.specs.declared.output.Output.{Output}
 use Rattle.step_code.specs.Spent.{out_length}
+use Rattle.seal_laws.proofs.Sealed.{text_length}
 use Rattle.store_image.specs.Files.{generation_file, out_file}
 use Rattle.store_image.proofs.Standing.{put_file, put_there}
 use Rattle.journal_book.specs.Keeping.{longest_output, AreShort}
@@ -33,9 +34,6 @@ pub sealed_here : (outs : List Output) (k : ℕ) (out : Output) → slice_get ou
 sealed_here [] k out is = absurd (none-some out is)
 sealed_here (o ∷ outs) zero out is = ap (λ (x : Output). x.sealed_bytes) (here_is_one o out is)
 sealed_here (o ∷ outs) (suc k) out is = sealed_here outs k out is
-
-pub text_length : (lines : List (List ℕ)) → length (lines_text lines) ≡ sum_by (λ line. length line + 1) lines
-text_length lines = length-flat_map (λ (line : List ℕ). line ++ 10 ∷ []) lines ∙ (λ i. sum_by (λ (line : List ℕ). length-append line (10 ∷ []) i) lines)
 
 short_at : (outs : List Output) → AllByRecursion (λ o. out_length o ≤ longest_output) outs → (k : ℕ) (out : Output) → slice_get outs k ≡ Some out → out_length out ≤ longest_output
 short_at [] each k out is = absurd (none-some out is)

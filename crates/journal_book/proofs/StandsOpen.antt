@@ -29,7 +29,8 @@ use Rattle.step_code.specs.Spent.{is_past, last_given, numbers_brought, out_leng
 use Rattle.step_code.specs.State.{bots_in_force, bots_of, is_dump, is_out, new_out, waiting}
 use Rattle.step_code.proofs.GivenBack.{kept-all_given_back}
 use Rattle.step_code.proofs.Lists.{all_fail}
-use Rattle.seal_laws.proofs.Histories.{same_steps, seal_kept}
+use Rattle.seal_laws.proofs.Histories.{same_spent, same_steps, seal_kept}
+use Rattle.seal_laws.proofs.Sealed.{text_length}
 use Rattle.store_image.specs.Files.{out_file}
 use Rattle.store_image.specs.Damage.{IsDamagedStore}
 use Rattle.store_image.specs.Opens.{AreLong, AreReplayable, Opens}
@@ -37,24 +38,9 @@ use Rattle.store_image.specs.Stands.{AreSealedFrom, FrontsStand, IsSealedFrom, I
 use Rattle.store_image.proofs.Standing.{replay-append}
 use Rattle.store_image.proofs.Damaged.{opens_whole}
 use Rattle.journal_book.specs.Laws.{WhatStandsOpens}
-use Rattle.journal_book.proofs.Completing.{text_length}
 use Rattle.journal_book.proofs.Long.{long_behind}
 
 -- ---- what sealing leaves of outputs
-
-same_length : (w o : Output) → IsSealedFrom w o → out_length w ≡ out_length o
-same_length w o seal =
-    omega (arith, seal.bytes, text_length seal.front, ap (λ (ls : List (List ℕ)). sum_by (λ line. length line + 1) ls) seal.lines, sum_by-append (λ (line : List ℕ). length line + 1) seal.front o.lines)
-
-same_lengths : (ws os : List Output) → AreSealedFrom ws os → map out_length ws ≡ map out_length os
-same_lengths [] os none = ap (map out_length) (sym none)
-same_lengths (w ∷ ws) [] bad = absurd bad
-same_lengths (w ∷ ws) (o ∷ os) seal = λ i. same_length w o seal.0 i ∷ same_lengths ws os seal.1 i
-
-same_count : (ws os : List Output) → AreSealedFrom ws os → length ws ≡ length os
-same_count [] os none = ap length (sym none)
-same_count (w ∷ ws) [] bad = absurd bad
-same_count (w ∷ ws) (o ∷ os) seal = ap suc (same_count ws os seal.1)
 
 same_bots : (ws os : List Output) → AreSealedFrom ws os → map (λ (o : Output). o.bot) ws ≡ map (λ (o : Output). o.bot) os
 same_bots [] os none = ap (map (λ (o : Output). o.bot)) (sym none)
@@ -63,16 +49,8 @@ same_bots (w ∷ ws) (o ∷ os) seal = λ i. sym seal.0.bot i ∷ same_bots ws o
 
 -- ---- numbers that steps bring
 
-same_numbers : (whole sealed : Base) → IsSealOf whole sealed → numbers_brought whole ≡ numbers_brought sealed
-same_numbers whole sealed seal =
-    (λ i. numbers_with (same_count whole.outs sealed.outs seal.outs i) (same_lengths whole.outs sealed.outs seal.outs i)) ∙ ap numbers_brought (sym seal.same)
-  where
-    numbers_with : ℕ → List ℕ → List ℕ
-    numbers_with count lengths = whole.steps ∷ min (whole.next_message - 1) (last_given + 1) ∷ min (whole.next_dump - 1) (last_given + 1) ∷ whole.bundle_no ∷ (count - 1) ∷ lengths
-
 stays_small : (m : Meaning) (whole sealed : Base) (step : Step) → IsSealOf whole sealed → StaysSmall m whole step → StaysSmall m sealed step
-stays_small m whole sealed step seal small =
-    subst (λ (ns : List ℕ). find is_past (map (λ n. min n last_u64) ns) ≡ None) (same_numbers (after m whole step) (after m sealed step) (seal_kept m whole sealed step seal)) small
+stays_small m whole sealed step seal small = sym (same_spent m whole sealed step seal) ∙ small
 
 small_lengths : (outs : List Output) → AllByRecursion (λ n. is_past n ≡ false) (map (λ n. min n last_u64) (map out_length outs)) → AllByRecursion (λ o. out_length o ≤ last_given) outs
 small_lengths [] all = tt

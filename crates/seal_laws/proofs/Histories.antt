@@ -113,7 +113,7 @@ same_numbers w o seal =
     ap₂ (λ (n : ℕ) (ls : List ℕ). w.steps ∷ up_to_spent (w.next_message - 1) ∷ up_to_spent (w.next_dump - 1) ∷ w.bundle_no ∷ (n - 1) ∷ ls) (as_many w.outs o.outs seal.outs) (same_lengths w.outs o.outs seal.outs)
     ∙ sym (ap numbers_brought seal.same)
 
-same_spent : (m : Meaning) (whole sealed : Base) (step : Step) → IsSealOf whole sealed → spent m whole step ≡ spent m sealed step
+pub same_spent : (m : Meaning) (whole sealed : Base) (step : Step) → IsSealOf whole sealed → spent m whole step ≡ spent m sealed step
 same_spent m whole sealed step seal = ap (λ (ns : List ℕ). find is_past (map (λ n. min n last_u64) ns)) (same_numbers (after m whole step) (after m sealed step) (seal_kept m whole sealed step seal))
 
 -- ---- histories

@@ -1,3 +1,3 @@
 mod Acted
 pub mod Histories
-mod Sealed
+pub mod Sealed

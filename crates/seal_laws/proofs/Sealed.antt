@@ -95,7 +95,7 @@ sealed_on (x ∷ xs) (y ∷ ys) (z ∷ zs) one more = (one_on x y z one.0 more.0
 
 -- ---- no length sees sealing
 
-text_length : (lines : List (List ℕ)) → length (lines_text lines) ≡ sum_by (λ line. length line + 1) lines
+pub text_length : (lines : List (List ℕ)) → length (lines_text lines) ≡ sum_by (λ line. length line + 1) lines
 text_length lines = length-flat_map (λ (line : List ℕ). line ++ 10 ∷ []) lines ∙ (λ i. sum_by (λ (line : List ℕ). length-append line (10 ∷ []) i) lines)
 
 one_length : (w o : Output) → IsSealedFrom w o → out_length w ≡ out_length o

@@ -22,8 +22,7 @@ use Rattle.journal_book.specs.Alone.{IsBeside, LeavesAlone}
 use Rattle.journal_book.proofs.Alone.{alone_narrower, alone_on}
 use Rattle.book_runs.specs.GoesOn.{GoesOn}
 use Rattle.book_runs.proofs.Going.{legal-append, small-append}
-use Rattle.seal_laws.proofs.Histories.{legal_whole, seals}
-use Rattle.book_runs.proofs.Seals.{small_whole}
+use Rattle.seal_laws.proofs.Histories.{legal_whole, seals, small_whole}
 use Rattle.store_calls.specs.Calls.{IsCall, IsEarlierIn, IsFirstOf, IsOpened, StandsAccounted, StandsOn}
 
 -- what stands for what was read of a history stands for that history
