@@ -13,7 +13,7 @@ ghost use Rattle.core_state.specs.State.{state_of};
 
 use base_types::{Blob, BotName, Moment, OutOfMemory, QueueName, queue_of};
 use core_state::feeds;
-use core_state::room::make_room;
+use core_state::room::{make_hand_room, make_message_room, make_room};
 use core_state::sends::send_all;
 use core_state::state::State;
 use queue_broker::TakeFault;
@@ -55,7 +55,7 @@ pub fn collect(
     ensures err { OnErr result (state_of state.new ≡ state_of state.old) }
     ensures outs { state.new.outs ≡ state.old.outs }
 {
-    make_room(&mut state.broker, sends.len(), 0)?;
+    make_room(&mut state.broker, &sends)?;
     send_all(state, sends);
     feeds::go_to(&mut state.feeds, bot, upto);
     Ok(())
@@ -68,7 +68,7 @@ pub fn take(state: &mut State, bot: &BotName, instance: u8, now: Moment) -> Resu
     ensures err { OnErr result (state_of state.new ≡ state_of state.old) }
     ensures outs { state.new.outs ≡ state.old.outs }
 {
-    make_room(&mut state.broker, 0, 1)?;
+    make_hand_room(&mut state.broker)?;
     match state.broker.take(bot, instance, now) {
         Ok(()) => Ok(()),
         Err(TakeFault::Empty) => Ok(()),
@@ -92,7 +92,7 @@ pub fn redo(state: &mut State, dump: u64) -> Result<(), OutOfMemory>
     ensures err { OnErr result (state_of state.new ≡ state_of state.old) }
     ensures outs { state.new.outs ≡ state.old.outs }
 {
-    make_room(&mut state.broker, 1, 0)?;
+    make_message_room(&mut state.broker)?;
     if let Some(dump) = state.dumps.take_out(dump) {
         state.broker.send(&queue_of(&dump.bot), dump.message);
     }

@@ -66,22 +66,22 @@ fn put_aside(state: &mut State, dumps: Vec<Dump>)
     state.next_dump += count;
 }
 
-// Makes room for so many messages and dumps that come, and for a line of the bot. The state stays.
+// Makes room for these sends, for so many dumps that come, and for a line of the bot. The state stays.
 fn make_all_room(
     state: &mut State,
     bot: &BotName,
-    messages: usize,
+    sends: &[(QueueName, Blob)],
     dumps: usize,
 ) -> Result<(), OutOfMemory>
     ensures same { state_of state.new ≡ state_of state.old }
     ensures lengths { HaveLengths state.old.outs.items → HaveLengths state.new.outs.items }
-    ensures messages { OnOk result (HasRoom messages state.new.broker) }
+    ensures sends { OnOk result (HasRoom sends.now state.new.broker) }
     ensures dumps { OnOk result (dumps ≤ state.new.dumps.spare) }
     ensures line { OnOk result (HasLineRoom bot.now state.new.outs.items) }
 {
     outputs::make_room(&mut state.outs, bot)?;
     make_dump_room(&mut state.dumps, dumps)?;
-    make_room(&mut state.broker, messages, 0)
+    make_room(&mut state.broker, sends)
 }
 
 // The hand is emptied, and what it held is written to the bot's output where that is asked.
@@ -128,7 +128,7 @@ pub fn done(
     let no = state.next_message + sends.len() as u64;
     let dumps = new_dumps(alloc, no, state.next_dump, &held.bot, held.now, made.dumps)?;
     let key = made.key.copy(alloc)?;
-    make_all_room(state, &held.bot, sends.len(), dumps.len())?;
+    make_all_room(state, &held.bot, &sends, dumps.len())?;
     mark(&mut state.caches, alloc, rule, &held.bot, held.now, key)?;
     send_all(state, sends);
     put_aside(state, dumps);

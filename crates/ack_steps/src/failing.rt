@@ -58,7 +58,7 @@ fn dump_held(state: &mut State, held: Held, note: FaultNote)
     requires room { 1 ≤ state.old.dumps.spare }
     requires small { state.old.next_dump ≤ last_given }
     ensures put_aside { state_of state.new ≡ put_aside held.bot held.instance held.message note held.now (state_of state.old) }
-    ensures queues { (n : ℕ) → HasRoom n state.old.broker → HasRoom n state.new.broker }
+    ensures queues { (sends : List (List ℕ × List ℕ)) → HasRoom sends state.old.broker → HasRoom sends state.new.broker }
     ensures same { state.new ≡ record state.old { broker = state.new.broker; dumps = state.new.dumps; next_dump = state.new.next_dump } }
 {
     let Ok(message) = state.broker.ack(&held.bot, held.instance, held.message) else {
@@ -74,17 +74,17 @@ fn dump_held(state: &mut State, held: Held, note: FaultNote)
     state.next_dump += 1;
 }
 
-// Makes room for a dump, a halted bot, and so many messages. The state stays.
-fn make_all_room(state: &mut State, messages: usize) -> Result<(), OutOfMemory>
+// Makes room for a dump, a halted bot, and these sends. The state stays.
+fn make_all_room(state: &mut State, sends: &[(QueueName, Blob)]) -> Result<(), OutOfMemory>
     ensures same { state_of state.new ≡ state_of state.old }
     ensures outs { state.new.outs ≡ state.old.outs }
-    ensures messages { OnOk result (HasRoom messages state.new.broker) }
+    ensures sends { OnOk result (HasRoom sends.now state.new.broker) }
     ensures dump { OnOk result (1 ≤ state.new.dumps.spare) }
     ensures halted { OnOk result (vec_len state.new.halted < vec_capacity state.new.halted) }
 {
     state.halted.reserve(1)?;
     make_dump_room(&mut state.dumps, 1)?;
-    make_room(&mut state.broker, messages, 0)
+    make_room(&mut state.broker, sends)
 }
 
 /// A bot's instance failed with the message in its hand. Want of memory changes nothing.
@@ -107,7 +107,7 @@ pub fn fail(
 {
     let copies = copies_of_body(alloc, state, held, queues)?;
     let note = note.copy(alloc)?;
-    make_all_room(state, copies.len())?;
+    make_all_room(state, &copies)?;
     halt(&mut state.halted, &held.bot, halts);
     dump_held(state, held, note);
     send_all(state, copies);

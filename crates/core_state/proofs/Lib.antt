@@ -1,6 +1,6 @@
 mod Brought
-mod Lists
 pub mod Numbered
 pub mod Past
+mod Places
 mod Waiting
 mod Seen

@@ -12,7 +12,7 @@ use queue_broker::Broker;
 
 // Puts bodies on queues, as messages with the numbers from `next` on.
 fn send_from(broker: &mut Broker, next: u64, sends: Vec<(QueueName, Blob)>)
-    requires room { HasRoom (length sends.items) broker.old }
+    requires room { HasRoom sends.items broker.old }
     requires numbers { next + length sends.items ≤ last_given + 1 }
     ensures queues { broker.new.queues ≡ put_all next sends.items broker.old.queues }
     ensures hands { broker.new.hands ≡ broker.old.hands }
@@ -26,7 +26,7 @@ fn send_from(broker: &mut Broker, next: u64, sends: Vec<(QueueName, Blob)>)
 
 /// Puts bodies on queues as new messages. It takes no memory.
 pub fn send_all(state: &mut State, sends: Vec<(QueueName, Blob)>)
-    requires room { HasRoom (length sends.items) state.old.broker }
+    requires room { HasRoom sends.items state.old.broker }
     requires numbers { state.old.next_message + length sends.items ≤ last_given + 1 }
     ensures sent { state_of state.new ≡ sent sends.items (state_of state.old) }
     ensures same { state.new ≡ record state.old { broker = state.new.broker; next_message = state.new.next_message } }

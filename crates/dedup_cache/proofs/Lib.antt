@@ -1,4 +1,5 @@
 mod Expired
 mod KeptMarks
 pub mod Keys
+mod LastApart
 mod Updated

@@ -3,8 +3,8 @@ ghost use Rattle.stored_types.specs.Mark.{fresh, is_marked, trimmed};
 ghost use Rattle.dedup_cache.specs.Cache.{ArePast, DoNotFall, HaveOwnKeys};
 
 use crate::kept::{drop_expired, drop_first, is_fresh, moments_of};
+use crate::moments::Moments;
 use base_types::{Blob, Moment, OutOfMemory};
-use indexmap::IndexMap;
 use std::alloc::Global;
 use std::collections::VecDeque;
 use std::marker::Model;
@@ -16,8 +16,8 @@ pub struct Cache {
     alloc: Global,
     marks: VecDeque<Mark>,
     // The moment of each key.
-    moments: IndexMap<Vec<u8>, Moment>,
-    // A copy for the map of the key that comes.
+    moments: Moments,
+    // A copy of the key that comes.
     ready: Option<Vec<u8>>,
 }
 
@@ -41,7 +41,7 @@ impl Cache {
         Cache {
             alloc,
             marks: VecDeque::new(alloc),
-            moments: IndexMap::new(alloc),
+            moments: Moments::new(alloc),
             ready: None,
         }
     }
@@ -84,7 +84,7 @@ impl Cache {
     pub fn seen(&self, key: &Blob) -> bool
         ensures { result ≡ is_marked key.now self.now.marks }
     {
-        self.moments.contains_key(key.bytes())
+        self.moments.get(key.bytes()).is_some()
     }
 
     /// Whether the key is marked, and its mark is younger than `ttl` seconds at the moment `now`.
@@ -92,7 +92,7 @@ impl Cache {
         ensures { result ≡ is_marked key.now (fresh ttl now.0 self.now.marks) }
     {
         match self.moments.get(key.bytes()) {
-            Some(moment) => is_fresh(*moment, ttl, now),
+            Some(moment) => is_fresh(moment, ttl, now),
             None => false,
         }
     }
@@ -124,7 +124,7 @@ impl Cache {
     {
         let copy = key.bytes().to_vec(self.alloc)?;
         self.marks.reserve(1)?;
-        self.moments.reserve(1)?;
+        self.moments.reserve()?;
         self.ready = Some(copy);
         Ok(())
     }
@@ -139,7 +139,7 @@ impl Cache {
         let Some(copy) = self.ready.take() else {
             unreachable!()
         };
-        let _old = self.moments.insert(copy, now).unwrap();
+        self.moments.insert(copy, now);
         self.marks.push_back_reserved(Mark { key, moment: now });
     }
 }

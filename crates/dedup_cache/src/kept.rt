@@ -1,12 +1,12 @@
-//! Marks in a queue, and the moments of their keys in a map.
+//! Marks in a queue, and the moments of their keys.
 ghost use Rattle.std.specs.Prelude.{◌≡◌, ◌-◌, drop, nat_lt, List, ℕ, IfOk};
 ghost use Rattle.std.specs.VecDeque.{deque_len};
 ghost use Rattle.stored_types.specs.Mark.{fresh};
 ghost use Rattle.dedup_cache.specs.Cache.{HaveOwnKeys};
 ghost use Rattle.dedup_cache.specs.Kept.{KeepMarks, HaveRoom, found, has_expired, moment_of};
 
+use crate::moments::Moments;
 use base_types::{Moment, OutOfMemory};
-use indexmap::IndexMap;
 use std::alloc::Global;
 use std::collections::VecDeque;
 use stored_types::Mark;
@@ -29,7 +29,7 @@ fn has_expired(marks: &VecDeque<Mark>, ttl: u64, now: Moment) -> bool
 }
 
 // The oldest mark leaves, and its key. It takes no memory.
-fn drop_oldest(marks: &mut VecDeque<Mark>, moments: &mut IndexMap<Vec<u8>, Moment>)
+fn drop_oldest(marks: &mut VecDeque<Mark>, moments: &mut Moments)
     requires kept { KeepMarks marks.old.items moments.old }
     ensures marks { marks.new.items ≡ drop 1 marks.old.items }
     ensures len { deque_len marks.new ≡ deque_len marks.old - 1 }
@@ -37,17 +37,12 @@ fn drop_oldest(marks: &mut VecDeque<Mark>, moments: &mut IndexMap<Vec<u8>, Momen
     ensures room { HaveRoom marks.old moments.old → HaveRoom marks.new moments.new }
 {
     if let Some(mark) = marks.pop_front() {
-        moments.swap_remove(mark.key.bytes());
+        moments.remove(mark.key.bytes());
     }
 }
 
 /// Marks that have expired leave. Since moments don't fall, they stand in front. It takes no memory.
-pub fn drop_expired(
-    marks: &mut VecDeque<Mark>,
-    moments: &mut IndexMap<Vec<u8>, Moment>,
-    ttl: u64,
-    now: Moment,
-)
+pub fn drop_expired(marks: &mut VecDeque<Mark>, moments: &mut Moments, ttl: u64, now: Moment)
     requires kept { KeepMarks marks.old.items moments.old }
     ensures fresh { marks.new.items ≡ fresh ttl now.0 marks.old.items }
     ensures kept { KeepMarks marks.new.items moments.new }
@@ -59,7 +54,7 @@ pub fn drop_expired(
 }
 
 /// So many of the oldest marks leave, or all. It takes no memory.
-pub fn drop_first(marks: &mut VecDeque<Mark>, moments: &mut IndexMap<Vec<u8>, Moment>, count: usize)
+pub fn drop_first(marks: &mut VecDeque<Mark>, moments: &mut Moments, count: usize)
     requires kept { KeepMarks marks.old.items moments.old }
     ensures left { marks.new.items ≡ drop count marks.old.items }
     ensures kept { KeepMarks marks.new.items moments.new }
@@ -71,13 +66,15 @@ pub fn drop_first(marks: &mut VecDeque<Mark>, moments: &mut IndexMap<Vec<u8>, Mo
 }
 
 /// The moments of these marks' keys.
-pub fn moments_of(alloc: Global, marks: &[Mark]) -> Result<IndexMap<Vec<u8>, Moment>, OutOfMemory>
+pub fn moments_of(alloc: Global, marks: &[Mark]) -> Result<Moments, OutOfMemory>
     requires keys { HaveOwnKeys marks.now }
     ensures { IfOk result (λ moments. (key : List ℕ) → found key moments ≡ moment_of key marks.now) }
 {
-    let mut moments = IndexMap::with_capacity(alloc, marks.len())?;
+    let mut moments = Moments::new(alloc);
     'marks: for mark in marks {
-        moments.insert(mark.key.bytes().to_vec(alloc)?, mark.moment)?;
+        let key = mark.key.bytes().to_vec(alloc)?;
+        moments.reserve()?;
+        moments.insert(key, mark.moment);
     }
     Ok(moments)
 }

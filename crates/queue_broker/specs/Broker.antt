@@ -55,18 +55,18 @@ front_of (message ∷ others) = Some message
 abbrev pub from_lists : List Queue → List Hand → BrokerView
 from_lists queues hands = record { queues = queues; hands = hands; spare = 0; queue_room = length queues; hand_room = length hands }
 
--- room for so many messages and their queues, and for so many full hands in all; it is never less than before
-abbrev pub reserved : ℕ → ℕ → BrokerView → BrokerView
-reserved messages hands v = record v {
+-- room for so many messages, for so many queues beside those that are there, and for so many full hands in all; it is never less than before
+abbrev pub reserved : ℕ → ℕ → ℕ → BrokerView → BrokerView
+reserved messages queues hands v = record v {
   spare = max messages v.spare;
-  queue_room = max (messages + length v.queues) v.queue_room;
+  queue_room = max (queues + length v.queues) v.queue_room;
   hand_room = max hands v.hand_room;
 }
 
--- there is room for so many messages and their queues, and for so many full hands in all
-pub record HasRoom (count full : ℕ) (v : BrokerView) : Type 0 where
+-- there is room for so many messages, for so many queues beside those that are there, and for so many full hands in all
+pub record HasRoom (count more full : ℕ) (v : BrokerView) : Type 0 where
   pub messages : count ≤ v.spare
-  pub queues : count + length v.queues ≤ v.queue_room
+  pub queues : more + length v.queues ≤ v.queue_room
   pub hands : full ≤ v.hand_room
 
 -- a message was at the front of the bot's queue; now it is in the hand of its instance, not yet tried. These messages waited

@@ -141,27 +141,33 @@ impl Broker {
     /// Makes room for a message on each of these queues, and for so many full hands in all. Without memory for all of it
     /// nothing changes. Where there is room already, it takes no memory.
     pub fn reserve(&mut self, queues: &[QueueName], hands: u32) -> Result<(), OutOfMemory>
-        ensures ok { OnOk result (self.new ≡ reserved (length queues.now) hands self.old) }
+        ensures ok { OnOk result (self.new ≡ reserved (length queues.now) (length queues.now) hands self.old) }
         ensures err { OnErr result (self.new ≡ self.old) }
-        ensures succeeds { HasRoom (length queues.now) hands self.old → IsOk result }
+        ensures succeeds { HasRoom (length queues.now) (length queues.now) hands self.old → IsOk result }
     {
-        self.reserve_count(queues.len(), hands as usize)
+        self.reserve_count(queues.len(), queues.len(), hands as usize)
     }
 
-    /// The same for so many messages.
-    pub fn reserve_count(&mut self, messages: usize, hands: usize) -> Result<(), OutOfMemory>
-        ensures ok { OnOk result (self.new ≡ reserved messages hands self.old) }
+    /// Makes room for so many messages, for so many queues beside those that are there, and for so many full hands in all.
+    /// Without memory for all of it nothing changes. Where there is room already, it takes no memory.
+    pub fn reserve_count(
+        &mut self,
+        messages: usize,
+        queues: usize,
+        hands: usize,
+    ) -> Result<(), OutOfMemory>
+        ensures ok { OnOk result (self.new ≡ reserved messages queues hands self.old) }
         ensures err { OnErr result (self.new ≡ self.old) }
-        ensures succeeds { HasRoom messages hands self.old → IsOk result }
+        ensures succeeds { HasRoom messages queues hands self.old → IsOk result }
     {
         let spare = self.spare.max(messages);
         let hand_room = self.hand_room.max(hands);
-        self.queues.reserve(messages)?;
+        self.queues.reserve(queues)?;
         self.hands
             .reserve(hand_room.saturating_sub(self.hands.len()))?;
         grow(&mut self.pool, self.waiting, spare, self.hands.len())?;
         self.spare = spare;
-        self.queue_room = self.queue_room.max(messages + self.queues.len());
+        self.queue_room = self.queue_room.max(queues + self.queues.len());
         self.hand_room = hand_room;
         Ok(())
     }

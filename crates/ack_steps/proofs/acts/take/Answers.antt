@@ -10,7 +10,7 @@ pub returns-in-Ok-clause-ok : goal.returns-in-Ok-clause-ok
 returns-in-Ok-clause-ok c =
     let b = state_of c.args.state.now in
     let bot = c.args.bot.now in
-    let same = c.in_ok-make_room.ensures.same in
+    let same = c.in_ok-make_hand_room.ensures.same in
     let messages = ap (queued (queue_name bot)) same.queues in
-    taken_first_is b bot c.args.instance c.args.now (queued (queue_name bot) b.queues) c.make_room.new.broker c.take.new.self same.queues same.hands
-    (subst (λ l. IsTaken bot c.args.instance c.args.now l c.make_room.new.broker c.take.new.self) messages c.in-Ok.ensures.taken)
+    taken_first_is b bot c.args.instance c.args.now (queued (queue_name bot) b.queues) c.make_hand_room.new.broker c.take.new.self same.queues same.hands
+    (subst (λ l. IsTaken bot c.args.instance c.args.now l c.make_hand_room.new.broker c.take.new.self) messages c.in-Ok.ensures.taken)

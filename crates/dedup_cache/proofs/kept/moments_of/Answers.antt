@@ -1,12 +1,10 @@
 use Rattle.std.proofs.Common.{◌≡◌, ◌<◌, ℕ, false, List, [], ◌∷◌, ◌++◌, length, Some, take, cond, sym, ◌∙◌, ap, subst, arith}
 use Rattle.std.specs.Str.{bytes_eq}
 use Rattle.std.proofs.lemmas.List.{take_all, take_more}
-use Rattle.indexmap.specs.IndexMap.{UpdatesBy}
 use Rattle.stored_types.specs.declared.mark.Mark.{Mark}
 use Rattle.stored_types.specs.Mark.{is_marked}
-use Rattle.dedup_cache.specs.Kept.{moment_of}
+use Rattle.dedup_cache.specs.Kept.{moment_of, Changes}
 use Rattle.dedup_cache.proofs.Keys.{moment_pushed, unmarked_before}
-use Rattle.dedup_cache.proofs.Updated.{updated}
 use Rattle.dedup_cache.proofs.kept.moments_of.Goals as goal
 
 pub marks-preserved : goal.marks-preserved
@@ -14,15 +12,14 @@ marks-preserved c =
     let marks = c.args.marks.now in
     let i = c.marks.mark-index in
     let mark = c.mark-item.result in
-    let old = c.marks.moments in
     let new = c.insert.new.self in
     let is = c.mark-item.is in
     let inside : i < length marks = omega (arith, c.marks-test.true) in
-    let copy : c.in_ok-to_vec.field-0.items ≡ mark.key = c.in_ok-to_vec.ensures.items_if_clones_equal (λ x y same. same) ∙ c.bytes.ensures in
-    let updates = subst (λ (key : List ℕ). UpdatesBy (λ x y. bytes_eq x.items y.items) (λ k. bytes_eq key k.items) old new (Some mark.moment)) copy c.in_ok-insert.ensures.updates in
+    let copy : c.in_ok-key.key.items ≡ mark.key = c.in_ok-key.ensures.items_if_clones_equal (λ x y same. same) ∙ c.bytes.ensures in
+    let changes = subst (λ (key : List ℕ). Changes key (Some mark.moment) c.reserve.new.self new) copy c.insert.ensures in
     let none = subst (λ (m : Mark). is_marked m.key (take i marks) ≡ false) (sym is) (unmarked_before marks i mark c.requires.keys inside) in
     λ key.
-    updated mark.key old new (Some mark.moment) updates key ∙ ap (cond (bytes_eq mark.key key) (Some mark.moment)) (c.marks.invariant key)
+    changes key ∙ ap (cond (bytes_eq mark.key key) (Some mark.moment)) (c.reserve.ensures.same key ∙ c.marks.invariant key)
     ∙ sym (moment_pushed key mark.key mark.moment (take i marks) none) ∙ ap (moment_of key) (sym (take_more marks i mark inside ∙ ap (λ (m : Mark). take i marks ++ m ∷ []) (sym is)))
 
 pub returns : goal.returns

@@ -1,4 +1,4 @@
-use Rattle.std.proofs.Common.{◌≡◌, List, ℕ, Some, None, ◌∙◌, ap}
+use Rattle.std.proofs.Common.{◌≡◌, List, ℕ, Some, None, sym, ◌∙◌, ap}
 use Rattle.stored_types.specs.Mark.{fresh, is_marked}
 use Rattle.dedup_cache.specs.Kept.{found, moment_of}
 use Rattle.dedup_cache.proofs.Keys.{counts_by_moment, still_counts}
@@ -9,7 +9,7 @@ returns-in-Some c =
     let key = c.args.key.now in
     let marks = c.self.inside.marks.items in
     let kept = c.self.invariant.0 in
-    let has : Some c.in-Some.moment.now ≡ moment_of key marks = c.in-Some.ensures.value ∙ ap (λ (k : List ℕ). found k c.self.inside.moments) c.bytes.ensures ∙ kept.same key in
+    let has : Some c.in-Some.moment ≡ moment_of key marks = sym c.in-Some.is ∙ c.get.ensures ∙ ap (λ (k : List ℕ). found k c.self.inside.moments) c.bytes.ensures ∙ kept.same key in
     c.is_fresh.ensures ∙ ap (still_counts c.args.ttl c.args.now.0) has ∙ counts_by_moment c.args.ttl c.args.now.0 key marks kept.keys
     ∙ ap (λ v. is_marked key (fresh c.args.ttl c.args.now.0 v.marks)) c.self.view_is
 
@@ -18,5 +18,5 @@ returns-in-None c =
     let key = c.args.key.now in
     let marks = c.self.inside.marks.items in
     let kept = c.self.invariant.0 in
-    let has : None ≡ moment_of key marks = c.in-None.ensures.value ∙ ap (λ (k : List ℕ). found k c.self.inside.moments) c.bytes.ensures ∙ kept.same key in
+    let has : None ≡ moment_of key marks = sym c.in-None.is ∙ c.get.ensures ∙ ap (λ (k : List ℕ). found k c.self.inside.moments) c.bytes.ensures ∙ kept.same key in
     ap (still_counts c.args.ttl c.args.now.0) has ∙ counts_by_moment c.args.ttl c.args.now.0 key marks kept.keys ∙ ap (λ v. is_marked key (fresh c.args.ttl c.args.now.0 v.marks)) c.self.view_is

@@ -1,10 +1,8 @@
-use Rattle.std.proofs.Common.{◌≡◌, false, true≢false, ℕ, List, Option, Some, IsSome, OnOk, option_map, unwrap_or, sym, ◌∙◌, ap, subst}
-use Rattle.std.specs.Str.{bytes_eq}
-use Rattle.indexmap.specs.IndexMap.{UpdatesBy}
+use Rattle.std.proofs.Common.{◌≡◌, false, true≢false, ℕ, List, Option, Some, IsSome, option_map, unwrap_or, sym, ◌∙◌, ap, subst}
 use Rattle.stored_types.specs.declared.mark.Mark.{Mark}
 use Rattle.stored_types.specs.Mark.{is_marked}
 use Rattle.dedup_cache.specs.Cache.{ArePast}
-use Rattle.dedup_cache.specs.Kept.{KeepMarks}
+use Rattle.dedup_cache.specs.Kept.{Changes, KeepMarks}
 use Rattle.dedup_cache.proofs.KeptMarks.{kept_pushed}
 use Rattle.dedup_cache.proofs.cache.Cache.mark.Goals as goal
 
@@ -16,10 +14,9 @@ invariant_of-self c =
     let ready : Some c.in-Some.copy.items ≡ Some key = ap (option_map (λ k. k.items)) (sym c.in-Some.is ∙ c.take.ensures.value) ∙ ap (λ v. v.ready) view ∙ c.requires.ready in
     let copy : c.in-Some.copy.items ≡ key = ap (λ (o : Option (List ℕ)). unwrap_or o key) ready in
     let new = c.insert.new.self in
-    let ok = subst (λ r. OnOk r (UpdatesBy (λ x y. bytes_eq x.items y.items) (λ k. bytes_eq c.in-Some.copy.items k.items) inside.moments new (Some c.args.now))) c.unwrap-old.ensures c.insert.ensures.updates in
-    let updates = subst (λ (k : List ℕ). UpdatesBy (λ x y. bytes_eq x.items y.items) (λ q. bytes_eq k q.items) inside.moments new (Some c.args.now)) copy ok in
+    let changes = subst (λ (k : List ℕ). Changes k (Some c.args.now) inside.moments new) copy c.insert.ensures in
     let marks = sym (ap (λ v. v.marks) view) in
     let none = subst (λ (l : List Mark). is_marked key l ≡ false) marks c.requires.new in
     let past = subst (ArePast c.args.now.0) marks c.requires.past in
-    let pushed = kept_pushed inside.moments new key c.args.now inside.marks.items c.self.invariant.0 none past updates in
+    let pushed = kept_pushed inside.moments new key c.args.now inside.marks.items c.self.invariant.0 none past changes in
     (subst (λ (l : List Mark). KeepMarks l new) (sym {A = List Mark} c.push_back_reserved.ensures.items) pushed, λ some. absurd (true≢false (sym (subst IsSome c.take.ensures.after some))))

@@ -8,5 +8,5 @@ pub returns : goal.returns
 returns c =
     let key = c.args.key.now in
     let inside = c.self.inside in
-    c.contains_key.ensures ∙ ap (λ (k : List ℕ). is_some (found k inside.moments)) c.bytes.ensures ∙ ap is_some (c.self.invariant.0.same key)
+    c.is_some.ensures ∙ ap is_some (c.get.ensures ∙ ap (λ (k : List ℕ). found k inside.moments) c.bytes.ensures ∙ c.self.invariant.0.same key)
     ∙ has_moment key inside.marks.items ∙ ap (λ v. is_marked key v.marks) c.self.view_is
