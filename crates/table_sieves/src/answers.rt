@@ -1,5 +1,6 @@
 //! What is answered to a case.
-use crate::experts::{chosen, classified, enriched, found, found_among};
+use crate::experts::{chosen, classified, enriched};
+use crate::prefixes::{enriched_among, found, found_alike, found_among};
 use crate::sieves::{listed, refusal, tree};
 use crate::verdicts::{holders, verdict};
 use base_types::OutOfMemory;
@@ -18,6 +19,8 @@ use std::alloc::{AllocError, Global};
 /// | `enrich`, `overwrite` | an event and networks with what they set | the event with what its network sets |
 /// | `find` | an address and networks | which is the longest that holds it, from 0 |
 /// | `find among` | an address and a number of networks | the same of that many |
+/// | `find alike` | a seed, and numbers of networks and of addresses | how many are found as by a look at each network, and how many in none |
+/// | `enrich among` | a number of networks, and how often each is looked up | how many of the events got the number of their network |
 /// | `allow`, `deny` | names and an event | the fields that tell it from others |
 pub fn answer(alloc: Global, line: &str) -> Result<String, AllocError> {
     let Some((call, input)) = line.split_once(": ") else {
@@ -41,6 +44,8 @@ fn answer_to(alloc: Global, call: &str, input: &str) -> Result<String, OutOfMemo
         "overwrite" => enriched(alloc, true, input),
         "find" => found(alloc, input),
         "find among" => found_among(alloc, input),
+        "find alike" => found_alike(alloc, input),
+        "enrich among" => enriched_among(alloc, input),
         "allow" => chosen(alloc, true, input),
         "deny" => chosen(alloc, false, input),
         _ => Ok("no call".to_string(alloc)?),

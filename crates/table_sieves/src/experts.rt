@@ -1,10 +1,10 @@
 //! What experts make of events.
 use crate::messages::{event_text, fields_of, parts_of};
+use crate::prefixes::{network_of, table_of};
 use base_types::{OutOfMemory, Text, TextList};
 use event_model::Fields;
 use expert_rules::{DedupRule, FieldsList, dedup_fields, enrich, taxonomy};
 use prefix_table::{NetworkList, PrefixTable};
-use scalar_net::{Network, read_ip, read_network};
 use std::alloc::Global;
 
 /// An event with its taxonomy.
@@ -35,54 +35,6 @@ fn names_in(alloc: Global, text: &str) -> Result<TextList, OutOfMemory> {
         }
     }
     Ok(TextList::from(names))
-}
-
-// The network that a word writes. Another word counts as want of memory, which ends the program.
-fn network_of(word: &str) -> Result<Network, OutOfMemory> {
-    match read_network(word.as_bytes()) {
-        Ok(network) => Ok(network),
-        Err(_) => Err(OutOfMemory),
-    }
-}
-
-/// Which of the networks, from 0, is the longest that holds an address.
-pub fn found(alloc: Global, case: &str) -> Result<String, OutOfMemory> {
-    let (address, networks) = parts_of(case);
-    let mut rows = Vec::new(alloc);
-    for word in networks.split_whitespace() {
-        rows.push(network_of(word)?)?;
-    }
-    place(alloc, &NetworkList::from(rows), address)
-}
-
-/// The same of so many networks: 10.0.0.0/24, 10.0.1.0/24, and so on.
-pub fn found_among(alloc: Global, case: &str) -> Result<String, OutOfMemory> {
-    let (address, number) = parts_of(case);
-    let mut rows = Vec::new(alloc);
-    for i in 0..number.parse::<u16>().unwrap_or(0) {
-        let (high, low) = (i / 256, i % 256);
-        let word = format!(in alloc; "10.{high}.{low}.0/24")?;
-        rows.push(network_of(word.as_str())?)?;
-    }
-    place(alloc, &NetworkList::from(rows), address)
-}
-
-fn place(alloc: Global, rows: &NetworkList, address: &str) -> Result<String, OutOfMemory> {
-    let table = table_of(alloc, rows)?;
-    let Ok(ip) = read_ip(address.as_bytes()) else {
-        return Ok("no address".to_string(alloc)?);
-    };
-    match table.find(&ip) {
-        Some(row) => Ok(row.to_string(alloc)?),
-        None => Ok("none".to_string(alloc)?),
-    }
-}
-
-fn table_of(alloc: Global, rows: &NetworkList) -> Result<PrefixTable, OutOfMemory> {
-    if rows.len() >= 1 << 31 {
-        return Err(OutOfMemory);
-    }
-    PrefixTable::build(alloc, rows)
 }
 
 /// An event with what the longest network that holds its address sets; each network stands with its fields behind ` | `.

@@ -6,6 +6,7 @@ mod conditions;
 mod experts;
 mod items;
 mod messages;
+mod prefixes;
 mod sieves;
 mod texts;
 mod verdicts;
