@@ -1,0 +1,3 @@
+mod Keeps
+mod Positions
+mod Prefixes
