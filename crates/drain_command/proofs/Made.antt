@@ -1,26 +1,29 @@
 -- The steps that a call makes, and what they leave of a store's history.
-use Rattle.std.proofs.Common.{◌≡◌, ◌≢◌, ◌≤◌, ◌+◌, ◌-◌, ◌++◌, [], ℕ, List, length, take, Option, Some, None, Ok, Err, inl, inr, refl, sym, ap, subst, ◌∙◌, arith, length-append}
+use Rattle.std.proofs.Common.{◌≡◌, ◌≢◌, ◌+◌, ◌-◌, ◌++◌, [], ℕ, List, length, take, Bool, true, false, Option, Some, None, Ok, Err, IfErr, inl, inr, refl, sym, ap, subst, ◌∙◌, arith, length-append}
 use Rattle.std.proofs.lemmas.List.{append-nil}
-use Rattle.edge_traits.specs.Disk.{DiskView, Image}
+use Rattle.edge_traits.specs.Disk.{DiskView, Image, Leaves}
 use Rattle.edge_traits.specs.Shelf.{ShelfView}
 use Rattle.edge_traits.specs.Sink.{SinkView}
 use Rattle.edge_traits.proofs.Outputs.{Took-nothing}
 use Rattle.step_code.specs.declared.base.Base.{Base}
-use Rattle.step_code.specs.declared.output.Output.{Output}
 use Rattle.step_code.specs.declared.step.Step.{Step}
 use Rattle.step_code.specs.History.{replay}
 use Rattle.step_code.specs.Rules.{Meaning}
 use Rattle.store_image.specs.Opens.{Opens}
-use Rattle.store_image.specs.Stands.{IsSealOf}
+use Rattle.store_image.specs.Stands.{IsSealOf, StandsFor}
 use Rattle.journal_book.specs.Book.{BookView}
-use Rattle.journal_book.specs.Opening.{IsReopenFault, StandsNow}
-use Rattle.journal_book.specs.Outputs.{AreCompleted, AreWritten, HaveNoneSealed, IsNoDamage}
+use Rattle.journal_book.specs.Opening.{opened as opened_with, IsReopenFault, IsReopened, StandsNow, TellsLong}
+use Rattle.journal_book.specs.Outputs.{AreCompleted, AreWritten, HaveNoneSealed}
 use Rattle.journal_book.specs.declared.book_fault.BookFault.{BookFault}
 use Rattle.journal_book.specs.declared.book_fault.BookFault.TheVariants as fault
 use Rattle.book_runs.specs.GoesOn.{GoesOn}
 use Rattle.book_runs.proofs.Going.{goes_further, longer_on}
 use Rattle.store_calls.specs.Calls.{IsOpened as IsOpenedCall}
-use Rattle.store_calls.proofs.Called.{called, count_called, sealed_state, AllAccounted}
+use Rattle.store_calls.proofs.Called.{called, count_called, opened_so, sealed_state, AllAccounted}
+use Rattle.store_commands.specs.Completed.{IsFinished}
+use Rattle.store_commands.specs.Ends.{end_of, AreWrittenAt}
+use Rattle.store_commands.specs.declared.end.StoreEnd.{StoreEnd}
+use Rattle.store_commands.specs.declared.end.StoreEnd.TheVariants as end
 use Rattle.turn_order.specs.Turn.{collectors}
 use Rattle.drain_turns.specs.Drained.{Drains, Place}
 use Rattle.drain_turns.specs.Turn.{Outside}
@@ -28,11 +31,9 @@ use Rattle.drain_turns.specs.declared.end.TurnsEnd.{TurnsEnd}
 use Rattle.drain_turns.specs.declared.end.TurnsEnd.TheVariants as last
 use Rattle.drain_loop.specs.Calls.{opening_of, place_with, IsDrained, IsOpened}
 use Rattle.drain_loop.specs.Feeds.{FailedBeyond}
-use Rattle.drain_command.specs.Drained.{start, Drained, IsCallIn, IsDrainCall, IsFailedBeyond, IsStill}
-use Rattle.drain_command.specs.Finished.{end_of, AreCompletedAt, AreWrittenAt, IsFinished, IsTurned}
+use Rattle.drain_command.specs.Drained.{start, Drained, IsCallIn, IsDrainCall, IsFailedBeyond, IsStill, MayEndDrain}
+use Rattle.drain_command.specs.Turned.{ended, IsTurned}
 use Rattle.drain_command.specs.declared.draining.Asked.{Asked}
-use Rattle.drain_command.specs.declared.end.DrainEnd.{DrainEnd}
-use Rattle.drain_command.specs.declared.end.DrainEnd.TheVariants as end
 
 module _ {D R : Type 0} {disk : D → DiskView} where
   -- the opening, and then the turns
@@ -63,6 +64,18 @@ pub record Reopened {D R : Type 0} (disk : D → DiskView) (m : Meaning) (files 
   pub opens : Opens m files book.generation book.base book.steps
   pub tells : (now : Image) × ((disk book.disk).told ≡ Some now)
   pub call : (first : Base) (steps more : List Step) → StandsNow m first steps more (disk old) → IsOpenedCall disk m first steps more old book
+
+pub reopened_so : {D R : Type 0} {disk : D → DiskView} {m : Meaning} (files : Image) (old : D) (rules : R) (limit : ℕ) (book : BookView D R) → book ≡ opened_with m rules book.generation book.base book.steps limit book.disk
+    → Opens m files book.generation book.base book.steps → TellsLong (disk book.disk).told book.state.outs
+    → ((first : Base) (steps more : List Step) → StandsNow m first steps more (disk old) → IsReopened disk m first steps more book)
+    → ((first : Base) (steps more : List Step) → StandsNow m first steps more (disk old) → Leaves (disk old) (disk book.disk) (StandsFor m first steps more)) → Reopened disk m files old book
+reopened_so {D = D} {R = R} files old rules limit book is opens long kept any_moment = record {
+  all = ap (λ (b : BookView D R). b.kept) is;
+  state = ap (λ (b : BookView D R). b.state) is;
+  opens = opens;
+  tells = (long.0, long.1);
+  call = λ first steps more was. opened_so first steps more old rules limit book is (kept first steps more was) (any_moment first steps more was);
+}
 
 module _ {D R : Type 0} {disk : D → DiskView} (o : Outside) (accounts : AllAccounted o.meaning) (files : Image) (asked : Asked) (old : D) (opened mid later : BookView D R)
     (is : Reopened disk o.meaning files old opened) (why : TurnsEnd) (turned : IsTurned disk o asked opened mid why) (behind : GoesOn disk o.meaning mid later []) where
@@ -117,23 +130,32 @@ module _ {D R : Type 0} {disk : D → DiskView} (o : Outside) (accounts : AllAcc
   whole None after completes untold tells each = absurd (cc (untold refl, tells))
   whole (Some before) after completes untold tells each = (before, each before refl)
 
-  -- by how it ended
-  pub drain_called : (now : ShelfView) → IsFailedBeyond o now mid.state why → (e : DrainEnd) (a b : SinkView) → IsFinished mid.state why e a b → (e ≢ end.Disk → later.kept ≡ length later.steps)
-      → ((before after : Image) → (disk mid.disk).told ≡ Some before → (disk later.disk).told ≡ Some after → AreCompletedAt e (disk later.disk).may_leave mid.state.outs before after)
+  -- the disk failed within the turns
+  pub drain_broken : (now : ShelfView) (sink : SinkView) → IsDrainCall disk o now files asked (disk old) (disk later.disk) (Err end.Disk) sink sink
+  drain_broken now sink = (Took-nothing sink, inr (why, drained made_durable refl))
+
+  -- by how the book was finished behind them
+  pub drain_called : (now : ShelfView) → IsFailedBeyond o now mid.state why → why ≢ last.Disk → (is_said : Bool) → (why ≡ last.Memory → is_said ≡ false) → (e : StoreEnd) (a b : SinkView) → IsFinished is_said mid.state e a b
+      → (e ≢ end.Disk → later.kept ≡ length later.steps)
+      → ((before after : Image) → (disk mid.disk).told ≡ Some before → (disk later.disk).told ≡ Some after → AreWrittenAt e (AreCompleted (disk later.disk).may_leave mid.state.outs before after))
       → ((first : Base) (history : List Step) → StandsNow o.meaning first history [] (disk later.disk) → HaveNoneSealed first.outs → AreWrittenAt e (AreWritten o.meaning first history (disk later.disk)))
       → ((files : Image) (file at : ℕ) → (disk mid.disk).told ≡ Some files → e ≢ end.Damaged file at)
-      → ((disk mid.disk).told ≡ None → (disk later.disk).told ≡ None) → IsDrainCall disk o now files asked (disk old) (disk later.disk) e a b
+      → ((disk mid.disk).told ≡ None → (disk later.disk).told ≡ None) → IsDrainCall disk o now files asked (disk old) (disk later.disk) (ended e is_said why) a b
   unfolding drained
-  drain_called now failed (end.Turns told) a b finished all completed written undamaged untold =
-      subst (λ (w : TurnsEnd). IsDrainCall disk o now files asked (disk old) (disk later.disk) (end.Turns w) a b) (sym finished.0)
-      (finished.1, drained (length turned.made) (all_number (all (λ same. cc (same)))), refl, record { completed = λ after tells. whole (disk mid.disk).told after _ untold tells (λ before was. completed before after was tells); written = written }, finished.2, failed)
-  drain_called now failed end.Sink a b finished all completed written undamaged untold =
-      (why, finished.0, drained (length turned.made) (all_number (all (λ same. cc (same)))), refl, record { completed = λ after tells. whole (disk mid.disk).told after _ untold tells (λ before was. completed before after was tells); written = written }, finished.1, failed)
-  drain_called now failed end.Memory a b finished all completed written undamaged untold = (finished, inr (why, drained (length turned.made) (all_number (all (λ same. cc (same)))), refl))
-  drain_called now failed end.Disk a b finished all completed written undamaged untold = (finished, inr (why, drained made_durable refl))
-  drain_called now failed (end.Store have) a b finished all completed written undamaged untold = absurd finished
-  drain_called now failed (end.Damaged file at) a b finished all completed written undamaged untold =
+  drain_called now failed whole_disk true memory end.Done a b finished all completed written undamaged untold =
+      ((whole_disk, λ same. cc (memory same)), drained (length turned.made) (all_number (all (λ same. cc (same)))), refl, record { completed = λ after tells. whole (disk mid.disk).told after _ untold tells (λ before was. completed before after was tells); written = written }, finished, failed)
+  drain_called now failed whole_disk false memory end.Done a b finished all completed written undamaged untold = (finished, inr (why, drained (length turned.made) (all_number (all (λ same. cc (same)))), refl))
+  drain_called now failed whole_disk is_said memory end.Sink a b finished all completed written undamaged untold =
+      (why, (whole_disk, λ same. cc (finished.0, memory same)), drained (length turned.made) (all_number (all (λ same. cc (same)))), refl, record { completed = λ after tells. whole (disk mid.disk).told after _ untold tells (λ before was. completed before after was tells); written = written }, finished.1, failed)
+  drain_called now failed whole_disk is_said memory end.Memory a b finished all completed written undamaged untold = (finished, inr (why, drained (length turned.made) (all_number (all (λ same. cc (same)))), refl))
+  drain_called now failed whole_disk is_said memory end.Disk a b finished all completed written undamaged untold = (finished, inr (why, drained made_durable refl))
+  drain_called now failed whole_disk is_said memory (end.Damaged file at) a b finished all completed written undamaged untold =
       let mid_told = (turned.run.others is.tells.0 is.tells.1).told is.tells.0 is.tells.1 in absurd (undamaged mid_told.0 file at mid_told.1 refl)
+  drain_called now failed whole_disk is_said memory (end.Store have) a b finished all completed written undamaged untold = absurd finished
+  drain_called now failed whole_disk is_said memory end.Refused a b finished all completed written undamaged untold = absurd finished
+  drain_called now failed whole_disk is_said memory (end.NoDump n) a b finished all completed written undamaged untold = absurd finished
+  drain_called now failed whole_disk is_said memory (end.Spent next) a b finished all completed written undamaged untold = absurd finished
+  drain_called now failed whole_disk is_said memory (end.Full bytes) a b finished all completed written undamaged untold = absurd finished
 
 -- a feed that failed ended the turns beyond these retries
 pub failed_beyond : (o : Outside) (now : ShelfView) (s : Base) (end_is : TurnsEnd) → ((name : List ℕ) → end_is ≡ last.Failed name → FailedBeyond (collectors o.meaning s) o.shelf now name) → IsFailedBeyond o now s end_is
@@ -150,34 +172,45 @@ failed_beyond o now s (last.Full bytes) each = tt
 failed_beyond o now s last.Disk each = tt
 failed_beyond o now s last.Memory each = tt
 
--- outputs that are complete are so at each end
-pub completed_at : (e : DrainEnd) (may_leave : ℕ → List ℕ → Type 0) (outs : List Output) (before after : Image) → AreCompleted may_leave outs before after → AreCompletedAt e may_leave outs before after
-completed_at (end.Turns why) may_leave outs before after is = is
-completed_at end.Memory may_leave outs before after is = tt
-completed_at end.Disk may_leave outs before after is = tt
-completed_at end.Sink may_leave outs before after is = is
-completed_at (end.Store have) may_leave outs before after is = tt
-completed_at (end.Damaged file at) may_leave outs before after is = tt
+-- ---- by how the command ends
 
-pub written_at : (e : DrainEnd) (written : Type 0) → written → AreWrittenAt e written
-written_at (end.Turns why) written is = is
-written_at end.Memory written is = tt
-written_at end.Disk written is = tt
-written_at end.Sink written is = is
-written_at (end.Store have) written is = tt
-written_at (end.Damaged file at) written is = tt
+-- where turns are told, their summary was asked for
+pub told_turns : (e : StoreEnd) (is_said : Bool) (why told : TurnsEnd) → ended e is_said why ≡ Ok told → (told ≡ why) × (is_said ≡ true)
+told_turns end.Done true why told is = (cc, refl)
+told_turns end.Done false why told is = absurd (cc)
+told_turns end.Memory is_said why told is = absurd (cc)
+told_turns end.Disk is_said why told is = absurd (cc)
+told_turns end.Sink is_said why told is = absurd (cc)
+told_turns (end.Store have) is_said why told is = absurd (cc)
+told_turns (end.Damaged file at) is_said why told is = absurd (cc)
+told_turns end.Refused is_said why told is = absurd (cc)
+told_turns (end.NoDump n) is_said why told is = absurd (cc)
+told_turns (end.Spent next) is_said why told is = absurd (cc)
+told_turns (end.Full bytes) is_said why told is = absurd (cc)
 
--- a fault that is no damage ends so
-pub ends_undamaged : (f : BookFault) (file at : ℕ) → IsNoDamage f → end_of f ≢ end.Damaged file at
-ends_undamaged fault.Disk file at none = λ same. cc (same)
-ends_undamaged (fault.Damaged other place) file at none = absurd none
-ends_undamaged (fault.Store have) file at none = λ same. cc (same)
-ends_undamaged fault.Refused file at none = λ same. cc (same)
-ends_undamaged fault.OutOfMemory file at none = λ same. cc (same)
+pub ends_finished : (e : StoreEnd) (is_said : Bool) (why : TurnsEnd) (s : Base) (old new : SinkView) → IsFinished is_said s e old new → IfErr (ended e is_said why) MayEndDrain
+ends_finished end.Done true why s old new finished = tt
+ends_finished end.Done false why s old new finished = tt
+ends_finished end.Memory is_said why s old new finished = tt
+ends_finished end.Disk is_said why s old new finished = tt
+ends_finished end.Sink is_said why s old new finished = tt
+ends_finished (end.Damaged file at) is_said why s old new finished = tt
+ends_finished (end.Store have) is_said why s old new finished = absurd finished
+ends_finished end.Refused is_said why s old new finished = absurd finished
+ends_finished (end.NoDump n) is_said why s old new finished = absurd finished
+ends_finished (end.Spent next) is_said why s old new finished = absurd finished
+ends_finished (end.Full bytes) is_said why s old new finished = absurd finished
+
+pub ends_closed : (m : Meaning) (told : Option Image) (f : BookFault) → IsReopenFault m told f → MayEndDrain (end_of f)
+ends_closed m told fault.Disk bad = tt
+ends_closed m told (fault.Damaged file at) bad = tt
+ends_closed m told (fault.Store have) bad = tt
+ends_closed m told fault.Refused bad = absurd bad
+ends_closed m told fault.OutOfMemory bad = tt
 
 -- a store that couldn't be opened
 pub drain_closed : {D : Type 0} (disk : D → DiskView) (o : Outside) (now : ShelfView) (files : Image) (asked : Asked) (old new : DiskView) (told : Option Image) (f : BookFault) (sink : SinkView)
-    → told ≡ Some files → IsReopenFault o.meaning told f → IsStill o.meaning old new → IsDrainCall disk o now files asked old new (end_of f) sink sink
+    → told ≡ Some files → IsReopenFault o.meaning told f → IsStill o.meaning old new → IsDrainCall disk o now files asked old new (Err (end_of f)) sink sink
 drain_closed disk o now files asked old new told fault.Disk sink tells bad still = (Took-nothing sink, inl still)
 drain_closed disk o now files asked old new told (fault.Damaged file at) sink tells bad still = (Took-nothing sink, (bad files tells).0, (bad files tells).1, still)
 drain_closed disk o now files asked old new told (fault.Store have) sink tells bad still = (bad.0, bad.1 files tells, Took-nothing sink, still)

@@ -1,12 +1,11 @@
 -- A drain that nothing hinders.
-use Rattle.std.proofs.Common.{◌≡◌, ◌<◌, ℕ, Bool, true, false, List, [], ◌∷◌, ◌++◌, length, map, Option, Some, None, refl, ap, arith}
+use Rattle.std.proofs.Common.{◌≡◌, ℕ, Bool, true, false, List, [], ◌∷◌, ◌++◌, length, map, Option, Some, None, Result, Ok, Err, refl, ap, arith}
 use Rattle.std.specs.List.{AllByRecursion}
 use Rattle.edge_traits.specs.Disk.{DiskView, Image, IsImage}
 use Rattle.edge_traits.specs.Shelf.{ShelfView}
 use Rattle.edge_traits.specs.Sink.{SinkView}
 use Rattle.step_code.specs.declared.base.Base.{Base}
 use Rattle.step_code.specs.declared.rules.Facts.{Facts}
-use Rattle.step_code.specs.declared.step.Step.{Step}
 use Rattle.step_code.specs.declared.step.StepKind.{StepKind}
 use Rattle.step_code.specs.History.{first, replay}
 use Rattle.step_code.specs.Rules.{Meaning}
@@ -15,6 +14,8 @@ use Rattle.store_image.specs.Files.{root_file}
 use Rattle.journal_book.specs.Laws.{WhatStandsOpens}
 use Rattle.journal_book.proofs.Recovering.{some_root}
 use Rattle.journal_book.proofs.StandsOpen.{stands_undamaged}
+use Rattle.store_commands.specs.declared.end.StoreEnd.{StoreEnd}
+use Rattle.store_commands.specs.declared.end.StoreEnd.TheVariants as end
 use Rattle.drain_turns.specs.Drained.{behind_all}
 use Rattle.drain_turns.specs.Laws.{IsFree, IsShown, MayOpen}
 use Rattle.drain_turns.specs.Turn.{Outside}
@@ -26,8 +27,6 @@ use Rattle.drain_loop.specs.Calls.{opening_of, reload_of, round_of, rounds_of, w
 use Rattle.drain_command.specs.Drained.{start, Drained, IsDrainCall, IsToldEnd}
 use Rattle.drain_command.specs.Laws.{EndIdly, EndsIdly, IsUnhindered}
 use Rattle.drain_command.specs.declared.draining.Asked.{Asked}
-use Rattle.drain_command.specs.declared.end.DrainEnd.{DrainEnd}
-use Rattle.drain_command.specs.declared.end.DrainEnd.TheVariants as end
 
 -- a drain opens with a start, another bundle and rounds
 rounds_open : (bots : List Facts) → AllByRecursion MayOpen (map (λ f. round_of f.bot) bots)
@@ -86,11 +85,16 @@ module _ {D : Type 0} (disk : D → DiskView) (o : Outside) (feeds : List (List 
       stands_undamaged o.meaning opens is.bots is.bundle is.steps is.more files is.loads is.legal is.small (is.stands.each files (honest files is.disk_tells)) file at damaged
 
 pub drains_end_idle : {D : Type 0} (disk : D → DiskView) (old new : DiskView) → ((image : Image) → old.told ≡ Some image → IsImage old.may_leave image)
-    → (o : Outside) → WhatStandsOpens o.meaning → (feeds : List (List ℕ × List ℕ)) (files : Image) (asked : Asked) → IsUnhindered disk o feeds files asked old new → (now : ShelfView) (e : DrainEnd) (before after : SinkView)
+    → (o : Outside) → WhatStandsOpens o.meaning → (feeds : List (List ℕ × List ℕ)) (files : Image) (asked : Asked) → IsUnhindered disk o feeds files asked old new → (now : ShelfView) (e : Result TurnsEnd StoreEnd) (before after : SinkView)
     → IsDrainCall disk o now files asked old new e before after → EndsIdly e
-drains_end_idle disk old new honest o opens feeds files asked is now (end.Turns why) before after call = turns_end disk o feeds files asked old new is why call.0 call.1
-drains_end_idle disk old new honest o opens feeds files asked is now end.Memory before after call = tt
-drains_end_idle disk old new honest o opens feeds files asked is now end.Disk before after call = tt
-drains_end_idle disk old new honest o opens feeds files asked is now end.Sink before after call = tt
-drains_end_idle disk old new honest o opens feeds files asked is now (end.Store have) before after call = has_root disk o feeds files asked old new is honest call.1
-drains_end_idle disk old new honest o opens feeds files asked is now (end.Damaged file at) before after call = undamaged disk o feeds files asked old new is honest opens file at call.2
+drains_end_idle disk old new honest o opens feeds files asked is now (Ok why) before after call = turns_end disk o feeds files asked old new is why call.0 call.1
+drains_end_idle disk old new honest o opens feeds files asked is now (Err end.Memory) before after call = tt
+drains_end_idle disk old new honest o opens feeds files asked is now (Err end.Disk) before after call = tt
+drains_end_idle disk old new honest o opens feeds files asked is now (Err end.Sink) before after call = tt
+drains_end_idle disk old new honest o opens feeds files asked is now (Err (end.Store have)) before after call = has_root disk o feeds files asked old new is honest call.1
+drains_end_idle disk old new honest o opens feeds files asked is now (Err (end.Damaged file at)) before after call = undamaged disk o feeds files asked old new is honest opens file at call.2
+drains_end_idle disk old new honest o opens feeds files asked is now (Err end.Done) before after call = absurd call
+drains_end_idle disk old new honest o opens feeds files asked is now (Err end.Refused) before after call = absurd call
+drains_end_idle disk old new honest o opens feeds files asked is now (Err (end.NoDump n)) before after call = absurd call
+drains_end_idle disk old new honest o opens feeds files asked is now (Err (end.Spent next)) before after call = absurd call
+drains_end_idle disk old new honest o opens feeds files asked is now (Err (end.Full bytes)) before after call = absurd call

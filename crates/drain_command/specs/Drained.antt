@@ -1,5 +1,5 @@
 -- What `drain` makes of a store.
-use Rattle.std.specs.Prelude.{◌≡◌, ◌≢◌, ◌⊎◌, ◌<◌, ℕ, List, [], ◌++◌, length, take, Some}
+use Rattle.std.specs.Prelude.{◌≡◌, ◌≢◌, ◌⊎◌, ◌<◌, ℕ, List, [], ◌++◌, length, take, Some, Result, Ok, Err}
 use Rattle.edge_traits.specs.Disk.{DiskView, Image}
 use Rattle.edge_traits.specs.Output.{TookFront}
 use Rattle.edge_traits.specs.Shelf.{ShelfView}
@@ -17,6 +17,8 @@ use Rattle.store_image.specs.Stands.{IsSealOf}
 use Rattle.journal_book.specs.Opening.{StandsNow}
 use Rattle.journal_book.specs.Outputs.{AreCompleted, AreWritten, HaveNoneSealed}
 use Rattle.store_calls.specs.Calls.{IsCall, StandsOn}
+use Rattle.store_commands.specs.declared.end.StoreEnd.{StoreEnd}
+use Rattle.store_commands.specs.declared.end.StoreEnd.TheVariants as end
 use Rattle.turn_order.specs.Turn.{collectors}
 use Rattle.drain_turns.specs.Drained.{Drains, Place}
 use Rattle.drain_turns.specs.Turn.{Outside}
@@ -25,12 +27,6 @@ use Rattle.drain_turns.specs.declared.end.TurnsEnd.TheVariants as last
 use Rattle.drain_loop.specs.Calls.{opening_of}
 use Rattle.drain_loop.specs.Feeds.{FailedBeyond}
 use Rattle.drain_command.specs.declared.draining.Asked.{Asked}
-use Rattle.drain_command.specs.declared.end.DrainEnd.{DrainEnd}
-use Rattle.drain_command.specs.declared.end.DrainEnd.TheVariants as end
-
--- the codes of a generation's steps have at most so many bytes together
-abbrev pub most_step_bytes : ℕ
-most_step_bytes = 67_108_864
 
 -- where a call begins on a store that opens with this state and with these steps behind it
 abbrev pub start : Meaning → Base → List Step → Asked → Place
@@ -81,21 +77,39 @@ abbrev pub IsFailedBeyond : Outside → ShelfView → Base → TurnsEnd → Type
 IsFailedBeyond o now s (last.Failed name) = FailedBeyond (collectors o.meaning s) o.shelf now name
 IsFailedBeyond o now s other = Unit {0}
 
+-- the ends of a store that a drain may come to
+abbrev pub MayEndDrain : StoreEnd → Type 0
+MayEndDrain end.Memory = Unit {0}
+MayEndDrain end.Disk = Unit {0}
+MayEndDrain end.Sink = Unit {0}
+MayEndDrain (end.Store have) = Unit {0}
+MayEndDrain (end.Damaged file at) = Unit {0}
+MayEndDrain end.Done = ⊥
+MayEndDrain end.Refused = ⊥
+MayEndDrain (end.NoDump n) = ⊥
+MayEndDrain (end.Spent next) = ⊥
+MayEndDrain (end.Full bytes) = ⊥
+
 -- the shelf is `now` behind the call. The turns ended by a cause of theirs: all steps are durable, the outputs are whole, and the
 -- summary is printed, or a front of it where the sink failed. Where memory ran out or the disk failed nothing is printed; behind
--- want of memory the steps are durable. Or there is no store, or it is damaged
-abbrev pub IsDrainCall : {D : Type 0} → (D → DiskView) → Outside → ShelfView → Image → Asked → DiskView → DiskView → DrainEnd → SinkView → SinkView → Type 0
-IsDrainCall disk o now files asked old new (end.Turns why) before after =
+-- want of memory the steps are durable. Or there is no store, or it is damaged. It has no other end
+abbrev pub IsDrainCall : {D : Type 0} → (D → DiskView) → Outside → ShelfView → Image → Asked → DiskView → DiskView → Result TurnsEnd StoreEnd → SinkView → SinkView → Type 0
+IsDrainCall disk o now files asked old new (Ok why) before after =
     IsToldEnd why × (d : Drained disk o files asked old new why) × IsDurable d × HasOutputs o.meaning new d.state.outs × Took before after (summary d.state)
     × IsFailedBeyond o now d.state why
-IsDrainCall disk o now files asked old new end.Sink before after =
+IsDrainCall disk o now files asked old new (Err end.Sink) before after =
     (why : TurnsEnd) × IsToldEnd why × (d : Drained disk o files asked old new why) × IsDurable d × HasOutputs o.meaning new d.state.outs × TookFront before after (summary d.state)
     × IsFailedBeyond o now d.state why
-IsDrainCall disk o now files asked old new end.Memory before after =
+IsDrainCall disk o now files asked old new (Err end.Memory) before after =
     Took before after [] × (IsStill o.meaning old new ⊎ ((why : TurnsEnd) × (d : Drained disk o files asked old new why) × IsDurable d))
-IsDrainCall disk o now files asked old new end.Disk before after =
+IsDrainCall disk o now files asked old new (Err end.Disk) before after =
     Took before after [] × (IsStill o.meaning old new ⊎ ((why : TurnsEnd) × Drained disk o files asked old new why))
-IsDrainCall disk o now files asked old new (end.Store have) before after =
+IsDrainCall disk o now files asked old new (Err (end.Store have)) before after =
     (have ≡ 0) × (files root_file ≡ []) × Took before after [] × IsStill o.meaning old new
-IsDrainCall disk o now files asked old new (end.Damaged file at) before after =
+IsDrainCall disk o now files asked old new (Err (end.Damaged file at)) before after =
     Took before after [] × (0 < length (files root_file)) × IsDamagedStore o.meaning files file at × IsStill o.meaning old new
+IsDrainCall disk o now files asked old new (Err end.Done) before after = ⊥
+IsDrainCall disk o now files asked old new (Err end.Refused) before after = ⊥
+IsDrainCall disk o now files asked old new (Err (end.NoDump n)) before after = ⊥
+IsDrainCall disk o now files asked old new (Err (end.Spent next)) before after = ⊥
+IsDrainCall disk o now files asked old new (Err (end.Full bytes)) before after = ⊥

@@ -1,5 +1,5 @@
 -- What holds of a drain that nothing hinders.
-use Rattle.std.specs.Prelude.{◌≡◌, ◌++◌, ℕ, List, None, Some}
+use Rattle.std.specs.Prelude.{◌≡◌, ◌++◌, ℕ, List, None, Some, Result, Ok, Err}
 use Rattle.edge_traits.specs.Disk.{DiskView, Image}
 use Rattle.edge_traits.specs.Shelf.{ShelfView}
 use Rattle.edge_traits.specs.Sink.{SinkView}
@@ -12,6 +12,8 @@ use Rattle.step_code.specs.Spent.{NothingIsSpent}
 use Rattle.step_code.specs.State.{bots_in_force}
 use Rattle.store_image.specs.Stored.{IsStored}
 use Rattle.journal_book.specs.Opening.{StandsNow}
+use Rattle.store_commands.specs.declared.end.StoreEnd.{StoreEnd}
+use Rattle.store_commands.specs.declared.end.StoreEnd.TheVariants as end
 use Rattle.drain_turns.specs.Drained.{behind_all}
 use Rattle.drain_turns.specs.Laws.{opened, HasFeeds, HasRoom}
 use Rattle.drain_turns.specs.Turn.{Outside}
@@ -19,8 +21,6 @@ use Rattle.drain_turns.specs.declared.end.TurnsEnd.{TurnsEnd}
 use Rattle.drain_turns.specs.declared.end.TurnsEnd.TheVariants as last
 use Rattle.drain_command.specs.Drained.{start, Drained, IsDrainCall}
 use Rattle.drain_command.specs.declared.draining.Asked.{Asked}
-use Rattle.drain_command.specs.declared.end.DrainEnd.{DrainEnd}
-use Rattle.drain_command.specs.declared.end.DrainEnd.TheVariants as end
 
 -- turns ended because nothing was left to do, or a feed failed
 abbrev pub EndIdly : TurnsEnd → Type 0
@@ -38,13 +38,12 @@ EndIdly last.Disk = ⊥
 EndIdly last.Memory = ⊥
 
 -- a drain did all that there was to do, or the outside or memory failed: of the outside the counts of faults tell
-abbrev pub EndsIdly : DrainEnd → Type 0
-EndsIdly (end.Turns why) = EndIdly why
-EndsIdly end.Memory = Unit {0}
-EndsIdly end.Disk = Unit {0}
-EndsIdly end.Sink = Unit {0}
-EndsIdly (end.Store have) = ⊥
-EndsIdly (end.Damaged file at) = ⊥
+abbrev pub EndsIdly : Result TurnsEnd StoreEnd → Type 0
+EndsIdly (Ok why) = EndIdly why
+EndsIdly (Err end.Memory) = Unit {0}
+EndsIdly (Err end.Disk) = Unit {0}
+EndsIdly (Err end.Sink) = Unit {0}
+EndsIdly (Err other) = ⊥
 
 -- the state to which a drain's opening leads, as it is known ahead: another bundle may be in force, and rounds begun
 abbrev pub opened_state : Meaning → Base → List Step → Asked → Base
@@ -72,5 +71,5 @@ pub record IsUnhindered {D : Type 0} (disk : D → DiskView) (o : Outside) (feed
 -- such a drain does all that there is to do
 abbrev pub FreeDrainsEndIdle : {D : Type 0} → (D → DiskView) → Meaning → Type 0
 FreeDrainsEndIdle {D} disk m =
-    (o : Outside) (feeds : List (List ℕ × List ℕ)) (files : Image) (asked : Asked) (old new : D) (now : ShelfView) (e : DrainEnd) (before after : SinkView) → o.meaning ≡ m → IsUnhindered disk o feeds files asked (disk old) (disk new)
+    (o : Outside) (feeds : List (List ℕ × List ℕ)) (files : Image) (asked : Asked) (old new : D) (now : ShelfView) (e : Result TurnsEnd StoreEnd) (before after : SinkView) → o.meaning ≡ m → IsUnhindered disk o feeds files asked (disk old) (disk new)
     → IsDrainCall disk o now files asked (disk old) (disk new) e before after → EndsIdly e

@@ -2,4 +2,4 @@
 pub mod Drained
 pub mod Laws
 -- what only private contracts cite
-pub mod Finished
+pub mod Turned

@@ -1,27 +1,27 @@
-ghost use Rattle.std.specs.Prelude.{◌≡◌, ◌≤◌, ℕ, List, Some, IsSome};
+ghost use Rattle.std.specs.Prelude.{◌≡◌, ◌≤◌, ◌↔◌, ℕ, List, false, Some, IsSome, Ok, IfErr, IsErrOf};
 ghost use Rattle.edge_traits.specs.Count.{Rose};
 ghost use Rattle.edge_traits.specs.Disk.{Image};
 ghost use Rattle.edge_traits.specs.Shelf.{count_on};
 ghost use Rattle.step_code.specs.declared.base.Base.{Base};
 ghost use Rattle.journal_book.specs.Alone.{LeavesAlone};
 ghost use Rattle.store_calls.specs.Calls.{IsEarlierIn};
+ghost use Rattle.store_commands.specs.Ends.{most_step_bytes};
 ghost use Rattle.turn_order.specs.Turn.{collectors};
 ghost use Rattle.drain_turns.specs.declared.end.TurnsEnd.{TurnsEnd as Last};
 ghost use Rattle.drain_loop.specs.Calls.{outside};
 ghost use Rattle.drain_loop.specs.Feeds.{FailedBeyond};
-ghost use Rattle.drain_command.specs.Drained.{most_step_bytes, IsDrainCall, IsToldEnd};
+ghost use Rattle.drain_command.specs.Drained.{IsDrainCall, IsToldEnd, MayEndDrain};
+ghost use Rattle.drain_command.specs.Turned.{ended};
 
-use crate::DrainEnd;
-use crate::end::end_of;
-use crate::finishing::finish;
 use crate::turning::make_turns;
 use drain_loop::Opening;
+use drain_turns::TurnsEnd;
 use edge_traits::{Clock, Disk, Shelf, Sink};
 use history_laws::each_message_stands_in_one_place;
 use journal_book::Book;
 use std::alloc::Global;
 use step_code::Rules;
-use store_commands::STEP_BYTES;
+use store_commands::{STEP_BYTES, StoreEnd, end_of, finish};
 
 /// What a drain is asked for.
 #[derive(Debug, Drop)]
@@ -34,6 +34,12 @@ pub struct Asked {
 
 /// Opens a store, and makes the steps of turns on one thread until nothing is left to do, or another cause of `TurnsEnd`
 /// comes. The steps are made durable, the outputs are completed, and the summary of the state is printed. The disk comes back.
+///
+/// # Errors
+///
+/// `Memory` where there was none: nothing is printed, and where the store was opened its steps are durable. `Disk` where the disk
+/// failed. `Sink` where the output failed: the steps are durable, and the outputs are complete. `Store` with 0 bytes where there is
+/// no store. `Damaged` where it is damaged.
 pub fn drain<D: Disk, R: Rules, H: Shelf, C: Clock, S: Sink>(
     alloc: Global,
     disk: D,
@@ -42,7 +48,7 @@ pub fn drain<D: Disk, R: Rules, H: Shelf, C: Clock, S: Sink>(
     clock: &C,
     asked: Asked,
     out: &mut S,
-) -> (DrainEnd, D)
+) -> (Result<TurnsEnd, StoreEnd>, D)
     requires loads { (bundle : List ℕ) → asked.opening.bundle ≡ Some bundle → IsSome (R.meaning.facts bundle) }
 
     // Where the disk tells what it holds: the steps that were made, one by one as they were due, and why there are no more, a feed
@@ -54,13 +60,14 @@ pub fn drain<D: Disk, R: Rules, H: Shelf, C: Clock, S: Sink>(
     // The files that are none of its own are left alone, where the disk tells what it holds.
     ensures others { (files : Image) → (D.disk disk).told ≡ Some files → LeavesAlone (D.disk disk) (D.disk result.1) (IsEarlierIn files) }
 
-    // The turns that are told ended by a cause of theirs.
-    ensures plain { (why : Last) → result.0 ≡ DrainEnd.Turns why → IsToldEnd why }
+    // The turns that are told ended by a cause of theirs, and no other end of a store comes than these.
+    ensures plain { (why : Last) → result.0 ≡ Ok why → IsToldEnd why }
+    ensures ends { IfErr result.0 MayEndDrain }
 
     // The outside failed, as its counts show: a feed more often than its collector tries again.
-    ensures disk { result.0 ≡ DrainEnd.Disk → Rose (D.disk disk).faults (D.disk result.1).faults }
-    ensures sink { result.0 ≡ DrainEnd.Sink → Rose (S.sink out.old).faults (S.sink out.new).faults }
-    ensures failed { (name : List ℕ) → result.0 ≡ DrainEnd.Turns (Last.Failed name) → (s : Base) × FailedBeyond (collectors R.meaning s) (H.shelf shelf.old) (H.shelf shelf.new) name }
+    ensures disk { IsErrOf result.0 StoreEnd.Disk → Rose (D.disk disk).faults (D.disk result.1).faults }
+    ensures sink { IsErrOf result.0 StoreEnd.Sink → Rose (S.sink out.old).faults (S.sink out.new).faults }
+    ensures failed { (name : List ℕ) → result.0 ≡ Ok (Last.Failed name) → (s : Base) × FailedBeyond (collectors R.meaning s) (H.shelf shelf.old) (H.shelf shelf.new) name }
     ensures told { (H.shelf shelf.new).told ≡ (H.shelf shelf.old).told }
     ensures counts { (name : List ℕ) → count_on (H.shelf shelf.old) name ≤ count_on (H.shelf shelf.new) name }
     ensures disk_count { (D.disk disk).faults ≤ (D.disk result.1).faults }
@@ -72,9 +79,38 @@ pub fn drain<D: Disk, R: Rules, H: Shelf, C: Clock, S: Sink>(
         Ok(book) => {
             let mut book = book;
             let last = make_turns(alloc, &mut book, shelf, clock, asked);
-            let end = finish(alloc, &mut book, last, out);
-            (end, book.into_disk())
+            match last {
+                TurnsEnd::Disk => (Err(StoreEnd::Disk), book.into_disk()),
+                _ => {
+                    let is_said = has_memory(&last);
+                    let end = finish(alloc, &mut book, is_said, out);
+                    (ended(end, is_said, last), book.into_disk())
+                }
+            }
         }
-        Err((fault, disk)) => (end_of(fault), disk),
+        Err((fault, disk)) => (Err(end_of(fault)), disk),
+    }
+}
+
+// Whether it wasn't want of memory that ended the turns: then the summary is printed.
+fn has_memory(last: &TurnsEnd) -> bool
+    ensures { (result ≡ false) ↔ (last.now ≡ TurnsEnd.Memory) }
+{
+    !matches!(last, TurnsEnd::Memory)
+}
+
+// How the command ends whose book was finished so, with its summary or without, behind these turns.
+fn ended(end: StoreEnd, is_said: bool, last: TurnsEnd) -> Result<TurnsEnd, StoreEnd>
+    ensures { result ≡ ended end is_said last }
+{
+    match end {
+        StoreEnd::Done => {
+            if is_said {
+                Ok(last)
+            } else {
+                Err(StoreEnd::Memory)
+            }
+        }
+        other => Err(other),
     }
 }

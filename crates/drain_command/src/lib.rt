@@ -2,11 +2,8 @@
 #![tactic(auto)]
 
 mod draining;
-mod end;
-mod finishing;
 mod laws;
 mod turning;
 
 pub use draining::{Asked, drain};
-pub use end::DrainEnd;
 pub use laws::free_drains_end_idle;

@@ -4,7 +4,7 @@ ghost use Rattle.edge_traits.specs.Shelf.{count_on};
 ghost use Rattle.turn_order.specs.Turn.{collectors};
 ghost use Rattle.drain_loop.specs.Calls.{outside};
 ghost use Rattle.drain_loop.specs.Feeds.{FailedBeyond};
-ghost use Rattle.drain_command.specs.Finished.{IsTurned};
+ghost use Rattle.drain_command.specs.Turned.{IsTurned};
 
 use crate::Asked;
 use drain_loop::{drain_book, open_turns};

@@ -1,5 +1,4 @@
 mod Ahead
-mod Bundles
 mod Halting
 mod LineEnds
 mod Still

@@ -1,9 +1,8 @@
 -- What the program does for each command.
-use Rattle.std.specs.Prelude.{◌≡◌, ◌≢◌, ◌⊎◌, ◌<◌, ◌≤◌, ◌++◌, ℕ, Bool, true, false, List, [], length, codes, decimal, Option, Some, None, Result, MatchResult, ⊤}
+use Rattle.std.specs.Prelude.{◌≡◌, ◌⊎◌, ◌<◌, ◌≤◌, ◌++◌, ℕ, true, false, List, [], length, codes, decimal, Option, Some, None, Result, IfErr, MatchResult, ⊤}
 use Rattle.edge_traits.specs.Disk.{DiskView, Image}
-use Rattle.edge_traits.specs.Output.{TookFront}
 use Rattle.edge_traits.specs.Shelf.{ShelfView, content_of, count_on, lacks}
-use Rattle.edge_traits.specs.Sink.{SinkView, Took}
+use Rattle.edge_traits.specs.Sink.{Took}
 use Rattle.config_bundle.specs.declared.bundle.Bundle.{Bundle}
 use Rattle.config_bundle.specs.Bundle.{bundle_code}
 use Rattle.runtime_config.specs.declared.plan.Plan.{Plan}
@@ -17,21 +16,22 @@ use Rattle.journal_book.specs.Alone.{IsBeside, IsBesideNew, LeavesAlone}
 use Rattle.store_calls.specs.Calls.{IsEarlierIn, StandsOn}
 use Rattle.store_commands.specs.Begun.{IsBegun, IsMade, IsMadeWhole, IsNewStore}
 use Rattle.store_commands.specs.Completed.{IsCompleted}
-use Rattle.store_commands.specs.Ends.{AreWrittenAt, IsPrinted, IsShown}
+use Rattle.store_commands.specs.Ends.{most_step_bytes, AreWrittenAt, IsPrinted, IsShown}
 use Rattle.store_commands.specs.Redone.{IsRedoCall, IsRedone, RedoesStep}
 use Rattle.store_commands.specs.declared.end.StoreEnd.{StoreEnd}
 use Rattle.store_commands.specs.declared.end.StoreEnd.TheVariants as ended
 use Rattle.store_commands.specs.declared.printing.Shown.{Shown}
 use Rattle.store_commands.specs.declared.printing.Shown.TheVariants as shown
 use Rattle.drain_loop.specs.Calls.{outside}
-use Rattle.drain_command.specs.Drained.{most_step_bytes, IsDrainCall}
-use Rattle.drain_command.specs.declared.end.DrainEnd.{DrainEnd}
+use Rattle.drain_turns.specs.declared.end.TurnsEnd.{TurnsEnd}
+use Rattle.drain_command.specs.Drained.{IsDrainCall, MayEndDrain}
 use Rattle.drill_feed.specs.Drill.{drill_bundle, drill_shelf}
 use Rattle.command_words.specs.Command as asked
+use Rattle.bundle_bringing.specs.Brought.{Brings, Names}
+use Rattle.bundle_bringing.specs.declared.bringing.Unbrought.{Unbrought}
 use Rattle.pipeline_top.specs.Convert.{conversion, convert_bot, end_of, IsOutside, Wrote}
-use Rattle.pipeline_top.specs.Outside.{Brings, Names, Seen}
+use Rattle.pipeline_top.specs.Outside.{Seen}
 use Rattle.pipeline_top.specs.Statuses.{behind_store, drain_status, is_said, store_status, unbrought_status}
-use Rattle.pipeline_top.specs.declared.bringing.Unbrought.{Unbrought}
 use Rattle.status_texts.specs.declared.status.FeedWhy.TheVariants.{Absent}
 use Rattle.status_texts.specs.declared.status.Status.{Status}
 use Rattle.status_texts.specs.declared.status.Status.TheVariants as status
@@ -108,7 +108,8 @@ pub record IsInit (name : List ℕ) (seen : Seen) (old new : DiskView) (end : St
 -- the store was drained: with the bundle of this code put in force, if one is named. What was fetched of the bundle may have
 -- raised the shelf's counts ahead of the turns
 pub record IsDrainedBy {D : Type 0} (disk : D → DiskView) (ask : asked.Ask) (seen : Seen) (end : Status) (old new : DiskView) (bundle : Option (List ℕ)) : Type 0 where
-  pub done : DrainEnd
+  pub done : Result TurnsEnd StoreEnd
+  pub ends : IfErr done MayEndDrain
   pub end_is : end ≡ drain_status ask.steps done
   pub shelf : ShelfView
   pub same_shelf : shelf.told ≡ seen.shelf.told

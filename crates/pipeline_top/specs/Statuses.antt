@@ -1,13 +1,11 @@
 -- The statuses of commands, by what they came to.
-use Rattle.std.specs.Prelude.{ℕ, Bool, true, false, Option, unwrap_or}
-use Rattle.drain_command.specs.declared.end.DrainEnd.{DrainEnd}
-use Rattle.drain_command.specs.declared.end.DrainEnd.TheVariants as drain
+use Rattle.std.specs.Prelude.{ℕ, Bool, true, false, Option, unwrap_or, Result, Ok, Err}
 use Rattle.drain_turns.specs.declared.end.TurnsEnd.{TurnsEnd}
 use Rattle.drain_turns.specs.declared.end.TurnsEnd.TheVariants as turns
 use Rattle.store_commands.specs.declared.end.StoreEnd.{StoreEnd}
 use Rattle.store_commands.specs.declared.end.StoreEnd.TheVariants as end
-use Rattle.pipeline_top.specs.declared.bringing.Unbrought.{Unbrought}
-use Rattle.pipeline_top.specs.declared.bringing.Unbrought.TheVariants as unbrought
+use Rattle.bundle_bringing.specs.declared.bringing.Unbrought.{Unbrought}
+use Rattle.bundle_bringing.specs.declared.bringing.Unbrought.TheVariants as unbrought
 use Rattle.status_texts.specs.declared.status.FeedWhy.TheVariants as why
 use Rattle.status_texts.specs.declared.status.Status.{Status}
 use Rattle.status_texts.specs.declared.status.Status.TheVariants as status
@@ -40,13 +38,9 @@ turns_status steps (turns.Full bytes) = status.Full bytes
 turns_status steps turns.Disk = status.Disk
 turns_status steps turns.Memory = status.Memory
 
-abbrev pub drain_status : Option ℕ → DrainEnd → Status
-drain_status steps (drain.Turns last) = turns_status steps last
-drain_status steps drain.Memory = status.Memory
-drain_status steps drain.Disk = status.Disk
-drain_status steps drain.Sink = status.Sink
-drain_status steps (drain.Store have) = status.Store have
-drain_status steps (drain.Damaged file at) = status.Damaged file at
+abbrev pub drain_status : Option ℕ → Result TurnsEnd StoreEnd → Status
+drain_status steps (Ok last) = turns_status steps last
+drain_status steps (Err done) = store_status done
 
 -- of a bundle that isn't brought
 abbrev pub unbrought_status : Unbrought → Status

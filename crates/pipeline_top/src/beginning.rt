@@ -11,10 +11,10 @@ ghost use Rattle.pipeline_top.specs.Outside.{Seen};
 ghost use Rattle.pipeline_top.specs.Statuses.{unbrought_status};
 
 use crate::Status;
-use crate::bringing::{Unbrought, bring, code_of};
 use crate::statuses::{store_status, unbrought_status};
 use base_types::{OutOfMemory, Text};
 use bot_rules::IntelRules;
+use bundle_bringing::{Unbrought, bring, code_of};
 use config_bundle::Bundle;
 use edge_traits::{Disk, Failed, Shelf, Sink};
 use runtime_config::Plan;

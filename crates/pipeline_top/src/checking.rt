@@ -7,9 +7,9 @@ ghost use Rattle.store_commands.specs.Ends.{IsPrinted};
 ghost use Rattle.pipeline_top.specs.Commands.{bots_text, IsChecked};
 
 use crate::Status;
-use crate::bringing::bring;
 use crate::statuses::{store_status, unbrought_status};
 use base_types::Text;
+use bundle_bringing::bring;
 use edge_traits::{Failed, Shelf, Sink, write_all};
 use std::alloc::Global;
 use store_commands::StoreEnd;

@@ -10,10 +10,10 @@ ghost use Rattle.pipeline_top.specs.Outside.{Seen};
 ghost use Rattle.pipeline_top.specs.Statuses.{unbrought_status};
 
 use crate::Status;
-use crate::bringing::{Unbrought, bring_code};
 use crate::statuses::{behind_store, drain_status, is_said, unbrought_status};
 use base_types::Blob;
 use bot_rules::IntelRules;
+use bundle_bringing::{Unbrought, bring_code};
 use command_words::Ask;
 use drain_command::Asked;
 use drain_loop::Opening;

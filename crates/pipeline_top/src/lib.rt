@@ -2,7 +2,6 @@
 #![tactic(auto)]
 
 mod beginning;
-mod bringing;
 mod buffer;
 mod checking;
 mod convert;
@@ -15,6 +14,5 @@ mod showing;
 mod statuses;
 mod tool;
 
-pub use bringing::Unbrought;
 pub use status_texts::{FeedWhy, Status, status_text};
 pub use tool::run_tool;

@@ -2,9 +2,8 @@
 ghost use Rattle.std.specs.Prelude.{◌≡◌};
 ghost use Rattle.pipeline_top.specs.Statuses.{behind_store, drain_status, is_said, store_status, turns_status, unbrought_status};
 
-use crate::bringing::Unbrought;
 use crate::{FeedWhy, Status};
-use drain_command::DrainEnd;
+use bundle_bringing::Unbrought;
 use drain_turns::TurnsEnd;
 use store_commands::StoreEnd;
 
@@ -55,16 +54,12 @@ fn turns_status(steps: Option<u64>, last: TurnsEnd) -> Status
 }
 
 /// Of a drain that might make so many steps.
-pub fn drain_status(steps: Option<u64>, end: DrainEnd) -> Status
+pub fn drain_status(steps: Option<u64>, end: Result<TurnsEnd, StoreEnd>) -> Status
     ensures { result ≡ drain_status steps end }
 {
     match end {
-        DrainEnd::Turns(last) => turns_status(steps, last),
-        DrainEnd::Memory => Status::Memory,
-        DrainEnd::Disk => Status::Disk,
-        DrainEnd::Sink => Status::Sink,
-        DrainEnd::Store { have } => Status::Store { have },
-        DrainEnd::Damaged { file, at } => Status::Damaged { file, at },
+        Ok(last) => turns_status(steps, last),
+        Err(end) => store_status(end),
     }
 }
 

@@ -3,15 +3,13 @@ use Rattle.std.proofs.Common.{◌≡◌, ◌+◌, ◌-◌, ℕ, List, [], ◌∷
 use Rattle.edge_traits.specs.Disk.{DiskView}
 use Rattle.step_code.specs.declared.base.Base.{Base}
 use Rattle.step_code.specs.declared.step.Step.{Step}
-use Rattle.step_code.specs.After.{after}
 use Rattle.step_code.specs.History.{replay}
 use Rattle.step_code.specs.Rules.{Meaning}
 use Rattle.journal_book.specs.Book.{BookView}
 use Rattle.store_calls.specs.Calls.{IsCall, IsOpened, StandsOn}
 use Rattle.store_calls.proofs.Called.{all_made, called, count_called, sealed_state, still_stands, AllAccounted}
-use Rattle.store_commands.specs.Redone.{redo_step, AreMadeAt, RedoesStep, Redid}
+use Rattle.store_commands.specs.Redone.{redo_step, RedoesStep, Redid}
 use Rattle.store_commands.specs.declared.end.StoreEnd.{StoreEnd}
-use Rattle.store_commands.specs.declared.end.StoreEnd.TheVariants as end
 
 module _ {D R : Type 0} {disk : D → DiskView} {m : Meaning} (accounts : AllAccounted m) (first : Base) (steps more : List Step) (old : D) (opened later : BookView D R)
     (is : IsOpened disk m first steps more old opened) (dump now : ℕ) (e : StoreEnd) (redid : Redid disk m opened later (redo_step opened.state dump now) e) where
@@ -50,9 +48,3 @@ module _ {D R : Type 0} {disk : D → DiskView} {m : Meaning} (accounts : AllAcc
   makes_durably all one =
       let number : durable ≡ 1 = all_made first steps more redid.made old opened later is redid.run all ∙ ap length one in
       subst (λ (n : ℕ). RedoesStep disk m first steps more (disk old) (disk later.disk) dump now n) number (makes one)
-
--- the state behind the step
-pub state_behind : {D R : Type 0} {disk : D → DiskView} {m : Meaning} (old new : BookView D R) (step : Step) (e : StoreEnd) → Redid disk m old new step e
-    → e ≡ end.Done → new.state ≡ after m old.state step
-state_behind {D} {R} {disk} {m} old new one e redid done =
-    ap (λ (b : BookView D R). b.state) redid.book ∙ ap (replay m old.state) (subst (λ (d : StoreEnd). AreMadeAt d one redid.made) done redid.made_is)

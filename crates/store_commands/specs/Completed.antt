@@ -1,5 +1,5 @@
--- What `complete` makes of a store.
-use Rattle.std.specs.Prelude.{◌≡◌, ◌<◌, ℕ, Bool, List, [], length, if◌then◌else◌}
+-- What `finish` makes of a book, and `complete` of a store.
+use Rattle.std.specs.Prelude.{◌≡◌, ◌<◌, ℕ, Bool, true, List, [], length, if◌then◌else◌}
 use Rattle.edge_traits.specs.Disk.{Image}
 use Rattle.edge_traits.specs.Output.{TookFront}
 use Rattle.edge_traits.specs.Sink.{SinkView, Took}
@@ -15,6 +15,20 @@ use Rattle.store_commands.specs.declared.end.StoreEnd.TheVariants as end
 -- the summary, where it is asked for
 abbrev pub said : Bool → Base → List ℕ
 said is_said s = if is_said then summary s else []
+
+-- a book in this state was finished: the summary was printed where it is asked for, or a front of it where the sink failed, and
+-- nothing at the other ends
+abbrev pub IsFinished : Bool → Base → StoreEnd → SinkView → SinkView → Type 0
+IsFinished is_said s end.Done old new = Took old new (said is_said s)
+IsFinished is_said s end.Sink old new = (is_said ≡ true) × TookFront old new (summary s)
+IsFinished is_said s end.Memory old new = Took old new []
+IsFinished is_said s end.Disk old new = Took old new []
+IsFinished is_said s (end.Damaged file at) old new = Took old new []
+IsFinished is_said s (end.Store have) old new = ⊥
+IsFinished is_said s end.Refused old new = ⊥
+IsFinished is_said s (end.NoDump n) old new = ⊥
+IsFinished is_said s (end.Spent next) old new = ⊥
+IsFinished is_said s (end.Full bytes) old new = ⊥
 
 -- a store was opened, its outputs were completed, and what is asked for was printed, or a front of it where the sink failed; or
 -- there is none, or it is damaged; the other ends say nothing of the store, and at them nothing is printed

@@ -22,6 +22,10 @@ use Rattle.store_commands.specs.declared.end.StoreEnd.TheVariants as end
 use Rattle.store_commands.specs.declared.printing.Shown.{Shown}
 use Rattle.store_commands.specs.declared.printing.Shown.TheVariants as shown
 
+-- the codes of a generation's steps have at most so many bytes together
+abbrev pub most_step_bytes : ℕ
+most_step_bytes = 67_108_864
+
 -- the text of what is asked for
 abbrev pub shown_text : Shown → Base → List ℕ
 shown_text shown.State s = state_text s
@@ -62,8 +66,6 @@ AreWrittenAt (end.Store have) written = Unit {0}
 AreWrittenAt (end.Damaged file at) written = Unit {0}
 AreWrittenAt end.Refused written = Unit {0}
 
--- ---- what private contracts cite
-
 -- what comes of a fault of making or opening a store, or of completing its outputs
 abbrev pub end_of : BookFault → StoreEnd
 end_of fault.Disk = end.Disk
@@ -71,6 +73,8 @@ end_of (fault.Damaged file at) = end.Damaged file at
 end_of (fault.Store have) = end.Store have
 end_of fault.Refused = end.Refused
 end_of fault.OutOfMemory = end.Memory
+
+-- ---- what private contracts cite
 
 -- what comes of a refusal of the step that redoes this dump; a book that was just opened isn't broken
 abbrev pub refusal_end : ℕ → StageRefusal → StoreEnd

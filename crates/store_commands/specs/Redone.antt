@@ -5,7 +5,6 @@ use Rattle.edge_traits.specs.Disk.{DiskView, Image}
 use Rattle.edge_traits.specs.Output.{TookFront}
 use Rattle.edge_traits.specs.Sink.{SinkView, Took}
 use Rattle.step_code.specs.declared.base.Base.{Base}
-use Rattle.step_code.specs.declared.output.Output.{Output}
 use Rattle.step_code.specs.declared.step.Step.{Step}
 use Rattle.step_code.specs.declared.step.StepKind.TheVariants as kind
 use Rattle.step_code.specs.After.{after}
@@ -17,14 +16,12 @@ use Rattle.store_image.specs.Damage.{IsDamagedStore}
 use Rattle.store_image.specs.Files.{root_file}
 use Rattle.store_image.specs.Opens.{Opens}
 use Rattle.journal_book.specs.Book.{BookView}
-use Rattle.journal_book.specs.Outputs.{IsBringUpFault, IsFirstShort}
 use Rattle.journal_book.specs.Staged.{step_cause, stamp}
-use Rattle.journal_book.specs.declared.book_fault.BookFault.{BookFault}
 use Rattle.journal_book.specs.declared.stage_refusal.StageRefusal.{StageRefusal}
 use Rattle.journal_book.specs.declared.stage_refusal.StageRefusal.TheVariants as refusal
 use Rattle.book_runs.specs.GoesOn.{longer, GoesOn}
 use Rattle.store_calls.specs.Calls.{IsCall}
-use Rattle.store_commands.specs.Ends.{end_of, IsOpenIn}
+use Rattle.store_commands.specs.Ends.{most_step_bytes, IsOpenIn}
 use Rattle.store_commands.specs.declared.end.StoreEnd.{StoreEnd}
 use Rattle.store_commands.specs.declared.end.StoreEnd.TheVariants as end
 
@@ -35,10 +32,6 @@ redo_step s dump now = record { moment = stamp s now; what = kind.Redo dump }
 -- no dump of this state has this number
 abbrev pub LacksDump : Base → ℕ → Type 0
 LacksDump s dump = list_any (is_dump dump) s.dumps ≡ false
-
--- the codes of a generation's steps have at most so many bytes together
-abbrev pub most_step_bytes : ℕ
-most_step_bytes = 67_108_864
 
 -- a store opens in a state in which this refuses the step, or nothing does
 pub record IsAsked (m : Meaning) (files : Image) (dump now : ℕ) (s : Base) (cause : Option StageRefusal) : Type 0 where
@@ -87,22 +80,18 @@ IsRedoCall end.Refused stands makes = stands
 
 -- ---- what private contracts cite
 
--- how the step went in a book in this state, by what refuses it; damage is an output that is too short
-abbrev pub IsRedoEnd : Base → Option StageRefusal → Option Image → ℕ → StoreEnd → Type 0
-IsRedoEnd s cause told dump end.Done = cause ≡ None
-IsRedoEnd s cause told dump (end.NoDump n) = (n ≡ dump) × LacksDump s dump
-IsRedoEnd s cause told dump (end.Spent next) = cause ≡ Some (refusal.Spent next)
-IsRedoEnd s cause told dump (end.Full bytes) = cause ≡ Some (refusal.Full bytes)
-IsRedoEnd s cause told dump (end.Damaged file at) = (files : Image) → told ≡ Some files → IsFirstShort s.outs files file at
-IsRedoEnd s cause told dump end.Memory = Unit {0}
-IsRedoEnd s cause told dump end.Disk = Unit {0}
-IsRedoEnd s cause told dump end.Sink = ⊥
-IsRedoEnd s cause told dump (end.Store have) = ⊥
-IsRedoEnd s cause told dump end.Refused = ⊥
-
--- a command ends so, unless the outputs can't be completed
-abbrev pub EndsAs : List Output → Option Image → StoreEnd → StoreEnd → Type 0
-EndsAs outs told meant end = (end ≡ meant) ⊎ ((f : BookFault) × IsBringUpFault outs told f × (end ≡ end_of f))
+-- how the step went in a book in this state, by what refuses it, and what was printed then
+abbrev pub IsRedoEnd : Meaning → Base → Option StageRefusal → ℕ → ℕ → StoreEnd → SinkView → SinkView → Type 0
+IsRedoEnd m s cause dump now end.Done old new = (cause ≡ None) × Took old new (summary (after m s (redo_step s dump now)))
+IsRedoEnd m s cause dump now end.Sink old new = (cause ≡ None) × TookFront old new (summary (after m s (redo_step s dump now)))
+IsRedoEnd m s cause dump now (end.NoDump n) old new = (n ≡ dump) × LacksDump s dump × Took old new []
+IsRedoEnd m s cause dump now (end.Spent next) old new = (cause ≡ Some (refusal.Spent next)) × Took old new []
+IsRedoEnd m s cause dump now (end.Full bytes) old new = (cause ≡ Some (refusal.Full bytes)) × Took old new []
+IsRedoEnd m s cause dump now end.Memory old new = Took old new []
+IsRedoEnd m s cause dump now end.Disk old new = Took old new []
+IsRedoEnd m s cause dump now (end.Damaged file at) old new = Took old new []
+IsRedoEnd m s cause dump now (end.Store have) old new = ⊥
+IsRedoEnd m s cause dump now end.Refused old new = ⊥
 
 -- the steps that were made at this end
 abbrev pub AreMadeAt : StoreEnd → Step → List Step → Type 0

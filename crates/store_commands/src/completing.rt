@@ -1,24 +1,74 @@
-ghost use Rattle.std.specs.Prelude.{◌≡◌, ◌≤◌, List, [], Some};
+ghost use Rattle.std.specs.Prelude.{◌≡◌, ◌≢◌, ◌≤◌, ℕ, List, [], length, false, None, Some};
 ghost use Rattle.edge_traits.specs.Count.{Rose};
 ghost use Rattle.edge_traits.specs.Disk.{Image};
 ghost use Rattle.step_code.specs.declared.base.Base.{Base};
 ghost use Rattle.step_code.specs.declared.step.Step.{Step};
 ghost use Rattle.journal_book.specs.Alone.{LeavesAlone};
 ghost use Rattle.journal_book.specs.Opening.{StandsNow};
-ghost use Rattle.journal_book.specs.Outputs.{AreWritten, HaveNoneSealed};
+ghost use Rattle.journal_book.specs.Outputs.{AreCompleted, AreWritten, HaveNoneSealed};
+ghost use Rattle.book_runs.specs.GoesOn.{GoesOn, IsSameBook};
 ghost use Rattle.store_calls.specs.Calls.{IsEarlierIn, StandsOn};
-ghost use Rattle.store_commands.specs.Ends.{AreWrittenAt, IsPrinted};
-ghost use Rattle.store_commands.specs.Completed.{said, IsCompleted};
+ghost use Rattle.store_commands.specs.Ends.{AreWrittenAt};
+ghost use Rattle.store_commands.specs.Completed.{IsCompleted, IsFinished};
 
 use crate::end::end_of;
 use crate::printing::print_summary;
 use crate::{STEP_BYTES, StoreEnd};
-use ack_steps::Core;
 use edge_traits::{Disk, Sink};
 use journal_book::Book;
 use std::alloc::Global;
 use step_code::Rules;
 use store_calls::complete_outputs;
+
+/// Makes the steps of a book durable, completes its outputs, and prints the summary of its state where that is asked for. It is
+/// a run of the book's calls that makes no step.
+///
+/// Answers `Done`; `Disk` where the disk failed; `Damaged` at the first output whose file is shorter than what is sealed of it;
+/// `Sink` where the output failed, behind completed outputs; or `Memory`.
+pub fn finish<D: Disk, R: Rules, S: Sink>(
+    alloc: Global,
+    book: &mut Book<D, R>,
+    is_said: bool,
+    out: &mut S,
+) -> StoreEnd
+    requires whole { book.old.broken ≡ false }
+
+    // What is printed at each end.
+    ensures finished { IsFinished is_said book.old.state result (S.sink out.old) (S.sink out.new) }
+
+    // The book stays as it is, and all of its steps are durable, unless the disk failed.
+    ensures goes_on { GoesOn D.disk R.meaning book.old book.new [] }
+    ensures same { IsSameBook book.old book.new }
+    ensures durable { result ≢ StoreEnd.Disk → book.new.kept ≡ length book.new.steps }
+
+    // Each output's file is its sealed front and each line behind it; and it is all lines of the history that the disk stands for,
+    // where that began with nothing sealed.
+    ensures completed { (files after : Image) → (D.disk book.old.disk).told ≡ Some files → (D.disk book.new.disk).told ≡ Some after
+        → AreWrittenAt result (AreCompleted (D.disk book.new.disk).may_leave book.old.state.outs files after) }
+    ensures written { (first : Base) (history : List Step) → StandsNow R.meaning first history [] (D.disk book.new.disk) → HaveNoneSealed first.outs
+        → AreWrittenAt result (AreWritten R.meaning first history (D.disk book.new.disk)) }
+
+    // No file is too short where the disk tells what it holds.
+    ensures undamaged { (files : Image) (file at : ℕ) → (D.disk book.old.disk).told ≡ Some files → result ≢ StoreEnd.Damaged file at }
+
+    // The outside failed, as its counts show.
+    ensures disk { result ≡ StoreEnd.Disk → Rose (D.disk book.old.disk).faults (D.disk book.new.disk).faults }
+    ensures sink { result ≡ StoreEnd.Sink → Rose (S.sink out.old).faults (S.sink out.new).faults }
+    ensures untold { (D.disk book.old.disk).told ≡ None → (D.disk book.new.disk).told ≡ None }
+    ensures disk_count { (D.disk book.old.disk).faults ≤ (D.disk book.new.disk).faults }
+    ensures sink_count { (S.sink out.old).faults ≤ (S.sink out.new).faults }
+{
+    match complete_outputs(book) {
+        Ok(()) => {
+            if is_said {
+                print_summary(alloc, book.state(), out)
+            } else {
+                StoreEnd::Done
+            }
+        }
+        Err(fault) => end_of(fault),
+    }
+}
 
 /// Opens a store, completes its outputs, and prints its summary where that is asked for. No step is made. The disk comes back.
 pub fn complete<D: Disk, R: Rules, S: Sink>(
@@ -52,25 +102,9 @@ pub fn complete<D: Disk, R: Rules, S: Sink>(
     match Book::reopen(alloc, disk, rules, STEP_BYTES) {
         Ok(book) => {
             let mut book = book;
-            match complete_outputs(&mut book) {
-                Ok(()) => {
-                    let end = say(alloc, book.state(), is_said, out);
-                    (end, book.into_disk())
-                }
-                Err(fault) => (end_of(fault), book.into_disk()),
-            }
+            let end = finish(alloc, &mut book, is_said, out);
+            (end, book.into_disk())
         }
         Err((fault, disk)) => (end_of(fault), disk),
-    }
-}
-
-fn say<R: Rules, S: Sink>(alloc: Global, core: &Core<R>, is_said: bool, out: &mut S) -> StoreEnd
-    ensures printed { IsPrinted (said is_said core.now.state) result (S.sink out.old) (S.sink out.new) }
-    ensures count { (S.sink out.old).faults ≤ (S.sink out.new).faults }
-{
-    if is_said {
-        print_summary(alloc, core, out)
-    } else {
-        StoreEnd::Done
     }
 }

@@ -28,7 +28,7 @@ pub enum StoreEnd {
 }
 
 /// What comes of a store that can't be made or opened, or whose outputs can't be completed.
-pub(crate) fn end_of(fault: BookFault) -> StoreEnd
+pub fn end_of(fault: BookFault) -> StoreEnd
     ensures { result ≡ end_of fault }
 {
     match fault {

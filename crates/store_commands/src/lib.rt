@@ -10,9 +10,9 @@ mod redoing;
 mod showing;
 
 pub use beginning::{find_store, init, make_store};
-pub use completing::complete;
-pub use end::StoreEnd;
-pub use printing::{Shown, print_summary};
+pub use completing::{complete, finish};
+pub use end::{StoreEnd, end_of};
+pub use printing::Shown;
 pub use redoing::redo;
 pub use showing::show;
 

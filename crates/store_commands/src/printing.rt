@@ -53,7 +53,11 @@ fn print_state<R: Rules, S: Sink>(alloc: Global, core: &Core<R>, out: &mut S) ->
 }
 
 /// Prints the summary of a state, and answers `Done`, `Sink` where the output failed, or `Memory`: nothing is printed then.
-pub fn print_summary<R: Rules, S: Sink>(alloc: Global, core: &Core<R>, out: &mut S) -> StoreEnd
+pub(crate) fn print_summary<R: Rules, S: Sink>(
+    alloc: Global,
+    core: &Core<R>,
+    out: &mut S,
+) -> StoreEnd
     ensures printed { IsPrinted (summary core.now.state) result (S.sink out.old) (S.sink out.new) }
     ensures count { (S.sink out.old).faults ≤ (S.sink out.new).faults }
 {

@@ -1,4 +1,4 @@
-ghost use Rattle.std.specs.Prelude.{◌≡◌, ◌≢◌, ◌≤◌, [], false, length, List, Some};
+ghost use Rattle.std.specs.Prelude.{◌≡◌, ◌≢◌, ◌≤◌, ℕ, [], false, length, List, Some};
 ghost use Rattle.edge_traits.specs.Count.{Rose};
 ghost use Rattle.edge_traits.specs.Disk.{Image};
 ghost use Rattle.step_code.specs.declared.base.Base.{Base};
@@ -7,22 +7,18 @@ ghost use Rattle.journal_book.specs.Alone.{LeavesAlone};
 ghost use Rattle.journal_book.specs.Opening.{StandsNow};
 ghost use Rattle.journal_book.specs.Outputs.{AreWritten, HaveNoneSealed};
 ghost use Rattle.journal_book.specs.Staged.{step_cause};
-ghost use Rattle.book_runs.specs.GoesOn.{GoesOn, IsSameBook};
-ghost use Rattle.state_texts.specs.Texts.{summary};
 ghost use Rattle.store_calls.specs.Calls.{IsEarlierIn, StandsOn};
-ghost use Rattle.store_commands.specs.Ends.{AreWrittenAt, IsPrinted};
-ghost use Rattle.store_commands.specs.Redone.{redo_step, EndsAs, IsRedoCall, IsRedoEnd, IsRedone, RedoesStep, Redid};
+ghost use Rattle.store_commands.specs.Ends.{AreWrittenAt};
+ghost use Rattle.store_commands.specs.Redone.{redo_step, IsRedoCall, IsRedoEnd, IsRedone, RedoesStep, Redid};
 
+use crate::completing::finish;
 use crate::end::{end_of, refusal_end};
-use crate::printing::print_summary;
 use crate::{STEP_BYTES, StoreEnd};
-use ack_steps::Core;
 use edge_traits::{Disk, Sink};
 use history_laws::each_message_stands_in_one_place;
 use journal_book::{Book, Move};
 use std::alloc::Global;
 use step_code::Rules;
-use store_calls::complete_outputs;
 
 /// Opens a store, and puts the message of the dump of this number at the end of its bot's queue again, as one step, when the
 /// clock shows this moment in seconds since 1970. The step is made durable, the outputs are completed, and the summary of
@@ -62,60 +58,39 @@ pub fn redo<D: Disk, R: Rules, S: Sink>(
     match Book::reopen(alloc, disk, rules, STEP_BYTES) {
         Ok(book) => {
             let mut book = book;
-            let end = redo_dump(&mut book, dump, now);
-            let end = report(alloc, book.state(), end, out);
+            let end = redo_dump(alloc, &mut book, dump, now, out);
             (end, book.into_disk())
         }
         Err((fault, disk)) => (end_of(fault), disk),
     }
 }
 
-// Makes the step, and completes the outputs, whatever refuses the step.
-fn redo_dump<D: Disk, R: Rules>(book: &mut Book<D, R>, dump: u64, now: u64) -> StoreEnd
+// Makes the step, and completes the outputs, whatever refuses the step. The summary is printed where the step was made.
+fn redo_dump<D: Disk, R: Rules, S: Sink>(
+    alloc: Global,
+    book: &mut Book<D, R>,
+    dump: u64,
+    now: u64,
+    out: &mut S,
+) -> StoreEnd
     requires whole { book.old.broken ≡ false }
     requires durable { book.old.kept ≡ length book.old.steps }
-    ensures end { IsRedoEnd book.old.state (step_cause R.meaning book.old.state book.old.steps book.old.limit (redo_step book.old.state dump now)) (D.disk book.old.disk).told dump result }
+    ensures end { IsRedoEnd R.meaning book.old.state (step_cause R.meaning book.old.state book.old.steps book.old.limit (redo_step book.old.state dump now)) dump now result (S.sink out.old) (S.sink out.new) }
     ensures run { Redid D.disk R.meaning book.old book.new (redo_step book.old.state dump now) result }
-    ensures durable { (result ≢ StoreEnd.Disk) → book.new.kept ≡ length book.new.steps }
+    ensures durable { result ≢ StoreEnd.Disk → book.new.kept ≡ length book.new.steps }
     ensures written { (first : Base) (history : List Step) → StandsNow R.meaning first history [] (D.disk book.new.disk) → HaveNoneSealed first.outs
         → AreWrittenAt result (AreWritten R.meaning first history (D.disk book.new.disk)) }
-    ensures failed { result ≡ StoreEnd.Disk → Rose (D.disk book.old.disk).faults (D.disk book.new.disk).faults }
-    ensures count { (D.disk book.old.disk).faults ≤ (D.disk book.new.disk).faults }
+    ensures undamaged { (files : Image) (file at : ℕ) → (D.disk book.old.disk).told ≡ Some files → result ≢ StoreEnd.Damaged file at }
+    ensures disk { result ≡ StoreEnd.Disk → Rose (D.disk book.old.disk).faults (D.disk book.new.disk).faults }
+    ensures sink { result ≡ StoreEnd.Sink → Rose (S.sink out.old).faults (S.sink out.new).faults }
+    ensures disk_count { (D.disk book.old.disk).faults ≤ (D.disk book.new.disk).faults }
+    ensures sink_count { (S.sink out.old).faults ≤ (S.sink out.new).faults }
 {
     match book.stage(now, Move::Redo { dump }) {
-        Ok(_) => complete(book, StoreEnd::Done),
-        Err(refusal) => complete(book, refusal_end(dump, refusal)),
-    }
-}
-
-// Completes the outputs of a book, and makes its steps durable before. The end is this one, unless that fails.
-fn complete<D: Disk, R: Rules>(book: &mut Book<D, R>, end: StoreEnd) -> StoreEnd
-    requires whole { book.old.broken ≡ false }
-    requires another { end ≢ StoreEnd.Disk }
-    ensures end { EndsAs book.old.state.outs (D.disk book.old.disk).told end result }
-    ensures goes_on { GoesOn D.disk R.meaning book.old book.new [] }
-    ensures same { IsSameBook book.old book.new }
-    ensures durable { (result ≢ StoreEnd.Disk) → book.new.kept ≡ length book.new.steps }
-    ensures written { (first : Base) (history : List Step) → StandsNow R.meaning first history [] (D.disk book.new.disk) → HaveNoneSealed first.outs
-        → AreWrittenAt result (AreWritten R.meaning first history (D.disk book.new.disk)) }
-    ensures failed { result ≡ StoreEnd.Disk → Rose (D.disk book.old.disk).faults (D.disk book.new.disk).faults }
-    ensures count { (D.disk book.old.disk).faults ≤ (D.disk book.new.disk).faults }
-{
-    match complete_outputs(book) {
-        Ok(()) => end,
-        Err(fault) => end_of(fault),
-    }
-}
-
-// Prints the summary where the step was made.
-fn report<R: Rules, S: Sink>(alloc: Global, core: &Core<R>, end: StoreEnd, out: &mut S) -> StoreEnd
-    ensures printed { end ≡ StoreEnd.Done → IsPrinted (summary core.now.state) result (S.sink out.old) (S.sink out.new) }
-    ensures kept { (end ≢ StoreEnd.Done) → result ≡ end }
-    ensures nothing { (end ≢ StoreEnd.Done) → S.sink out.new ≡ S.sink out.old }
-    ensures count { (S.sink out.old).faults ≤ (S.sink out.new).faults }
-{
-    match end {
-        StoreEnd::Done => print_summary(alloc, core, out),
-        other => other,
+        Ok(_) => finish(alloc, book, true, out),
+        Err(refusal) => match finish(alloc, book, false, out) {
+            StoreEnd::Done => refusal_end(dump, refusal),
+            other => other,
+        },
     }
 }

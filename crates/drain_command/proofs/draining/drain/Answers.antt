@@ -1,40 +1,85 @@
-use Rattle.std.proofs.Common.{◌≡◌, ℕ, sym, ap, subst}
-use Rattle.edge_traits.specs.Disk.{Image}
+use Rattle.std.proofs.Common.{ℕ, Result, Err, IfErr, sym, ap, subst, ◌∙◌}
 use Rattle.journal_book.specs.Alone.{LeavesAlone}
 use Rattle.journal_book.specs.Book.{BookView}
+use Rattle.book_runs.proofs.Going.{goes_nowhere}
 use Rattle.store_calls.specs.Calls.{IsEarlierIn}
 use Rattle.store_calls.proofs.Called.{left_closed, left_open}
+use Rattle.store_commands.specs.declared.end.StoreEnd.{StoreEnd}
+use Rattle.store_commands.specs.declared.end.StoreEnd.TheVariants as end
+use Rattle.drain_turns.specs.declared.end.TurnsEnd.{TurnsEnd}
+use Rattle.drain_turns.specs.declared.end.TurnsEnd.TheVariants as last
 use Rattle.drain_loop.specs.Calls.{outside}
-use Rattle.drain_command.specs.Drained.{IsDrainCall, IsToldEnd}
-use Rattle.drain_command.specs.Finished.{IsFinished, IsTurned}
-use Rattle.drain_command.specs.declared.end.DrainEnd.{DrainEnd}
-use Rattle.drain_command.proofs.Made.{drain_called, drain_closed, failed_beyond, still_runs, Reopened}
+use Rattle.drain_command.specs.Drained.{IsDrainCall, IsToldEnd, MayEndDrain}
+use Rattle.drain_command.specs.Turned.{IsTurned}
+use Rattle.drain_command.proofs.Made.{drain_broken, drain_called, drain_closed, ends_closed, ends_finished, failed_beyond, reopened_so, still_runs, told_turns, Reopened}
 use Rattle.drain_command.proofs.draining.drain.Goals as goal
 
-pub returns-in-Ok-clause-drained : goal.returns-in-Ok-clause-drained
-returns-in-Ok-clause-drained g c = λ files told.
+-- ---- the book was finished behind the turns
+
+pub returns-in_default-clause-drained : goal.returns-in_default-clause-drained
+returns-in_default-clause-drained g c = λ files told.
     let m = g.R.Rules.meaning in
     let shelf = g.H.Shelf.shelf c.args.shelf.now in let clock = g.C.Clock.told c.args.clock.now in
     let o = outside m shelf clock 67_108_864 in
     let opened = c.in-Ok.book in let mid = c.make_turns-last.new.book in let later = c.finish-end.new.book in
-    let is : Reopened g.D.Disk.disk m files c.args.disk opened = record {
-      all = ap (λ (b : BookView _ _). b.kept) c.in-Ok.ensures.book;
-      state = ap (λ (b : BookView _ _). b.state) c.in-Ok.ensures.book;
-      opens = c.in-Ok.ensures.opens files told;
-      tells = let long = c.in-Ok.ensures.long files told in (long.0, long.1);
-      call = λ first steps more was. record {
-        all = ap (λ (b : BookView _ _). b.kept) c.in-Ok.ensures.book;
-        state = ap (λ (b : BookView _ _). b.state) c.in-Ok.ensures.book;
-        reopened = c.in-Ok.ensures.kept first steps more was;
-        any_moment = c.in-Ok.ensures.any_moment first steps more was;
-      };
-    } in
-    let limit : opened.limit ≡ 67_108_864 = ap (λ (b : BookView _ _). b.limit) c.in-Ok.ensures.book in
-    let turned = subst (λ (n : ℕ). IsTurned g.D.Disk.disk (outside m shelf clock n) c.args.asked opened mid c.make_turns-last.result) limit c.make_turns-last.ensures.turned in
+    let is : Reopened g.D.Disk.disk m files c.args.disk opened =
+    reopened_so files c.args.disk c.args.rules 67_108_864 opened c.in-Ok.ensures.book (c.in-Ok.ensures.opens files told) (c.in-Ok.ensures.long files told) c.in-Ok.ensures.kept c.in-Ok.ensures.any_moment in
+    let why = c.make_turns-last.result in
+    let turned = subst (λ (n : ℕ). IsTurned g.D.Disk.disk (outside m shelf clock n) c.args.asked opened mid why) (ap (λ (b : BookView _ _). b.limit) c.in-Ok.ensures.book) c.make_turns-last.ensures.turned in
     let now = g.H.Shelf.shelf c.make_turns-last.new.shelf in
-    subst (λ d. IsDrainCall g.D.Disk.disk o now files c.args.asked (g.D.Disk.disk c.args.disk) (g.D.Disk.disk d) c.finish-end.result (g.S.Sink.sink c.args.out.now) (g.S.Sink.sink c.finish-end.new.out)) (sym c.into_disk.ensures)
-    (drain_called o c.each_message_stands_in_one_place.ensures files c.args.asked c.args.disk opened mid later is c.make_turns-last.result turned c.finish-end.ensures.goes_on now (failed_beyond o now mid.state c.make_turns-last.result c.make_turns-last.ensures.failed) c.finish-end.result (g.S.Sink.sink c.args.out.now) (g.S.Sink.sink c.finish-end.new.out)
-    c.finish-end.ensures.finished c.finish-end.ensures.durable c.finish-end.ensures.completed c.finish-end.ensures.written c.finish-end.ensures.undamaged c.finish-end.ensures.untold)
+    let before = g.S.Sink.sink c.args.out.now in let after = g.S.Sink.sink c.finish-end.new.out in
+    subst (λ d. IsDrainCall g.D.Disk.disk o now files c.args.asked (g.D.Disk.disk c.args.disk) (g.D.Disk.disk d) c.ended.result before after) (sym c.into_disk-in_default.ensures)
+    (subst (λ (r : Result TurnsEnd StoreEnd). IsDrainCall g.D.Disk.disk o now files c.args.asked (g.D.Disk.disk c.args.disk) (g.D.Disk.disk later.disk) r before after) (sym c.ended.ensures)
+    (drain_called o c.each_message_stands_in_one_place.ensures files c.args.asked c.args.disk opened mid later is why turned c.finish-end.ensures.goes_on now (failed_beyond o now mid.state why c.make_turns-last.ensures.failed)
+    c.in_default.not-Disk c.has_memory-is_said.result c.has_memory-is_said.ensures.1 c.finish-end.result before after
+    c.finish-end.ensures.finished c.finish-end.ensures.durable c.finish-end.ensures.completed c.finish-end.ensures.written c.finish-end.ensures.undamaged c.finish-end.ensures.untold))
+
+pub returns-in_default-clause-others : goal.returns-in_default-clause-others
+returns-in_default-clause-others g c = λ files told.
+    let opened = c.in-Ok.book in let mid = c.make_turns-last.new.book in let later = c.finish-end.new.book in
+    let turned = c.make_turns-last.ensures.turned in
+    subst (λ d. LeavesAlone (g.D.Disk.disk c.args.disk) (g.D.Disk.disk d) (IsEarlierIn files)) (sym c.into_disk-in_default.ensures)
+    (left_open c.args.disk opened later turned.made files told (c.in-Ok.ensures.opens files told).stored.named (c.in-Ok.ensures.others files told)
+    (still_runs g.R.Rules.meaning opened mid later turned.made turned.run c.finish-end.ensures.goes_on))
+
+pub returns-in_default-clause-plain : goal.returns-in_default-clause-plain
+returns-in_default-clause-plain g c = λ why is.
+    let told = told_turns c.finish-end.result c.has_memory-is_said.result c.make_turns-last.result why (sym c.ended.ensures ∙ is) in
+    subst IsToldEnd (sym told.0) (c.in_default.not-Disk, λ memory. cc (told.1, c.has_memory-is_said.ensures.1 memory))
+
+pub returns-in_default-clause-ends : goal.returns-in_default-clause-ends
+returns-in_default-clause-ends g c =
+    subst (λ (r : Result TurnsEnd StoreEnd). IfErr r MayEndDrain) (sym c.ended.ensures)
+    (ends_finished c.finish-end.result c.has_memory-is_said.result c.make_turns-last.result c.make_turns-last.new.book.state _ _ c.finish-end.ensures.finished)
+
+pub returns-in_default-clause-failed : goal.returns-in_default-clause-failed
+returns-in_default-clause-failed g c = λ name is.
+    let told = told_turns c.finish-end.result c.has_memory-is_said.result c.make_turns-last.result (last.Failed name) (sym c.ended.ensures ∙ is) in
+    (c.make_turns-last.new.book.state, c.make_turns-last.ensures.failed name (sym told.0))
+
+-- ---- the disk failed within the turns
+
+pub returns-in-Disk-clause-drained : goal.returns-in-Disk-clause-drained
+returns-in-Disk-clause-drained g c = λ files told.
+    let m = g.R.Rules.meaning in
+    let shelf = g.H.Shelf.shelf c.args.shelf.now in let clock = g.C.Clock.told c.args.clock.now in
+    let o = outside m shelf clock 67_108_864 in
+    let now = g.H.Shelf.shelf c.make_turns-last.new.shelf in let sink = g.S.Sink.sink c.args.out.now in
+    let opened = c.in-Ok.book in let mid = c.make_turns-last.new.book in
+    let is : Reopened g.D.Disk.disk m files c.args.disk opened =
+    reopened_so files c.args.disk c.args.rules 67_108_864 opened c.in-Ok.ensures.book (c.in-Ok.ensures.opens files told) (c.in-Ok.ensures.long files told) c.in-Ok.ensures.kept c.in-Ok.ensures.any_moment in
+    let why = c.make_turns-last.result in
+    let turned = subst (λ (n : ℕ). IsTurned g.D.Disk.disk (outside m shelf clock n) c.args.asked opened mid why) (ap (λ (b : BookView _ _). b.limit) c.in-Ok.ensures.book) c.make_turns-last.ensures.turned in
+    subst (λ d. IsDrainCall g.D.Disk.disk o now files c.args.asked (g.D.Disk.disk c.args.disk) (g.D.Disk.disk d) (Err end.Disk) sink sink) (sym c.into_disk.ensures)
+    (drain_broken o c.each_message_stands_in_one_place.ensures files c.args.asked c.args.disk opened mid mid is why turned (goes_nowhere mid (g.met.D.Disk.only_now mid.disk)) now sink)
+
+pub returns-in-Disk-clause-others : goal.returns-in-Disk-clause-others
+returns-in-Disk-clause-others g c = λ files told.
+    let turned = c.make_turns-last.ensures.turned in
+    subst (λ d. LeavesAlone (g.D.Disk.disk c.args.disk) (g.D.Disk.disk d) (IsEarlierIn files)) (sym c.into_disk.ensures)
+    (left_open c.args.disk c.in-Ok.book c.make_turns-last.new.book turned.made files told (c.in-Ok.ensures.opens files told).stored.named (c.in-Ok.ensures.others files told) turned.run)
+
+-- ---- the store couldn't be opened
 
 pub returns-in-Err-clause-drained : goal.returns-in-Err-clause-drained
 returns-in-Err-clause-drained g c = λ files told.
@@ -42,29 +87,12 @@ returns-in-Err-clause-drained g c = λ files told.
     let o = outside m (g.H.Shelf.shelf c.args.shelf.now) (g.C.Clock.told c.args.clock.now) 67_108_864 in
     let sink = g.S.Sink.sink c.args.out.now in
     let disk = c.in-Err.disk in
-    subst (λ (e : DrainEnd). IsDrainCall g.D.Disk.disk o o.shelf files c.args.asked (g.D.Disk.disk c.args.disk) (g.D.Disk.disk disk) e sink sink) (sym c.end_of.ensures)
+    subst (λ (e : StoreEnd). IsDrainCall g.D.Disk.disk o o.shelf files c.args.asked (g.D.Disk.disk c.args.disk) (g.D.Disk.disk disk) (Err e) sink sink) (sym c.end_of.ensures)
     (drain_closed g.D.Disk.disk o o.shelf files c.args.asked (g.D.Disk.disk c.args.disk) (g.D.Disk.disk disk) (g.D.Disk.disk c.args.disk).told c.in-Err.fault sink told c.in-Err.ensures.fault
     (λ first steps more was. record { any_moment = c.in-Err.ensures.any_moment_err first steps more was; now = c.in-Err.ensures.still_err first steps more was }))
-
-pub returns-in-Ok-clause-plain : goal.returns-in-Ok-clause-plain
-returns-in-Ok-clause-plain g c = λ why is.
-    let mid = c.make_turns-last.new.book in
-    let finished = subst (λ (e : DrainEnd). IsFinished mid.state c.make_turns-last.result e (g.S.Sink.sink c.args.out.now) (g.S.Sink.sink c.finish-end.new.out)) is c.finish-end.ensures.finished in
-    subst IsToldEnd (sym finished.0) finished.1
-
-pub returns-in-Ok-clause-others : goal.returns-in-Ok-clause-others
-returns-in-Ok-clause-others g c = λ files told.
-    let opened = c.in-Ok.book in let mid = c.make_turns-last.new.book in let later = c.finish-end.new.book in
-    let turned = c.make_turns-last.ensures.turned in
-    subst (λ d. LeavesAlone (g.D.Disk.disk c.args.disk) (g.D.Disk.disk d) (IsEarlierIn files)) (sym c.into_disk.ensures)
-    (left_open c.args.disk opened later turned.made files told (c.in-Ok.ensures.opens files told).stored.named (c.in-Ok.ensures.others files told)
-    (still_runs g.R.Rules.meaning opened mid later turned.made turned.run c.finish-end.ensures.goes_on))
 
 pub returns-in-Err-clause-others : goal.returns-in-Err-clause-others
 returns-in-Err-clause-others g c = λ files told. left_closed files (c.in-Err.ensures.others_err files told)
 
-pub returns-in-Ok-clause-failed : goal.returns-in-Ok-clause-failed
-returns-in-Ok-clause-failed g c = λ name is.
-    let mid = c.make_turns-last.new.book in
-    let finished = subst (λ (e : DrainEnd). IsFinished mid.state c.make_turns-last.result e (g.S.Sink.sink c.args.out.now) (g.S.Sink.sink c.finish-end.new.out)) is c.finish-end.ensures.finished in
-    (mid.state, c.make_turns-last.ensures.failed name (sym finished.0))
+pub returns-in-Err-clause-ends : goal.returns-in-Err-clause-ends
+returns-in-Err-clause-ends g c = subst MayEndDrain (sym c.end_of.ensures) (ends_closed g.R.Rules.meaning (g.D.Disk.disk c.args.disk).told c.in-Err.fault c.in-Err.ensures.fault)

@@ -1,7 +1,4 @@
-use Rattle.std.proofs.Common.{◌≡◌, ◌+◌, ◌-◌, ℕ, List, [], length, refl, sym, ap, subst, ◌∙◌}
-use Rattle.step_code.specs.declared.base.Base.{Base}
-use Rattle.step_code.specs.declared.step.Step.{Step}
-use Rattle.step_code.specs.History.{replay}
+use Rattle.std.proofs.Common.{◌≡◌, ◌+◌, ◌-◌, ℕ, [], length, sym, ap, subst}
 use Rattle.journal_book.specs.Alone.{LeavesAlone}
 use Rattle.journal_book.specs.Book.{BookView}
 use Rattle.journal_book.specs.Opening.{StandsNow}
@@ -12,16 +9,15 @@ use Rattle.store_calls.proofs.Called.{left_closed, left_open, opened_so}
 use Rattle.store_commands.specs.Ends.{AreWrittenAt}
 use Rattle.store_commands.specs.Redone.{redo_step, IsAsked, IsRedoCall, IsRedone, RedoesStep}
 use Rattle.store_commands.specs.declared.end.StoreEnd.{StoreEnd}
-use Rattle.store_commands.proofs.Completed.{unwritten_end, written_behind}
-use Rattle.store_commands.proofs.RedoEnds.{call_closed, call_open, call_told, no_damage, redone_closed, redone_open}
-use Rattle.store_commands.proofs.Redone.{makes, makes_durably, stands, state_behind}
+use Rattle.store_commands.proofs.Completed.{unwritten_end}
+use Rattle.store_commands.proofs.RedoEnds.{call_closed, call_open, redone_closed, redone_open}
+use Rattle.store_commands.proofs.Redone.{makes, makes_durably, stands}
 use Rattle.store_commands.proofs.redoing.redo.Goals as goal
 
 pub returns-in-Ok-clause-redone : goal.returns-in-Ok-clause-redone
 returns-in-Ok-clause-redone g c = λ files told.
     let m = g.R.Rules.meaning in
     let opened = c.in-Ok.book in
-    let later = c.redo_dump-end.new.book in
     let step = redo_step opened.state c.args.dump c.args.now in
     let cause = step_cause m opened.state opened.steps opened.limit step in
     let limit : opened.limit ≡ 67_108_864 = ap (λ (b : BookView _ _). b.limit) c.in-Ok.ensures.book in
@@ -33,8 +29,9 @@ returns-in-Ok-clause-redone g c = λ files told.
       state = ap (λ (b : BookView _ _). b.state) c.in-Ok.ensures.book;
       cause_is = ap (λ (n : ℕ). step_cause m opened.state opened.steps n step) (sym limit);
     } in
-    redone_open m files c.args.dump c.args.now opened.state c.state.result.now.state cause (g.D.Disk.disk opened.disk).told c.redo_dump-end.result c.report-end.result (g.S.Sink.sink c.args.out.now) (g.S.Sink.sink c.report-end.new.out) asked c.redo_dump-end.ensures.end (c.in-Ok.ensures.long files told)
-    (λ done. (λ i. (c.state.ensures.core i).state) ∙ state_behind opened later step c.redo_dump-end.result c.redo_dump-end.ensures.run done) c.report-end.ensures.printed c.report-end.ensures.kept c.report-end.ensures.nothing
+    let long = c.in-Ok.ensures.long files told in
+    redone_open m files c.args.dump c.args.now opened.state cause c.redo_dump-end.result (g.S.Sink.sink c.args.out.now) (g.S.Sink.sink c.redo_dump-end.new.out) asked c.redo_dump-end.ensures.end
+    (λ file at. c.redo_dump-end.ensures.undamaged long.0 file at long.1)
 
 pub returns-in-Ok-clause-stands : goal.returns-in-Ok-clause-stands
 returns-in-Ok-clause-stands g c = λ first steps more was.
@@ -47,14 +44,14 @@ returns-in-Ok-clause-stands g c = λ first steps more was.
     let is : IsOpened g.D.Disk.disk m first steps more c.args.disk opened =
     opened_so first steps more c.args.disk c.args.rules _ opened c.in-Ok.ensures.book (c.in-Ok.ensures.kept first steps more was) (c.in-Ok.ensures.any_moment first steps more was) in
     let e = c.redo_dump-end.result in
-    let call = call_open step run.made e _ _ (no_damage opened.state _ (g.D.Disk.disk opened.disk).told c.args.dump e c.redo_dump-end.ensures.end (c.in-Ok.ensures.long was.files was.tells)) run.made_is
-    (stands accounts first steps more c.args.disk opened later is c.args.dump c.args.now e run)
-    (λ one. ((length run.run.archived + later.kept) - opened.kept, makes accounts first steps more c.args.disk opened later is c.args.dump c.args.now e run one))
-    (λ other one. makes_durably accounts first steps more c.args.disk opened later is c.args.dump c.args.now e run (c.redo_dump-end.ensures.durable other) one) in
-    subst (λ d. IsRedoCall c.report-end.result (StandsOn m first steps more (g.D.Disk.disk c.args.disk) (g.D.Disk.disk d))
+    let long = c.in-Ok.ensures.long was.files was.tells in
+    subst (λ d. IsRedoCall e (StandsOn m first steps more (g.D.Disk.disk c.args.disk) (g.D.Disk.disk d))
     (RedoesStep g.D.Disk.disk m first steps more (g.D.Disk.disk c.args.disk) (g.D.Disk.disk d) c.args.dump c.args.now))
     (sym c.into_disk.ensures)
-    (call_told e c.report-end.result _ _ _ _ _ c.report-end.ensures.printed c.report-end.ensures.kept call)
+    (call_open step run.made e _ _ (λ file at. c.redo_dump-end.ensures.undamaged long.0 file at long.1) run.made_is
+    (stands accounts first steps more c.args.disk opened later is c.args.dump c.args.now e run)
+    (λ one. ((length run.run.archived + later.kept) - opened.kept, makes accounts first steps more c.args.disk opened later is c.args.dump c.args.now e run one))
+    (λ other one. makes_durably accounts first steps more c.args.disk opened later is c.args.dump c.args.now e run (c.redo_dump-end.ensures.durable other) one))
 
 pub returns-in-Err-clause-redone : goal.returns-in-Err-clause-redone
 returns-in-Err-clause-redone g c = λ files told.
@@ -76,9 +73,8 @@ pub returns-in-Ok-clause-written : goal.returns-in-Ok-clause-written
 returns-in-Ok-clause-written g c = λ first history now none.
     let m = g.R.Rules.meaning in
     let is = c.into_disk.ensures in
-    subst (λ d. AreWrittenAt c.report-end.result (AreWritten m first history (g.D.Disk.disk d))) (sym is)
-    (written_behind c.redo_dump-end.result c.report-end.result _ c.report-end.ensures.kept
-    (c.redo_dump-end.ensures.written first history (subst (λ d. StandsNow m first history [] (g.D.Disk.disk d)) is now) none))
+    subst (λ d. AreWrittenAt c.redo_dump-end.result (AreWritten m first history (g.D.Disk.disk d))) (sym is)
+    (c.redo_dump-end.ensures.written first history (subst (λ d. StandsNow m first history [] (g.D.Disk.disk d)) is now) none)
 
 pub returns-in-Err-clause-written : goal.returns-in-Err-clause-written
 returns-in-Err-clause-written g c = λ first history now none.

@@ -1,7 +1,7 @@
 use Rattle.std.proofs.Common.{Ok, Some, subst, sym}
 use Rattle.std.specs.Option.{option_copied}
-use Rattle.pipeline_top.specs.Outside.{IsNamed}
-use Rattle.pipeline_top.proofs.bringing.bring_code.Goals as goal
+use Rattle.bundle_bringing.specs.Brought.{IsNamed}
+use Rattle.bundle_bringing.proofs.bringing.bring_code.Goals as goal
 
 pub returns-in-Ok-code_of-clause-named : goal.returns-in-Ok-code_of-clause-named
 returns-in-Ok-code_of-clause-named g c = λ files told.

@@ -1,4 +1,3 @@
-//! Bundles that the words name.
 ghost use Rattle.std.specs.Prelude.{◌≡◌, ◌≤◌, ℕ, List, Some, Ok, Err, IfOk, IsSome};
 ghost use Rattle.std.specs.Option.{option_copied};
 ghost use Rattle.edge_traits.specs.Count.{Rose};
@@ -6,7 +5,7 @@ ghost use Rattle.edge_traits.specs.Shelf.{count_on};
 ghost use Rattle.bot_rules.specs.Intel.{intel};
 ghost use Rattle.config_bundle.specs.Bundle.{bundle_code, IsBundle};
 ghost use Rattle.runtime_config.specs.Load.{load as loaded};
-ghost use Rattle.pipeline_top.specs.Outside.{Brings, Names};
+ghost use Rattle.bundle_bringing.specs.Brought.{Brings, Names};
 
 use base_types::{Blob, OutOfMemory, Text};
 use bundle_fetch::{BundleFault, bundle_of};
@@ -40,7 +39,12 @@ fn plan_of(alloc: Global, bundle: &Bundle) -> Result<Plan, Unbrought>
     }
 }
 
-/// The bundle of this name with its plan.
+/// The bundle of this name on the shelf, with its plan.
+///
+/// # Errors
+///
+/// `Absent` with the first name of which the shelf has no file, `Failed` where fetching or reading one failed, `Config` with the
+/// first fault of the bundle, or `OutOfMemory`.
 pub fn bring<H: Shelf>(
     alloc: Global,
     shelf: &mut H,
@@ -65,6 +69,10 @@ pub fn bring<H: Shelf>(
 }
 
 /// The code of a bundle that loads.
+///
+/// # Errors
+///
+/// There was no memory.
 pub fn code_of(alloc: Global, bundle: &Bundle, plan: &Plan) -> Result<Blob, OutOfMemory>
     requires coded { IsBundle bundle.now }
     requires loads { loaded bundle.now ≡ Ok plan.now }
@@ -76,6 +84,10 @@ pub fn code_of(alloc: Global, bundle: &Bundle, plan: &Plan) -> Result<Blob, OutO
 }
 
 /// The code of the bundle of this name, where one is named.
+///
+/// # Errors
+///
+/// As of `bring`.
 pub fn bring_code<H: Shelf>(
     alloc: Global,
     shelf: &mut H,
