@@ -13,7 +13,7 @@ use Rattle.step_code.specs.Rules.{Meaning}
 use Rattle.step_code.specs.Spent.{NothingIsSpent, StaysSmall}
 use Rattle.seal_laws.proofs.Histories.{legal_whole, seals, seals_on, seals_self, small_whole}
 use Rattle.store_image.specs.Files.{generation_file}
-use Rattle.store_image.specs.Stands.{IsSealOf, Stands, StandsFor}
+use Rattle.store_image.specs.Stands.{IsSealOf, Origin, Stands, StandsFor}
 use Rattle.store_image.proofs.Standing.{replay-append}
 use Rattle.journal_book.specs.Book.{BookView, durable_steps, waiting_steps, IsKept}
 use Rattle.journal_book.specs.Staged.{cause_of, step_cause}
@@ -34,24 +34,24 @@ small-append m s [] more small then = then
 small-append m s (step ∷ front) more small then = (small.0, small-append m (after m s step) front more small.1 then)
 
 -- what stands for a front of these stands for a front of more
-stands_longer : (m : Meaning) (first : Base) (durable waiting more : List Step) (image : Image) → StandsFor m first durable waiting image → StandsFor m first durable (waiting ++ more) image
-stands_longer m first durable waiting more image stands = record {
+stands_longer : (m : Meaning) (origin : Origin) (durable waiting more : List Step) (image : Image) → StandsFor m origin durable waiting image → StandsFor m origin durable (waiting ++ more) image
+stands_longer m origin durable waiting more image stands = record {
   count = stands.count;
   within = omega (arith, stands.within, length-append waiting more);
-  stands = subst (λ (h : List Step). Stands m first image (durable ++ h)) (sym (take-append-le stands.count waiting more stands.within)) stands.stands;
+  stands = subst (λ (h : List Step). Stands m origin image (durable ++ h)) (sym (take-append-le stands.count waiting more stands.within)) stands.stands;
 }
 
 -- what stands for more durable steps of one history stands for fewer
-stands_wider : (m : Meaning) (first : Base) (durable waiting fewer rest : List Step) (image : Image) → durable ++ waiting ≡ fewer ++ rest → length fewer ≤ length durable
-    → StandsFor m first durable waiting image → StandsFor m first fewer rest image
-stands_wider m first durable waiting fewer rest image same less stands =
+stands_wider : (m : Meaning) (origin : Origin) (durable waiting fewer rest : List Step) (image : Image) → durable ++ waiting ≡ fewer ++ rest → length fewer ≤ length durable
+    → StandsFor m origin durable waiting image → StandsFor m origin fewer rest image
+stands_wider m origin durable waiting fewer rest image same less stands =
     let more = length durable - length fewer + stands.count in
     let front : durable ++ take stands.count waiting ≡ fewer ++ take more rest =
     sym (take-append-add durable waiting stands.count) ∙ ap (take (length durable + stands.count)) same ∙ ap (λ (n : ℕ). take n (fewer ++ rest)) (omega (arith, less)) ∙ take-append-add fewer rest more in
     record {
       count = more;
       within = omega (arith, stands.within, less, ap length same, length-append durable waiting, length-append fewer rest);
-      stands = subst (λ (h : List Step). Stands m first image h) front stands.stands;
+      stands = subst (λ (h : List Step). Stands m origin image h) front stands.stands;
     }
 
 -- the disk stays as it is
@@ -99,9 +99,9 @@ module _ {D R : Type 0} (m : Meaning) where
 module _ {D R : Type 0} {disk : D → DiskView} {m : Meaning} where
   -- calls that go on in their generation
   stays_in : (old new : BookView D R) (made : List Step) → new ≡ longer m old made new → Legal m old.state made → NothingIsSpent m old.state made
-      → ((first : Base) (past : List Step) → IsKept disk m first past old → old.kept ≤ new.kept)
-      → ((first : Base) (past : List Step) → IsKept disk m first past old → IsKept disk m first past new)
-      → ((first : Base) (past : List Step) → IsKept disk m first past old → Leaves (disk old.disk) (disk new.disk) (StandsFor m first (past ++ durable_steps old) (waiting_steps old ++ made)))
+      → ((origin : Origin) (past : List Step) → IsKept disk m origin past old → old.kept ≤ new.kept)
+      → ((origin : Origin) (past : List Step) → IsKept disk m origin past old → IsKept disk m origin past new)
+      → ((origin : Origin) (past : List Step) → IsKept disk m origin past old → Leaves (disk old.disk) (disk new.disk) (StandsFor m origin (past ++ durable_steps old) (waiting_steps old ++ made)))
       → ((files : Image) → (disk old.disk).told ≡ Some files → LeavesAlone (disk old.disk) (disk new.disk) (IsEarlier old.generation))
       → GoesOn disk m old new made
   stays_in old new made book legal small durable kept leaves others = record {
@@ -111,8 +111,8 @@ module _ {D R : Type 0} {disk : D → DiskView} {m : Meaning} where
     state = subst (λ (s : Base). IsSealOf (replay m old.state made) s) (sym (ap (λ (b : BookView D R). b.state) book)) (seals_self (replay m old.state made));
     legal = legal;
     small = small;
-    durable = λ first past was. omega (arith, durable first past was);
-    kept = λ first past was. subst (λ (p : List Step). IsKept disk m first p new) (sym (append-nil past)) (kept first past was);
+    durable = λ origin past was. omega (arith, durable origin past was);
+    kept = λ origin past was. subst (λ (p : List Step). IsKept disk m origin p new) (sym (append-nil past)) (kept origin past was);
     any_moment = leaves;
     onward = omega (arith, ap (λ (b : BookView D R). b.generation) book);
     others = others;
@@ -120,36 +120,36 @@ module _ {D R : Type 0} {disk : D → DiskView} {m : Meaning} where
 
   -- calls that make no step
   pub makes_none : (old new : BookView D R) → IsSameBook old new
-      → ((first : Base) (past : List Step) → IsKept disk m first past old → old.kept ≤ new.kept)
-      → ((first : Base) (past : List Step) → IsKept disk m first past old → IsKept disk m first past new)
-      → ((first : Base) (past : List Step) → IsKept disk m first past old → Leaves (disk old.disk) (disk new.disk) (StandsFor m first (past ++ durable_steps old) (waiting_steps old)))
+      → ((origin : Origin) (past : List Step) → IsKept disk m origin past old → old.kept ≤ new.kept)
+      → ((origin : Origin) (past : List Step) → IsKept disk m origin past old → IsKept disk m origin past new)
+      → ((origin : Origin) (past : List Step) → IsKept disk m origin past old → Leaves (disk old.disk) (disk new.disk) (StandsFor m origin (past ++ durable_steps old) (waiting_steps old)))
       → ((files : Image) → (disk old.disk).told ≡ Some files → LeavesAlone (disk old.disk) (disk new.disk) (IsEarlier old.generation))
       → GoesOn disk m old new []
   makes_none old new same durable kept leaves others =
       stays_in old new [] (longer_none m old new same) tt tt durable kept
-      (λ first past was. subst (λ (ss : List Step). Leaves (disk old.disk) (disk new.disk) (StandsFor m first (past ++ durable_steps old) ss)) (sym (append-nil (waiting_steps old))) (leaves first past was)) others
+      (λ origin past was. subst (λ (ss : List Step). Leaves (disk old.disk) (disk new.disk) (StandsFor m origin (past ++ durable_steps old) ss)) (sym (append-nil (waiting_steps old))) (leaves origin past was)) others
 
   -- all steps are made durable
   pub makes_durable : (old new : BookView D R) → new ≡ record old { disk = new.disk; kept = length old.steps }
-      → ((first : Base) (past : List Step) → IsKept disk m first past old → IsKept disk m first past new)
-      → ((first : Base) (past : List Step) → IsKept disk m first past old → Leaves (disk old.disk) (disk new.disk) (StandsFor m first (past ++ durable_steps old) (waiting_steps old)))
+      → ((origin : Origin) (past : List Step) → IsKept disk m origin past old → IsKept disk m origin past new)
+      → ((origin : Origin) (past : List Step) → IsKept disk m origin past old → Leaves (disk old.disk) (disk new.disk) (StandsFor m origin (past ++ durable_steps old) (waiting_steps old)))
       → ((files : Image) → (disk old.disk).told ≡ Some files → LeavesAlone (disk old.disk) (disk new.disk) (IsEarlier old.generation))
       → GoesOn disk m old new []
   makes_durable old new done kept leaves others =
-      makes_none old new (changes old new _ _ done) (λ first past was. omega (arith, was.within, ap (λ (b : BookView _ _). b.kept) done)) kept leaves others
+      makes_none old new (changes old new _ _ done) (λ origin past was. omega (arith, was.within, ap (λ (b : BookView _ _). b.kept) done)) kept leaves others
 
   -- no call at all
   pub goes_nowhere : (book : BookView D R) → ((image : Image) → (disk book.disk).left_since (disk book.disk).moment image → IsImage (disk book.disk).may_leave image) → GoesOn disk m book book []
-  goes_nowhere book only = makes_none book book refl (λ first past kept. omega arith) (λ first past kept. kept) (λ first past kept. waits disk book book _ refl only kept.each)
+  goes_nowhere book only = makes_none book book refl (λ origin past kept. omega arith) (λ origin past kept. kept) (λ origin past kept. waits disk book book _ refl only kept.each)
       (λ files told. alone_still (disk book.disk) (IsEarlier book.generation) only)
 
   -- one step is committed
   pub makes_one : (old new : BookView D R) (step : Step) → new ≡ record old { state = after m old.state step; steps = old.steps ++ step ∷ [] } → May m old.state step → StaysSmall m old.state step
       → ((image : Image) → (disk old.disk).left_since (disk old.disk).moment image → IsImage (disk old.disk).may_leave image)
-      → ((first : Base) (past : List Step) → IsKept disk m first past old → IsKept disk m first past new) → GoesOn disk m old new (step ∷ [])
+      → ((origin : Origin) (past : List Step) → IsKept disk m origin past old → IsKept disk m origin past new) → GoesOn disk m old new (step ∷ [])
   makes_one old new step same may small only kept =
-      stays_in old new (step ∷ []) (longer_one m old new step same) (may, tt) (small, tt) (λ first past was. omega (arith, ap (λ (b : BookView D R). b.kept) same)) kept
-      (λ first past was. waits disk old new _ (ap (λ (b : BookView D R). b.disk) same) only (λ image left. stands_longer m first (past ++ durable_steps old) (waiting_steps old) (step ∷ []) image (was.each image left)))
+      stays_in old new (step ∷ []) (longer_one m old new step same) (may, tt) (small, tt) (λ origin past was. omega (arith, ap (λ (b : BookView D R). b.kept) same)) kept
+      (λ origin past was. waits disk old new _ (ap (λ (b : BookView D R). b.disk) same) only (λ image left. stands_longer m origin (past ++ durable_steps old) (waiting_steps old) (step ∷ []) image (was.each image left)))
       (λ files told. subst (λ (d : D). LeavesAlone (disk old.disk) (disk d) (IsEarlier old.generation)) (sym (ap (λ (b : BookView D R). b.disk) same)) (alone_still (disk old.disk) (IsEarlier old.generation) only))
 
   -- a run, and another from where it ends
@@ -163,11 +163,11 @@ module _ {D R : Type 0} {disk : D → DiskView} {m : Meaning} where
         (seals_on (replay m (replay m old.state made) more) (replay m mid.state more) new.state (seals m (replay m old.state made) mid.state more front.state) rest.state);
     legal = legal-append m old.state made more front.legal (legal_whole m (replay m old.state made) mid.state more front.state rest.legal);
     small = small-append m old.state made more front.small (small_whole m (replay m old.state made) mid.state more front.state rest.small);
-    durable = λ first past was. omega (arith, front.durable first past was, rest.durable first (past ++ front.archived) (front.kept first past was), length-append front.archived rest.archived);
-    kept = λ first past was. subst (λ (p : List Step). IsKept disk m first p new) (append_assoc past front.archived rest.archived) (rest.kept first (past ++ front.archived) (front.kept first past was));
-    any_moment = λ first past was.
-        run_on (widened (to_the_end first past) (front.any_moment first past was))
-        (widened (from_the_start first past (front.kept first past was) was) (rest.any_moment first (past ++ front.archived) (front.kept first past was)));
+    durable = λ origin past was. omega (arith, front.durable origin past was, rest.durable origin (past ++ front.archived) (front.kept origin past was), length-append front.archived rest.archived);
+    kept = λ origin past was. subst (λ (p : List Step). IsKept disk m origin p new) (append_assoc past front.archived rest.archived) (rest.kept origin (past ++ front.archived) (front.kept origin past was));
+    any_moment = λ origin past was.
+        run_on (widened (to_the_end origin past) (front.any_moment origin past was))
+        (widened (from_the_start origin past (front.kept origin past was) was) (rest.any_moment origin (past ++ front.archived) (front.kept origin past was)));
     onward = omega (arith, front.onward, rest.onward);
     others = λ files told.
         let run = front.others files told in
@@ -180,9 +180,9 @@ module _ {D R : Type 0} {disk : D → DiskView} {m : Meaning} where
           sym (append_assoc old.steps made more) ∙ ap (λ (ss : List Step). ss ++ more) front.splits ∙ append_assoc front.archived mid.steps more
           ∙ ap (λ (ss : List Step). front.archived ++ ss) rest.splits ∙ sym (append_assoc front.archived rest.archived new.steps)
 
-      to_the_end : (first : Base) (past : List Step) (image : Image) → StandsFor m first (past ++ durable_steps old) (waiting_steps old ++ made) image → StandsFor m first (past ++ durable_steps old) (waiting_steps old ++ (made ++ more)) image
-      to_the_end first past image stands =
-          subst (λ (ss : List Step). StandsFor m first (past ++ durable_steps old) ss image) (append_assoc (waiting_steps old) made more) (stands_longer m first (past ++ durable_steps old) (waiting_steps old ++ made) more image stands)
+      to_the_end : (origin : Origin) (past : List Step) (image : Image) → StandsFor m origin (past ++ durable_steps old) (waiting_steps old ++ made) image → StandsFor m origin (past ++ durable_steps old) (waiting_steps old ++ (made ++ more)) image
+      to_the_end origin past image stands =
+          subst (λ (ss : List Step). StandsFor m origin (past ++ durable_steps old) ss image) (append_assoc (waiting_steps old) made more) (stands_longer m origin (past ++ durable_steps old) (waiting_steps old ++ made) more image stands)
 
       whole : (past : List Step) (book : BookView D R) (behind : List Step) → (past ++ durable_steps book) ++ (waiting_steps book ++ behind) ≡ past ++ (book.steps ++ behind)
       whole past book behind =
@@ -193,8 +193,8 @@ module _ {D R : Type 0} {disk : D → DiskView} {m : Meaning} where
           whole (past ++ front.archived) mid more ∙ append_assoc past front.archived (mid.steps ++ more)
           ∙ ap (λ (ss : List Step). past ++ ss) (sym (append_assoc front.archived mid.steps more) ∙ ap (λ (ss : List Step). ss ++ more) (sym front.splits) ∙ append_assoc old.steps made more) ∙ sym (whole past old (made ++ more))
 
-      from_the_start : (first : Base) (past : List Step) → IsKept disk m first (past ++ front.archived) mid → IsKept disk m first past old → (image : Image)
-          → StandsFor m first ((past ++ front.archived) ++ durable_steps mid) (waiting_steps mid ++ more) image → StandsFor m first (past ++ durable_steps old) (waiting_steps old ++ (made ++ more)) image
-      from_the_start first past now was image stands =
-          stands_wider m first ((past ++ front.archived) ++ durable_steps mid) (waiting_steps mid ++ more) (past ++ durable_steps old) (waiting_steps old ++ (made ++ more)) image (same_steps past)
-          (omega (arith, front.durable first past was, now.within, was.within, length-append (past ++ front.archived) (durable_steps mid), length-append past front.archived, length-append past (durable_steps old), length-take mid.kept mid.steps, length-take old.kept old.steps)) stands
+      from_the_start : (origin : Origin) (past : List Step) → IsKept disk m origin (past ++ front.archived) mid → IsKept disk m origin past old → (image : Image)
+          → StandsFor m origin ((past ++ front.archived) ++ durable_steps mid) (waiting_steps mid ++ more) image → StandsFor m origin (past ++ durable_steps old) (waiting_steps old ++ (made ++ more)) image
+      from_the_start origin past now was image stands =
+          stands_wider m origin ((past ++ front.archived) ++ durable_steps mid) (waiting_steps mid ++ more) (past ++ durable_steps old) (waiting_steps old ++ (made ++ more)) image (same_steps past)
+          (omega (arith, front.durable origin past was, now.within, was.within, length-append (past ++ front.archived) (durable_steps mid), length-append past front.archived, length-append past (durable_steps old), length-take mid.kept mid.steps, length-take old.kept old.steps)) stands

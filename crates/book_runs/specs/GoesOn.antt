@@ -1,13 +1,12 @@
 -- How a book goes on: what a run of its calls makes of it.
 use Rattle.std.specs.Prelude.{◌≡◌, ◌≢◌, ◌≤◌, ◌+◌, ℕ, List, ◌++◌, length, Some}
 use Rattle.edge_traits.specs.Disk.{DiskView, Image, Leaves}
-use Rattle.step_code.specs.declared.base.Base.{Base}
 use Rattle.step_code.specs.declared.step.Step.{Step}
 use Rattle.step_code.specs.History.{replay, Legal}
 use Rattle.step_code.specs.Rules.{Meaning}
 use Rattle.step_code.specs.Spent.{NothingIsSpent}
 use Rattle.store_image.specs.Files.{root_file, generation_file}
-use Rattle.store_image.specs.Stands.{IsSealOf, StandsFor}
+use Rattle.store_image.specs.Stands.{IsSealOf, Origin, StandsFor}
 use Rattle.journal_book.specs.Alone.{IsNoOut, LeavesAlone}
 use Rattle.journal_book.specs.Book.{BookView, durable_steps, waiting_steps, IsKept}
 
@@ -35,10 +34,10 @@ pub record GoesOn {D R : Type 0} (disk : D → DiskView) (m : Meaning) (old new 
   pub state : IsSealOf (replay m old.state made) new.state
   pub legal : Legal m old.state made
   pub small : NothingIsSpent m old.state made
-  pub durable : (first : Base) (past : List Step) → IsKept disk m first past old → old.kept ≤ length archived + new.kept
-  pub kept : (first : Base) (past : List Step) → IsKept disk m first past old → IsKept disk m first (past ++ archived) new
-  pub any_moment : (first : Base) (past : List Step) → IsKept disk m first past old
-      → Leaves (disk old.disk) (disk new.disk) (StandsFor m first (past ++ durable_steps old) (waiting_steps old ++ made))
+  pub durable : (origin : Origin) (past : List Step) → IsKept disk m origin past old → old.kept ≤ length archived + new.kept
+  pub kept : (origin : Origin) (past : List Step) → IsKept disk m origin past old → IsKept disk m origin (past ++ archived) new
+  pub any_moment : (origin : Origin) (past : List Step) → IsKept disk m origin past old
+      → Leaves (disk old.disk) (disk new.disk) (StandsFor m origin (past ++ durable_steps old) (waiting_steps old ++ made))
   pub onward : old.generation ≤ new.generation
   -- where the disk tells, whoever made the store
   pub others : (files : Image) → (disk old.disk).told ≡ Some files → LeavesAlone (disk old.disk) (disk new.disk) (IsEarlier old.generation)

@@ -10,10 +10,10 @@ use Rattle.step_code.specs.declared.step.Step.{Step}
 use Rattle.step_code.specs.History.{replay}
 use Rattle.step_code.specs.Rules.{Meaning}
 use Rattle.store_image.specs.Opens.{Opens}
-use Rattle.store_image.specs.Stands.{IsSealOf, StandsFor}
+use Rattle.store_image.specs.Stands.{IsSealOf, Origin, StandsFor}
 use Rattle.journal_book.specs.Book.{BookView}
 use Rattle.journal_book.specs.Opening.{opened as opened_with, IsReopenFault, IsReopened, StandsNow, TellsLong}
-use Rattle.journal_book.specs.Outputs.{AreCompleted, AreWritten, HaveNoneSealed}
+use Rattle.journal_book.specs.Outputs.{AreCompleted, AreWritten}
 use Rattle.journal_book.specs.declared.book_fault.BookFault.{BookFault}
 use Rattle.journal_book.specs.declared.book_fault.BookFault.TheVariants as fault
 use Rattle.book_runs.specs.GoesOn.{GoesOn}
@@ -63,18 +63,18 @@ pub record Reopened {D R : Type 0} (disk : D → DiskView) (m : Meaning) (files 
   pub state : book.state ≡ replay m book.base book.steps
   pub opens : Opens m files book.generation book.base book.steps
   pub tells : (now : Image) × ((disk book.disk).told ≡ Some now)
-  pub call : (first : Base) (steps more : List Step) → StandsNow m first steps more (disk old) → IsOpenedCall disk m first steps more old book
+  pub call : (origin : Origin) (steps more : List Step) → StandsNow m origin steps more (disk old) → IsOpenedCall disk m origin steps more old book
 
 pub reopened_so : {D R : Type 0} {disk : D → DiskView} {m : Meaning} (files : Image) (old : D) (rules : R) (limit : ℕ) (book : BookView D R) → book ≡ opened_with m rules book.generation book.base book.steps limit book.disk
     → Opens m files book.generation book.base book.steps → TellsLong (disk book.disk).told book.state.outs
-    → ((first : Base) (steps more : List Step) → StandsNow m first steps more (disk old) → IsReopened disk m first steps more book)
-    → ((first : Base) (steps more : List Step) → StandsNow m first steps more (disk old) → Leaves (disk old) (disk book.disk) (StandsFor m first steps more)) → Reopened disk m files old book
+    → ((origin : Origin) (steps more : List Step) → StandsNow m origin steps more (disk old) → IsReopened disk m origin steps more book)
+    → ((origin : Origin) (steps more : List Step) → StandsNow m origin steps more (disk old) → Leaves (disk old) (disk book.disk) (StandsFor m origin steps more)) → Reopened disk m files old book
 reopened_so {D = D} {R = R} files old rules limit book is opens long kept any_moment = record {
   all = ap (λ (b : BookView D R). b.kept) is;
   state = ap (λ (b : BookView D R). b.state) is;
   opens = opens;
   tells = (long.0, long.1);
-  call = λ first steps more was. opened_so first steps more old rules limit book is (kept first steps more was) (any_moment first steps more was);
+  call = λ origin steps more was. opened_so origin steps more old rules limit book is (kept origin steps more was) (any_moment origin steps more was);
 }
 
 module _ {D R : Type 0} {disk : D → DiskView} (o : Outside) (accounts : AllAccounted o.meaning) (files : Image) (asked : Asked) (old : D) (opened mid later : BookView D R)
@@ -92,16 +92,16 @@ module _ {D R : Type 0} {disk : D → DiskView} (o : Outside) (accounts : AllAcc
   state_now : mid.state ≡ replay o.meaning (replay o.meaning opened.base opened.steps) turned.made
   state_now = ap (λ (b : BookView D R). b.state) turned.book ∙ ap (λ (s : Base). replay o.meaning s turned.made) is.state
 
-  call_in : (durable : ℕ) (first : Base) (steps more : List Step) → (was : IsOpenedCall disk o.meaning first steps more old opened)
-      → made_durable ≡ durable → IsCallIn disk o.meaning first steps more (disk old) (disk later.disk) (replay o.meaning opened.base opened.steps) turned.made durable
-  call_in durable first steps more was number =
-      subst (λ (n : ℕ). IsCallIn disk o.meaning first steps more (disk old) (disk later.disk) (replay o.meaning opened.base opened.steps) turned.made n) number
-      (record { call = called first steps more turned.made old opened later was run accounts; reads = seals_read })
+  call_in : (durable : ℕ) (origin : Origin) (steps more : List Step) → (was : IsOpenedCall disk o.meaning origin steps more old opened)
+      → made_durable ≡ durable → IsCallIn disk o.meaning origin steps more (disk old) (disk later.disk) (replay o.meaning opened.base opened.steps) turned.made durable
+  call_in durable origin steps more was number =
+      subst (λ (n : ℕ). IsCallIn disk o.meaning origin steps more (disk old) (disk later.disk) (replay o.meaning opened.base opened.steps) turned.made n) number
+      (record { call = called origin steps more turned.made old opened later was run accounts; reads = seals_read })
     where
-      seals_read : IsSealOf (replay o.meaning first (steps ++ take (called first steps more turned.made old opened later was run accounts).count more)) (replay o.meaning opened.base opened.steps)
+      seals_read : IsSealOf (replay o.meaning origin.first (steps ++ take (called origin steps more turned.made old opened later was run accounts).count more)) (replay o.meaning opened.base opened.steps)
       seals_read =
-          subst (λ (n : ℕ). IsSealOf (replay o.meaning first (steps ++ take n more)) (replay o.meaning opened.base opened.steps)) (sym (count_called first steps more turned.made old opened later was run accounts))
-          (subst (λ (s : Base). IsSealOf (replay o.meaning first (steps ++ take was.reopened.count more)) s) is.state (sealed_state first steps more turned.made old opened later was run))
+          subst (λ (n : ℕ). IsSealOf (replay o.meaning origin.first (steps ++ take n more)) (replay o.meaning opened.base opened.steps)) (sym (count_called origin steps more turned.made old opened later was run accounts))
+          (subst (λ (s : Base). IsSealOf (replay o.meaning origin.first (steps ++ take was.reopened.count more)) s) is.state (sealed_state origin steps more turned.made old opened later was run))
 
   -- what the call drained
   pub drained : (durable : ℕ) → made_durable ≡ durable → Drained disk o files asked (disk old) (disk later.disk) why
@@ -115,7 +115,7 @@ module _ {D R : Type 0} {disk : D → DiskView} (o : Outside) (accounts : AllAcc
     state = mid.state;
     state_is = state_now;
     durable = durable;
-    call = λ first steps more was. call_in durable first steps more (is.call first steps more was) number;
+    call = λ origin steps more was. call_in durable origin steps more (is.call origin steps more was) number;
   }
 
   -- all of it is durable where all steps of the book are
@@ -138,7 +138,7 @@ module _ {D R : Type 0} {disk : D → DiskView} (o : Outside) (accounts : AllAcc
   pub drain_called : (now : ShelfView) → IsFailedBeyond o now mid.state why → why ≢ last.Disk → (is_said : Bool) → (why ≡ last.Memory → is_said ≡ false) → (e : StoreEnd) (a b : SinkView) → IsFinished is_said mid.state e a b
       → (e ≢ end.Disk → later.kept ≡ length later.steps)
       → ((before after : Image) → (disk mid.disk).told ≡ Some before → (disk later.disk).told ≡ Some after → AreWrittenAt e (AreCompleted (disk later.disk).may_leave mid.state.outs before after))
-      → ((first : Base) (history : List Step) → StandsNow o.meaning first history [] (disk later.disk) → HaveNoneSealed first.outs → AreWrittenAt e (AreWritten o.meaning first history (disk later.disk)))
+      → ((origin : Origin) (history : List Step) → StandsNow o.meaning origin history [] (disk later.disk) → AreWrittenAt e (AreWritten o.meaning origin.first history (disk later.disk)))
       → ((files : Image) (file at : ℕ) → (disk mid.disk).told ≡ Some files → e ≢ end.Damaged file at)
       → ((disk mid.disk).told ≡ None → (disk later.disk).told ≡ None) → IsDrainCall disk o now files asked (disk old) (disk later.disk) (ended e is_said why) a b
   unfolding drained

@@ -82,7 +82,7 @@ module _ {D : Type 0} (disk : D → DiskView) (o : Outside) (feeds : List (List 
   -- the store opens
   undamaged : ((image : Image) → old.told ≡ Some image → IsImage old.may_leave image) → WhatStandsOpens o.meaning → (file at : ℕ) → IsDamagedStore o.meaning files file at → ⊥
   undamaged honest opens file at damaged =
-      stands_undamaged o.meaning opens is.bots is.bundle is.steps is.more files is.loads is.legal is.small (is.stands.each files (honest files is.disk_tells)) file at damaged
+      stands_undamaged o.meaning opens is.bots is.bundle is.whole is.steps is.more files is.loads is.legal is.small (is.stands.each files (honest files is.disk_tells)) file at damaged
 
 pub drains_end_idle : {D : Type 0} (disk : D → DiskView) (old new : DiskView) → ((image : Image) → old.told ≡ Some image → IsImage old.may_leave image)
     → (o : Outside) → WhatStandsOpens o.meaning → (feeds : List (List ℕ × List ℕ)) (files : Image) (asked : Asked) → IsUnhindered disk o feeds files asked old new → (now : ShelfView) (e : Result TurnsEnd StoreEnd) (before after : SinkView)

@@ -13,9 +13,9 @@ use Rattle.state_texts.specs.Texts.{summary}
 use Rattle.store_image.specs.Damage.{IsDamagedStore}
 use Rattle.store_image.specs.Files.{root_file}
 use Rattle.store_image.specs.Opens.{Opens}
-use Rattle.store_image.specs.Stands.{IsSealOf}
+use Rattle.store_image.specs.Stands.{IsSealOf, Origin}
 use Rattle.journal_book.specs.Opening.{StandsNow}
-use Rattle.journal_book.specs.Outputs.{AreCompleted, AreWritten, HaveNoneSealed}
+use Rattle.journal_book.specs.Outputs.{AreCompleted, AreWritten}
 use Rattle.store_calls.specs.Calls.{IsCall, StandsOn}
 use Rattle.store_commands.specs.declared.end.StoreEnd.{StoreEnd}
 use Rattle.store_commands.specs.declared.end.StoreEnd.TheVariants as end
@@ -32,11 +32,11 @@ use Rattle.drain_command.specs.declared.draining.Asked.{Asked}
 abbrev pub start : Meaning → Base → List Step → Asked → Place
 start m base read asked = record { opening = opening_of m (replay m base read) asked.opening.bundle asked.opening.rounds; left = asked.left; steps = read; state = replay m base read }
 
--- a call on a disk that stood for these steps of the store whose first state is `first`, and a front of those behind them, read
+-- a call on a disk that stood for these steps of the store of this origin, and a front of those behind them, read
 -- this state of it, up to lines that are sealed, and made these steps, of which so many are durable
-pub record IsCallIn {D : Type 0} (disk : D → DiskView) (m : Meaning) (first : Base) (steps more : List Step) (old new : DiskView) (state : Base) (made : List Step) (durable : ℕ) : Type 0 where
-  pub call : IsCall disk m first steps more old new made durable
-  pub reads : IsSealOf (replay m first (steps ++ take call.count more)) state
+pub record IsCallIn {D : Type 0} (disk : D → DiskView) (m : Meaning) (origin : Origin) (steps more : List Step) (old new : DiskView) (state : Base) (made : List Step) (durable : ℕ) : Type 0 where
+  pub call : IsCall disk m origin steps more old new made durable
+  pub reads : IsSealOf (replay m origin.first (steps ++ take call.count more)) state
 
 -- the store opens; the steps that were made, one by one as they were due, and why there are no more; the state behind them; and
 -- what the disk stands for, at any moment of the call and behind it
@@ -50,7 +50,7 @@ pub record Drained {D : Type 0} (disk : D → DiskView) (o : Outside) (files : I
   pub state : Base
   pub state_is : state ≡ replay o.meaning (replay o.meaning base read) made
   pub durable : ℕ
-  pub call : (first : Base) (steps more : List Step) → StandsNow o.meaning first steps more old → IsCallIn disk o.meaning first steps more old new (replay o.meaning base read) made durable
+  pub call : (origin : Origin) (steps more : List Step) → StandsNow o.meaning origin steps more old → IsCallIn disk o.meaning origin steps more old new (replay o.meaning base read) made durable
 
 -- all steps that were made are durable
 abbrev pub IsDurable : {D : Type 0} {disk : D → DiskView} {o : Outside} {files : Image} {asked : Asked} {old new : DiskView} {why : TurnsEnd}
@@ -61,11 +61,11 @@ IsDurable d = d.durable ≡ length d.made
 -- for, of a store that began with nothing sealed
 pub record HasOutputs (m : Meaning) (new : DiskView) (outs : List Output) : Type 0 where
   pub completed : (after : Image) → new.told ≡ Some after → (before : Image) × AreCompleted new.may_leave outs before after
-  pub written : (first : Base) (history : List Step) → StandsNow m first history [] new → HaveNoneSealed first.outs → AreWritten m first history new
+  pub written : (origin : Origin) (history : List Step) → StandsNow m origin history [] new → AreWritten m origin.first history new
 
 -- no step was made: at any moment of the call and behind it the disk stands for the same history
 abbrev pub IsStill : Meaning → DiskView → DiskView → Type 0
-IsStill m old new = (first : Base) (steps more : List Step) → StandsNow m first steps more old → StandsOn m first steps more old new
+IsStill m old new = (origin : Origin) (steps more : List Step) → StandsNow m origin steps more old → StandsOn m origin steps more old new
 
 -- an end that is told: neither the disk nor memory ended the turns
 abbrev pub IsToldEnd : TurnsEnd → Type 0

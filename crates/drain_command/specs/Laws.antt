@@ -1,5 +1,5 @@
 -- What holds of a drain that nothing hinders.
-use Rattle.std.specs.Prelude.{◌≡◌, ◌++◌, ℕ, List, None, Some, Result, Ok, Err}
+use Rattle.std.specs.Prelude.{◌≡◌, ◌++◌, ℕ, Bool, List, None, Some, Result, Ok, Err}
 use Rattle.edge_traits.specs.Disk.{DiskView, Image}
 use Rattle.edge_traits.specs.Shelf.{ShelfView}
 use Rattle.edge_traits.specs.Sink.{SinkView}
@@ -10,6 +10,7 @@ use Rattle.step_code.specs.History.{first, Legal}
 use Rattle.step_code.specs.Rules.{AreSound, Meaning}
 use Rattle.step_code.specs.Spent.{NothingIsSpent}
 use Rattle.step_code.specs.State.{bots_in_force}
+use Rattle.store_image.specs.Stands.{origin_of}
 use Rattle.store_image.specs.Stored.{IsStored}
 use Rattle.journal_book.specs.Opening.{StandsNow}
 use Rattle.store_commands.specs.declared.end.StoreEnd.{StoreEnd}
@@ -61,7 +62,8 @@ pub record IsUnhindered {D : Type 0} (disk : D → DiskView) (o : Outside) (feed
   pub loads : o.meaning.facts bundle ≡ Some bots
   pub steps : List Step
   pub more : List Step
-  pub stands : StandsNow o.meaning (first bots bundle) steps more old
+  pub whole : Bool
+  pub stands : StandsNow o.meaning (origin_of (first bots bundle) whole) steps more old
   pub legal : Legal o.meaning (first bots bundle) (steps ++ more)
   pub small : NothingIsSpent o.meaning (first bots bundle) (steps ++ more)
   pub sound : (generation : ℕ) (base : Base) (read : List Step) → IsStored files generation base read → AreSound (bots_in_force o.meaning (opened_state o.meaning base read asked))

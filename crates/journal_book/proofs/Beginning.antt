@@ -1,5 +1,5 @@
 -- What a new store stands for.
-use Rattle.std.proofs.Common.{◌≡◌, ◌≢◌, ◌≤◌, inl, inr, ℕ, suc, true, false, List, [], ◌∷◌, ◌++◌, length, map, filter, flat_map, Option, Some, None, refl, sym, ap, subst, ◌∙◌, arith, length-append}
+use Rattle.std.proofs.Common.{◌≡◌, ◌≢◌, ◌≤◌, inl, inr, ℕ, Bool, suc, true, false, List, [], ◌∷◌, ◌++◌, length, map, filter, flat_map, Option, Some, None, refl, sym, ap, subst, ◌∙◌, arith, length-append}
 use Rattle.std.proofs.lemmas.Option.{none-some}
 use Rattle.std.specs.List.{AllByRecursion}
 use Rattle.edge_traits.specs.Disk.{DiskView, Image, IsImage, Leaves}
@@ -21,8 +21,9 @@ use Rattle.step_code.specs.History.{first, replay}
 use Rattle.step_code.specs.Rules.{Meaning, writes}
 use Rattle.step_code.specs.Sound.{longest_base, IsSound}
 use Rattle.step_code.specs.State.{new_out}
+use Rattle.seal_laws.proofs.Unsealed.{new_unsealed}
 use Rattle.store_image.specs.Files.{generation_file, root_file}
-use Rattle.store_image.specs.Stands.{AreSealedFrom, FrontsStand, Stands}
+use Rattle.store_image.specs.Stands.{origin_of, AreSealedFrom, FrontsStand, IsArchive, IsSealOf, Stands, WhereWhole}
 use Rattle.store_image.specs.Stored.{codes_of, HoldsSteps}
 use Rattle.store_image.proofs.Standing.{stands_by, IsPast}
 use Rattle.journal_book.specs.Book.{created, BookView, IsKept}
@@ -71,27 +72,41 @@ new_outs_short m base state bots bundle sound is same =
     }
 
 -- nothing of a first state is sealed
-first_past : (m : Meaning) (bots : List Facts) (bundle : List ℕ) (image : Image) → length (code_of_base first_format (first bots bundle)) ≤ longest_base → IsPast m (first bots bundle) [] (first bots bundle) image
-first_past m bots bundle image short =
-    record { seals = record { outs = new_outs_sealed (filter writes bots); same = refl }; fronts = new_fronts 0 (filter writes bots) image; short = short }
+-- no generation is below the first
+none_below : (whole : Bool) (m : Meaning) (base : Base) (image : Image) → IsSealOf base base → WhereWhole whole (IsArchive m base 0 base [] image)
+none_below true m base image seals = record { held = []; count = refl; each = tt; joins = refl; ends = seals }
+none_below false m base image seals = tt
 
-first_past_of : (m : Meaning) (bots : List Facts) (bundle : List ℕ) (base : Base) (image : Image) → base ≡ first bots bundle → length (code_of_base first_format base) ≤ longest_base → IsPast m base [] base image
-first_past_of m bots bundle base image is short =
-    subst (λ (b : Base). IsPast m b [] b image) (sym is) (first_past m bots bundle image (subst (λ (b : Base). length (code_of_base first_format b) ≤ longest_base) is short))
+first_past : (m : Meaning) (bots : List Facts) (bundle : List ℕ) (whole : Bool) (image : Image) → length (code_of_base first_format (first bots bundle)) ≤ longest_base
+    → IsPast m (origin_of (first bots bundle) whole) [] (first bots bundle) 0 image
+first_past m bots bundle whole image short =
+    let seals : IsSealOf (first bots bundle) (first bots bundle) = record { outs = new_outs_sealed (filter writes bots); same = refl } in
+    record {
+      seals = seals;
+      fronts = new_fronts 0 (filter writes bots) image;
+      short = short;
+      unsealed = new_unsealed (filter writes bots);
+      below = none_below whole m (first bots bundle) image seals;
+    }
+
+first_past_of : (m : Meaning) (bots : List Facts) (bundle : List ℕ) (base : Base) (whole : Bool) (image : Image) → base ≡ first bots bundle → length (code_of_base first_format base) ≤ longest_base
+    → IsPast m (origin_of base whole) [] base 0 image
+first_past_of m bots bundle base whole image is short =
+    subst (λ (b : Base). IsPast m (origin_of b whole) [] b 0 image) (sym is) (first_past m bots bundle whole image (subst (λ (b : Base). length (code_of_base first_format b) ≤ longest_base) is short))
 
 -- whatever a crash leaves of a new store stands for no steps
-pub kept_created : {D R : Type 0} (disk : D → DiskView) (m : Meaning) (bots : List Facts) (bundle : List ℕ) (base : Base) (rules : R) (limit : ℕ) (now : D) (root journal : JournalView) (files : Image)
+pub kept_created : {D R : Type 0} (disk : D → DiskView) (m : Meaning) (bots : List Facts) (bundle : List ℕ) (base : Base) (whole : Bool) (rules : R) (limit : ℕ) (now : D) (root journal : JournalView) (files : Image)
     → base ≡ first bots bundle → IsImage (disk now).may_leave files → (disk now).told ≡ Some files → AreStoreFiles root journal 0 → IsWritableBase first_format base → length (code_of_base first_format base) ≤ longest_base
-    → AreAtRest root journal (disk now).may_leave 0 base [] files → IsKept disk m base [] (created rules base limit now)
-kept_created disk m bots bundle base rules limit now root journal files is honest told stores writable short rest = record {
+    → AreAtRest root journal (disk now).may_leave 0 base [] files → IsKept disk m (origin_of base whole) [] (created rules base limit now)
+kept_created disk m bots bundle base whole rules limit now root journal files is honest told stores writable short rest = record {
   files = files;
   tells = told;
   counted = omega arith;
-  seals = (first_past_of m bots bundle base files is short).seals;
+  seals = (first_past_of m bots bundle base whole files is short).seals;
   within = omega arith;
   each = λ image left.
-      let past = first_past_of m bots bundle base image is short in
-      record { count = 0; within = omega arith; stands = stands_by m base [] [] base 0 image image past (λ k. refl) (stored_now (disk now).may_leave root journal 0 base [] files honest stores writable rest image left) };
+      let past = first_past_of m bots bundle base whole image is short in
+      record { count = 0; within = omega arith; stands = stands_by m (origin_of base whole) [] [] base 0 image image past (λ k. refl) (λ k below. refl) (stored_now (disk now).may_leave root journal 0 base [] files honest stores writable rest image left) };
 }
 
 -- where the first generation's file has the code of a first state alone, it holds that state
@@ -103,9 +118,9 @@ first_holds m bots bundle base code image loads is sound writable coded has =
       bots = bots;
       loads = loads;
       holds = subst (λ (b : Base). HoldsSteps 0 (image (generation_file 0)) b []) is holds;
-      stands = λ named.
-          subst (λ (b : Base). Stands m b image []) is
-          (stands_by m base [] [] base 0 image image (first_past_of m bots bundle base image is sound.short) (λ k. refl) (record { named = named; holds = holds }));
+      stands = λ whole named.
+          subst (λ (b : Base). Stands m (origin_of b whole) image []) is
+          (stands_by m (origin_of base whole) [] [] base 0 image image (first_past_of m bots bundle base whole image is sound.short) (λ k. refl) (λ k below. refl) (record { named = named; holds = holds }));
     }
 
 -- a journal at rest is left with its bodies

@@ -15,7 +15,7 @@ use Rattle.step_code.specs.declared.step.Step.{Step}
 use Rattle.step_code.specs.Code.{code_of_base, code_of_step, first_format, IsWritable, IsWritableBase}
 use Rattle.step_code.specs.Rules.{Meaning}
 use Rattle.store_image.specs.Files.{root_file, out_file, generation_file}
-use Rattle.store_image.specs.Stands.{Stands, StandsFor}
+use Rattle.store_image.specs.Stands.{Origin, Stands, StandsFor}
 use Rattle.store_image.specs.Stored.{codes_of, IsRecord, AreRecords, NamesLast, HoldsSteps, IsStored}
 use Rattle.store_image.proofs.Standing.{put_file, put_there, put_elsewhere, past_of, records_more, stands_by}
 use Rattle.store_image.proofs.Stored.{step_is_long}
@@ -99,12 +99,13 @@ module _ (may_leave : ℕ → List ℕ → Type 0) (root journal : JournalView) 
       }
 
   -- with so many steps in its generation, an image stands for them
-  module _ (m : Meaning) (first : Base) (past waiting : List Step) (counted : base.steps ≡ first.steps + length past) (each : (image : Image) → IsImage may_leave image → StandsFor m first (past ++ steps) waiting image) where
-    pub stands_with : (image : Image) → Others image → (more : List Step) → HoldsSteps g (image gen) base more → Stands m first image (past ++ more)
+  module _ (m : Meaning) (origin : Origin) (past waiting : List Step) (counted : base.steps ≡ origin.first.steps + length past) (each : (image : Image) → IsImage may_leave image → StandsFor m origin (past ++ steps) waiting image) where
+    pub stands_with : (image : Image) → Others image → (more : List Step) → HoldsSteps g (image gen) base more → Stands m origin image (past ++ more)
     stands_with image others more holds =
         let stands = each (before image) (left_before image others) in
-        let past_is = past_of m first past steps (take stands.count waiting) base g (before image) (stored_before image others) counted stands.stands in
-        stands_by m first past more base g (before image) image past_is (λ k. put_elsewhere gen (out_file k) (files gen) image (apart_out g k)) (record { named = named_in image others; holds = holds })
+        let past_is = past_of m origin past steps (take stands.count waiting) base g (before image) (stored_before image others) counted stands.stands in
+        stands_by m origin past more base g (before image) image past_is (λ k. put_elsewhere gen (out_file k) (files gen) image (apart_out g k))
+        (λ k below. put_elsewhere gen (generation_file k) (files gen) image (λ same. omega (arith, same, below))) (record { named = named_in image others; holds = holds })
 
     holds_old : (file : List ℕ) → HasBodies (heading_of g) (code_of_base first_format base ∷ rest.records) file → HoldsSteps g file base steps
     holds_old file has = record { records = rest.records; bodies = has; writable = writable; content = rest.content }
@@ -114,15 +115,15 @@ module _ (may_leave : ℕ → List ℕ → Type 0) (root journal : JournalView) 
 
     -- while one more record is written, an image stands for the steps before it, or for all
     pub stands_between : (image : Image) → Others image → (body : List ℕ) → IsRecord body waiting → HasOldOrNew (heading_of g) (code_of_base first_format base ∷ rest.records) body (image gen)
-        → StandsFor m first (past ++ steps) waiting image
+        → StandsFor m origin (past ++ steps) waiting image
     stands_between image others body is (inl old) =
-        record { count = 0; within = omega arith; stands = subst (λ (h : List Step). Stands m first image h) (sym (append-nil (past ++ steps))) (stands_with image others steps (holds_old (image gen) old)) }
+        record { count = 0; within = omega arith; stands = subst (λ (h : List Step). Stands m origin image h) (sym (append-nil (past ++ steps))) (stands_with image others steps (holds_old (image gen) old)) }
     stands_between image others body is (inr new) =
         let all = stands_with image others (steps ++ waiting) (holds_new (image gen) body waiting is new) in
         record {
           count = length waiting;
           within = omega arith;
-          stands = subst (λ (h : List Step). Stands m first image h) (sym (append_assoc past steps waiting) ∙ ap (λ ss. (past ++ steps) ++ ss) (sym (take_all (length waiting) waiting (omega arith)))) all;
+          stands = subst (λ (h : List Step). Stands m origin image h) (sym (append_assoc past steps waiting) ∙ ap (λ ss. (past ++ steps) ++ ss) (sym (take_all (length waiting) waiting (omega arith)))) all;
         }
 
 -- ---- a flush
@@ -135,23 +136,23 @@ module _ {D R : Type 0} (disk : D → DiskView) (m : Meaning) (book : BookView D
   others_of image others = subst (λ (n : ℕ). (other : ℕ) → other ≢ n → (disk book.disk).may_leave other (image other)) stores.file_is others
 
   -- at each moment of the call a crash leaves the durable steps, or all
-  pub flush_leaves : (first : Base) (past : List Step) (now : D) → IsKept disk m first past book
+  pub flush_leaves : (origin : Origin) (past : List Step) (now : D) → IsKept disk m origin past book
       → Leaves (disk book.disk) (disk now) (λ image. HasOldOrNew journal.heading (code_of_base first_format book.base ∷ rest.records) body (image journal.file) × LeavesOthers (disk book.disk) journal.file image)
-      → Leaves (disk book.disk) (disk now) (StandsFor m first (past ++ durable_steps book) (waiting_steps book))
-  flush_leaves first past now kept run = widened wide run
+      → Leaves (disk book.disk) (disk now) (StandsFor m origin (past ++ durable_steps book) (waiting_steps book))
+  flush_leaves origin past now kept run = widened wide run
     where
       wide : (image : Image) → HasOldOrNew journal.heading (code_of_base first_format book.base ∷ rest.records) body (image journal.file) × LeavesOthers (disk book.disk) journal.file image
-          → StandsFor m first (past ++ durable_steps book) (waiting_steps book) image
+          → StandsFor m origin (past ++ durable_steps book) (waiting_steps book) image
       wide image (found, others) =
           let at_file = subst (λ (n : ℕ). HasOldOrNew journal.heading (code_of_base first_format book.base ∷ rest.records) body (image n)) stores.file_is found in
           let at_heading = subst (λ (h : Heading). HasOldOrNew h (code_of_base first_format book.base ∷ rest.records) body (image gen_file)) stores.heading_is at_file in
-          stands_between (disk book.disk).may_leave root journal book.generation book.base (durable_steps book) files honest stores writable rest m first past (waiting_steps book) kept.counted kept.each image (others_of image others) body is at_heading
+          stands_between (disk book.disk).may_leave root journal book.generation book.base (durable_steps book) files honest stores writable rest m origin past (waiting_steps book) kept.counted kept.each image (others_of image others) body is at_heading
 
   -- where it answered Ok, all steps are durable
-  pub kept_flushed : (first : Base) (past : List Step) (now : D) (after : Image) (later : JournalView) → IsKept disk m first past book → (disk now).told ≡ Some after → Adds (disk book.disk) (disk now) (λ other. other ≢ journal.file)
+  pub kept_flushed : (origin : Origin) (past : List Step) (now : D) (after : Image) (later : JournalView) → IsKept disk m origin past book → (disk now).told ≡ Some after → Adds (disk book.disk) (disk now) (λ other. other ≢ journal.file)
       → later.file ≡ journal.file → later.heading ≡ journal.heading → IsAtRest later (disk now).may_leave ((code_of_base first_format book.base ∷ rest.records) ++ body ∷ []) after
-      → IsKept disk m first past (record book { disk = now; kept = length book.steps })
-  kept_flushed first past now after later kept told adds same_file same_heading rests = record { files = after; tells = told; counted = kept.counted; seals = kept.seals; within = omega arith; each = each_now }
+      → IsKept disk m origin past (record book { disk = now; kept = length book.steps })
+  kept_flushed origin past now after later kept told adds same_file same_heading rests = record { files = after; tells = told; counted = kept.counted; seals = kept.seals; within = omega arith; each = each_now }
     where
       all_bodies : List (List ℕ)
       all_bodies = (code_of_base first_format book.base ∷ rest.records) ++ body ∷ []
@@ -163,20 +164,20 @@ module _ {D R : Type 0} (disk : D → DiskView) (m : Meaning) (book : BookView D
       has_all = subst (λ (h : Heading). HasBodies h all_bodies (after gen_file)) (same_heading ∙ stores.heading_is)
           (subst (λ (n : ℕ). HasBodies later.heading all_bodies (after n)) file_now (bodies_at_rest later (disk now).may_leave all_bodies after rests))
 
-      each_now : (image : Image) → IsImage (disk now).may_leave image → StandsFor m first (past ++ take (length book.steps) book.steps) (drop (length book.steps) book.steps) image
+      each_now : (image : Image) → IsImage (disk now).may_leave image → StandsFor m origin (past ++ take (length book.steps) book.steps) (drop (length book.steps) book.steps) image
       each_now image left =
           let others : (other : ℕ) → other ≢ gen_file → (disk book.disk).may_leave other (image other) =
           subst (λ (n : ℕ). (other : ℕ) → other ≢ n → (disk book.disk).may_leave other (image other)) stores.file_is (λ other apart. adds other apart (image other) (left other)) in
           let only : Only (after gen_file) ((disk now).may_leave gen_file) = subst (λ (n : ℕ). Only (after n) ((disk now).may_leave n)) file_now rests.durable in
           let same : image gen_file ≡ after gen_file = only (image gen_file) (left gen_file) in
-          let holds = holds_new (disk book.disk).may_leave root journal book.generation book.base (durable_steps book) files honest stores writable rest m first past (waiting_steps book) kept.counted kept.each (image gen_file) body (waiting_steps book) is
+          let holds = holds_new (disk book.disk).may_leave root journal book.generation book.base (durable_steps book) files honest stores writable rest m origin past (waiting_steps book) kept.counted kept.each (image gen_file) body (waiting_steps book) is
           (subst (λ (c : List ℕ). HasBodies (heading_of book.generation) all_bodies c) (sym same) has_all) in
-          let stands = stands_with (disk book.disk).may_leave root journal book.generation book.base (durable_steps book) files honest stores writable rest m first past (waiting_steps book) kept.counted kept.each image others (durable_steps book ++ waiting_steps book) holds in
+          let stands = stands_with (disk book.disk).may_leave root journal book.generation book.base (durable_steps book) files honest stores writable rest m origin past (waiting_steps book) kept.counted kept.each image others (durable_steps book ++ waiting_steps book) holds in
           let whole : durable_steps book ++ waiting_steps book ≡ take (length book.steps) book.steps = take-append-drop book.kept book.steps ∙ sym (take_all (length book.steps) book.steps (omega arith)) in
           record {
             count = 0;
             within = omega arith;
-            stands = subst (λ (h : List Step). Stands m first image h) (sym (append-nil (past ++ take (length book.steps) book.steps)) ∙ refl) (subst (λ (ss : List Step). Stands m first image (past ++ ss)) whole stands);
+            stands = subst (λ (h : List Step). Stands m origin image h) (sym (append-nil (past ++ take (length book.steps) book.steps)) ∙ refl) (subst (λ (ss : List Step). Stands m origin image (past ++ ss)) whole stands);
           }
 
 -- ---- what the book keeps

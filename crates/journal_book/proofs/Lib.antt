@@ -8,11 +8,9 @@ pub mod Lengths
 pub mod Long
 pub mod OneMore
 pub mod Sealing
-pub mod Bodies
 pub mod Opened
 pub mod Recovering
 pub mod Reopened
-pub mod Replays
 pub mod Sends
 pub mod Small
 pub mod StandsOpen

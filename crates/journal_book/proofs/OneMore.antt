@@ -23,7 +23,7 @@ use Rattle.step_code.specs.Rules.{last_moment, Meaning}
 use Rattle.step_code.specs.Spent.{is_past, last_given, numbers_brought, out_length, spent}
 use Rattle.step_code.proofs.GivenBack.{latest_after}
 use Rattle.step_code.proofs.Lists.{all_fail}
-use Rattle.store_image.specs.Stands.{Stands, StandsFor}
+use Rattle.store_image.specs.Stands.{Origin, Stands, StandsFor}
 use Rattle.store_image.specs.Stored.{codes_of, AreRecords}
 use Rattle.store_image.proofs.Standing.{replay-append}
 use Rattle.journal_book.specs.Keeping.{longest_output, AreAtRest, AreShort, IsPending, IsReplayed}
@@ -88,9 +88,9 @@ short_outs m s step small =
 -- ---- what a step carries
 
 -- a book whose disk stays stands for a front of its steps and of one more
-pub kept_staged : {D R : Type 0} (disk : D → DiskView) (m : Meaning) (first : Base) (past : List Step) (book : BookView D R) (step : Step) (state : Base) → IsKept disk m first past book
-    → IsKept disk m first past (record book { state = state; steps = book.steps ++ step ∷ [] })
-kept_staged disk m first past book step state kept = record {
+pub kept_staged : {D R : Type 0} (disk : D → DiskView) (m : Meaning) (origin : Origin) (past : List Step) (book : BookView D R) (step : Step) (state : Base) → IsKept disk m origin past book
+    → IsKept disk m origin past (record book { state = state; steps = book.steps ++ step ∷ [] })
+kept_staged disk m origin past book step state kept = record {
   files = kept.files;
   tells = kept.tells;
   counted = kept.counted;
@@ -99,17 +99,17 @@ kept_staged disk m first past book step state kept = record {
   each = λ image left. longer image (kept.each image left);
 }
   where
-    longer : (image : Image) → StandsFor m first (past ++ take book.kept book.steps) (drop book.kept book.steps) image
-        → StandsFor m first (past ++ take book.kept (book.steps ++ step ∷ [])) (drop book.kept (book.steps ++ step ∷ [])) image
+    longer : (image : Image) → StandsFor m origin (past ++ take book.kept book.steps) (drop book.kept book.steps) image
+        → StandsFor m origin (past ++ take book.kept (book.steps ++ step ∷ [])) (drop book.kept (book.steps ++ step ∷ [])) image
     longer image stands =
         let durable : take book.kept (book.steps ++ step ∷ []) ≡ take book.kept book.steps = take-append-le book.kept book.steps (step ∷ []) kept.within in
         let waiting : drop book.kept (book.steps ++ step ∷ []) ≡ drop book.kept book.steps ++ step ∷ [] = drop-append-le book.kept book.steps (step ∷ []) kept.within in
         let same : take stands.count (drop book.kept book.steps ++ step ∷ []) ≡ take stands.count (drop book.kept book.steps) = take-append-le stands.count (drop book.kept book.steps) (step ∷ []) stands.within in
-        subst (λ (ss : List Step). StandsFor m first (past ++ ss) (drop book.kept (book.steps ++ step ∷ [])) image) (sym durable)
-        (subst (λ (ss : List Step). StandsFor m first (past ++ take book.kept book.steps) ss image) (sym waiting) (record {
+        subst (λ (ss : List Step). StandsFor m origin (past ++ ss) (drop book.kept (book.steps ++ step ∷ [])) image) (sym durable)
+        (subst (λ (ss : List Step). StandsFor m origin (past ++ take book.kept book.steps) ss image) (sym waiting) (record {
           count = stands.count;
           within = omega (arith, stands.within, length-append (drop book.kept book.steps) (step ∷ []));
-          stands = subst (λ (ss : List Step). Stands m first image ((past ++ take book.kept book.steps) ++ ss)) (sym same) stands.stands;
+          stands = subst (λ (ss : List Step). Stands m origin image ((past ++ take book.kept book.steps) ++ ss)) (sym same) stands.stands;
         }))
 
 carried : (m : Meaning) (s : Base) (bot : List ℕ) (instance now : ℕ) (duplicate : Bool) (bundle message : ℕ) (sends : List (List ℕ × List ℕ)) (dumps : List (List ℕ × FaultNote)) (key : Option (List ℕ)) (line : Bool) → is_duplicate m s bot now key ≡ duplicate

@@ -24,7 +24,7 @@ use Rattle.journal_book.specs.declared.book_fault.BookFault.{BookFault}
 use Rattle.journal_book.specs.declared.book_fault.BookFault.TheVariants as fault
 use Rattle.journal_book.specs.Keeping.{longest_waiting, AreAtRest}
 use Rattle.journal_book.specs.Opening.{in_file, IsFileFault, IsReopenFault, IsShortFault, Recovers}
-use Rattle.journal_book.specs.Reading.{AreHistory, IsHistory}
+use Rattle.generation_reading.specs.Reading.{AreHistory, IsHistory}
 use Rattle.journal_book.proofs.Flushing.{rests_elsewhere}
 use Rattle.journal_book.proofs.Histories.{gate_length}
 use Rattle.journal_book.proofs.Small.{records_length, small_behind, small_first, IsSmall}

@@ -7,10 +7,9 @@ use Rattle.edge_traits.proofs.Moments.{run_on, widened}
 use Rattle.disk_journal.specs.GateFile.{gate_file, heading_of, Heading, HaveSameBodies}
 use Rattle.disk_journal.specs.Reads.{OnlyReads}
 use Rattle.stored_types.specs.Code.{number}
-use Rattle.step_code.specs.declared.base.Base.{Base}
 use Rattle.step_code.specs.declared.step.Step.{Step}
 use Rattle.step_code.specs.Rules.{Meaning}
-use Rattle.store_image.specs.Stands.{StandsFor}
+use Rattle.store_image.specs.Stands.{Origin, StandsFor}
 use Rattle.store_image.specs.Files.{root_file, IsStoreFile}
 use Rattle.store_image.proofs.Alike.{alike_put, stands_alike}
 use Rattle.store_image.proofs.Standing.{put_file}
@@ -31,12 +30,12 @@ module _ (old new : DiskView) (file : ℕ) (heading : Heading) (is : IsStoreFile
   abbrev Found : Image → Image → Type 0
   Found files image = (old.may_leave file (image file) ⊎ HaveSameBodies heading (files file) (image file)) × LeavesOthers old file image
 
-  stands_still : (m : Meaning) (first : Base) (steps more : List Step) (was : StandsNow m first steps more old) → IsImage old.may_leave was.files → (image : Image) → Found was.files image → StandsFor m first steps more image
-  stands_still m first steps more was honest image (inl left, others) = was.each image (λ other. whole old.may_leave file image other (other == file) refl left (others other))
-  stands_still m first steps more was honest image (inr same, others) =
+  stands_still : (m : Meaning) (origin : Origin) (steps more : List Step) (was : StandsNow m origin steps more old) → IsImage old.may_leave was.files → (image : Image) → Found was.files image → StandsFor m origin steps more image
+  stands_still m origin steps more was honest image (inl left, others) = was.each image (λ other. whole old.may_leave file image other (other == file) refl left (others other))
+  stands_still m origin steps more was honest image (inr same, others) =
       let back = put_file file (was.files file) image in
       let left : IsImage old.may_leave back = λ other. either old.may_leave file other (was.files file) (image other) (other == file) refl (honest file) (others other) in
-      stands_alike m first steps more back image (alike_put (was.files file) image file heading is same) (was.each back left)
+      stands_alike m origin steps more back image (alike_put (was.files file) image file heading is same) (was.each back left)
 
   pub histories_kept : ((files : Image) → old.told ≡ Some files → IsImage old.may_leave files)
       → ((t : ℕ) (image : Image) → t ≤ new.moment → IsImage new.may_leave image → new.left_since t image)
@@ -45,18 +44,18 @@ module _ (old new : DiskView) (file : ℕ) (heading : Heading) (is : IsStoreFile
       → KeepsHistories old new
   histories_kept honest counts elsewhere any_moment = record { now = now; run = run }
     where
-      run : (m : Meaning) (first : Base) (steps more : List Step) → StandsNow m first steps more old → Leaves old new (StandsFor m first steps more)
-      run m first steps more was = widened (stands_still m first steps more was (honest was.files was.tells)) (any_moment was.files was.tells)
+      run : (m : Meaning) (origin : Origin) (steps more : List Step) → StandsNow m origin steps more old → Leaves old new (StandsFor m origin steps more)
+      run m origin steps more was = widened (stands_still m origin steps more was (honest was.files was.tells)) (any_moment was.files was.tells)
 
-      now : (m : Meaning) (first : Base) (steps more : List Step) → StandsNow m first steps more old → StandsNow m first steps more new
-      now m first steps more was =
+      now : (m : Meaning) (origin : Origin) (steps more : List Step) → StandsNow m origin steps more old → StandsNow m origin steps more new
+      now m origin steps more was =
           let changes = elsewhere was.files was.tells in
-          let left = widened (stands_still m first steps more was (honest was.files was.tells)) (any_moment was.files was.tells) in
+          let left = widened (stands_still m origin steps more was (honest was.files was.tells)) (any_moment was.files was.tells) in
           record { files = changes.0; tells = changes.1; each = λ image may. left.each image (counts old.moment image left.later may) }
 
 -- what stands for a history has a root that isn't empty
-pub some_root : (m : Meaning) (first : Base) (steps more : List Step) (image : Image) → StandsFor m first steps more image → 0 < length (image root_file)
-some_root m first steps more image is =
+pub some_root : (m : Meaning) (origin : Origin) (steps more : List Step) (image : Image) → StandsFor m origin steps more image → 0 < length (image root_file)
+some_root m origin steps more image is =
     let named = is.stands.stored.named in
     let bodies = map number (named.before ++ is.stands.generation ∷ []) in
     omega (arith, ap length named.bodies.content, length-append (gate_file (heading_of 0) bodies named.bodies.gate) named.bodies.behind, gate_length (heading_of 0) bodies named.bodies.gate)
@@ -64,8 +63,8 @@ some_root m first steps more image is =
 -- reads keep histories
 pub reads_keep : {old new : DiskView} → ((image : Image) → old.left_since old.moment image → IsImage old.may_leave image) → OnlyReads old new → KeepsHistories old new
 reads_keep {old = old} only_now reads = record {
-  now = λ m first steps more was. record { files = was.files; tells = reads.told ∙ was.tells; each = λ image left. was.each image (λ file. reads.crash file tt (image file) (left file)) };
-  run = λ m first steps more was. record {
+  now = λ m origin steps more was. record { files = was.files; tells = reads.told ∙ was.tells; each = λ image left. was.each image (λ file. reads.crash file tt (image file) (left file)) };
+  run = λ m origin steps more was. record {
     later = reads.later;
     each = λ image left. was.each image (⊎_elim (only_now image) (λ now. now) (reads.nothing_else _ image (omega arith) left));
     earlier = λ t image le left. ⊎_elim (λ before. inl before) (λ now. inr (was.each image now)) (reads.nothing_else t image le left);

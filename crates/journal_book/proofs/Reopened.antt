@@ -13,14 +13,14 @@ use Rattle.step_code.specs.History.{replay}
 use Rattle.step_code.specs.Rules.{last_moment, Meaning}
 use Rattle.step_code.proofs.GivenBack.{latest_after}
 use Rattle.store_image.specs.Opens.{AreReplayable}
-use Rattle.store_image.specs.Stands.{IsSealOf, Stands, StandsFor}
+use Rattle.store_image.specs.Stands.{IsSealOf, Origin, Stands, StandsFor}
 use Rattle.store_image.specs.Stored.{codes_of, IsStored}
 use Rattle.store_image.proofs.Standing.{replay_steps}
 use Rattle.store_image.proofs.Stored.{stored_is_one}
 use Rattle.journal_book.specs.Book.{BookView}
 use Rattle.journal_book.specs.Keeping.{longest_waiting, AreAtRest, AreStoreFiles, IsPending, IsReplayed}
 use Rattle.journal_book.specs.Opening.{opened, IsReopened, StandsNow}
-use Rattle.journal_book.specs.Reading.{IsHistory}
+use Rattle.generation_reading.specs.Reading.{IsHistory}
 use Rattle.journal_book.specs.Staged.{greatest_limit}
 use Rattle.journal_book.proofs.Flushing.{stored_now}
 
@@ -89,12 +89,12 @@ one_front before more past other steps m n within inside one two same =
     ) in
     ap (λ k. before ++ take k more) (sym count) ∙ one
 
-counted : (m : Meaning) (first base : Base) (image : Image) (history : List Step) (stands : Stands m first image history) → stands.base ≡ base → base.steps ≡ first.steps + length stands.past
-counted m first base image history stands same =
-    ap (λ (b : Base). b.steps) (sym same) ∙ ap (λ (b : Base). b.steps) stands.seals.same ∙ replay_steps m first stands.past
+counted : (m : Meaning) (origin : Origin) (base : Base) (image : Image) (history : List Step) (stands : Stands m origin image history) → stands.base ≡ base → base.steps ≡ origin.first.steps + length stands.past
+counted m origin base image history stands same =
+    ap (λ (b : Base). b.steps) (sym same) ∙ ap (λ (b : Base). b.steps) stands.seals.same ∙ replay_steps m origin.first stands.past
 
-module _ (m : Meaning) (first : Base) (before more : List Step) (may_leave : ℕ → List ℕ → Type 0) (g : ℕ) (base : Base) (steps : List Step) (files : Image) (honest : IsImage may_leave files)
-    (each : (image : Image) → IsImage may_leave image → StandsFor m first before more image) (stored : (image : Image) → IsImage may_leave image → IsStored image g base steps) where
+module _ (m : Meaning) (origin : Origin) (before more : List Step) (may_leave : ℕ → List ℕ → Type 0) (g : ℕ) (base : Base) (steps : List Step) (files : Image) (honest : IsImage may_leave files)
+    (each : (image : Image) → IsImage may_leave image → StandsFor m origin before more image) (stored : (image : Image) → IsImage may_leave image → IsStored image g base steps) where
   -- what stands in an image that a crash may leave
   one_stored : (image : Image) (left : IsImage may_leave image) → (let stands = (each image left).stands in (stands.generation ≡ g) × (stands.base ≡ base) × (stands.steps ≡ steps))
   one_stored image left = let stands = (each image left).stands in stored_is_one image stands.generation g stands.base base stands.steps steps stands.stored (stored image left)
@@ -105,45 +105,45 @@ module _ (m : Meaning) (first : Base) (before more : List Step) (may_leave : ℕ
   pub history_told : before ++ take (each files honest).count more ≡ past_told ++ steps
   history_told = (each files honest).stands.splits ∙ ap (λ ss. past_told ++ ss) (one_stored files honest).2
 
-  pub counted_told : base.steps ≡ first.steps + length past_told
-  counted_told = counted m first base files (before ++ take (each files honest).count more) (each files honest).stands (one_stored files honest).1
+  pub counted_told : base.steps ≡ origin.first.steps + length past_told
+  counted_told = counted m origin base files (before ++ take (each files honest).count more) (each files honest).stands (one_stored files honest).1
 
-  pub seals_told : IsSealOf (replay m first past_told) base
-  seals_told = subst (λ (b : Base). IsSealOf (replay m first past_told) b) (one_stored files honest).1 (each files honest).stands.seals
+  pub seals_told : IsSealOf (replay m origin.first past_told) base
+  seals_told = subst (λ (b : Base). IsSealOf (replay m origin.first past_told) b) (one_stored files honest).1 (each files honest).stands.seals
 
-  pub stands_told : (image : Image) → IsImage may_leave image → Stands m first image (past_told ++ steps)
+  pub stands_told : (image : Image) → IsImage may_leave image → Stands m origin image (past_told ++ steps)
   stands_told image left =
       let is = each image left in
       let same = one_stored image left in
-      let there : base.steps ≡ first.steps + length is.stands.past = counted m first base image (before ++ take is.count more) is.stands same.1 in
-      subst (λ (h : List Step). Stands m first image h)
+      let there : base.steps ≡ origin.first.steps + length is.stands.past = counted m origin base image (before ++ take is.count more) is.stands same.1 in
+      subst (λ (h : List Step). Stands m origin image h)
       (one_front before more past_told is.stands.past steps (each files honest).count is.count (each files honest).within is.within history_told (is.stands.splits ∙ ap (λ ss. is.stands.past ++ ss) same.2) (omega (arith, counted_told, there)))
       is.stands
 
-pub kept_reopened : {D R : Type 0} (disk : D → DiskView) (m : Meaning) (first : Base) (before more : List Step) (rules : R) (limit : ℕ) (now : D) (root journal : JournalView) (g : ℕ) (base : Base) (steps : List Step)
-    → (was : StandsNow m first before more (disk now)) → IsImage (disk now).may_leave was.files → AreStoreFiles root journal g → IsWritableBase first_format base → AreAtRest root journal (disk now).may_leave g base steps was.files
-    → IsReopened disk m first before more (opened m rules g base steps limit now)
-kept_reopened disk m first before more rules limit now root journal g base steps was honest stores writable rest =
+pub kept_reopened : {D R : Type 0} (disk : D → DiskView) (m : Meaning) (origin : Origin) (before more : List Step) (rules : R) (limit : ℕ) (now : D) (root journal : JournalView) (g : ℕ) (base : Base) (steps : List Step)
+    → (was : StandsNow m origin before more (disk now)) → IsImage (disk now).may_leave was.files → AreStoreFiles root journal g → IsWritableBase first_format base → AreAtRest root journal (disk now).may_leave g base steps was.files
+    → IsReopened disk m origin before more (opened m rules g base steps limit now)
+kept_reopened disk m origin before more rules limit now root journal g base steps was honest stores writable rest =
     let stored : (image : Image) → IsImage (disk now).may_leave image → IsStored image g base steps = stored_now (disk now).may_leave root journal g base steps was.files honest stores writable rest in
-    let past = past_told m first before more (disk now).may_leave g base steps was.files honest was.each stored in
+    let past = past_told m origin before more (disk now).may_leave g base steps was.files honest was.each stored in
     let all : take (length steps) steps ≡ steps = take_all (length steps) steps (omega arith) in
     record {
       past = past;
       count = (was.each was.files honest).count;
       within = (was.each was.files honest).within;
-      splits = sym (history_told m first before more (disk now).may_leave g base steps was.files honest was.each stored);
+      splits = sym (history_told m origin before more (disk now).may_leave g base steps was.files honest was.each stored);
       kept = record {
         files = was.files;
         tells = was.tells;
-        counted = counted_told m first before more (disk now).may_leave g base steps was.files honest was.each stored;
-        seals = seals_told m first before more (disk now).may_leave g base steps was.files honest was.each stored;
+        counted = counted_told m origin before more (disk now).may_leave g base steps was.files honest was.each stored;
+        seals = seals_told m origin before more (disk now).may_leave g base steps was.files honest was.each stored;
         within = omega arith;
         each = λ image left.
             record {
               count = 0;
               within = omega arith;
-              stands = subst (λ (h : List Step). Stands m first image h) (sym (append-nil (past ++ take (length steps) steps) ∙ ap (λ ss. past ++ ss) all))
-                  (stands_told m first before more (disk now).may_leave g base steps was.files honest was.each stored image left);
+              stands = subst (λ (h : List Step). Stands m origin image h) (sym (append-nil (past ++ take (length steps) steps) ∙ ap (λ ss. past ++ ss) all))
+                  (stands_told m origin before more (disk now).may_leave g base steps was.files honest was.each stored image left);
             };
       };
     }

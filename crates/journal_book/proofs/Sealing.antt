@@ -1,5 +1,6 @@
 -- What is sealed of outputs stays, and with it what a store stands for while its outputs are completed.
-use Rattle.std.proofs.Common.{◌≡◌, ◌≤◌, ◌+◌, ℕ, zero, suc, Bool, true, false, List, [], ◌∷◌, ◌++◌, length, take, drop, map, find, Option, Some, None, refl, sym, ap, subst, ◌∙◌, arith, append_assoc, if◌then◌else◌}
+use Rattle.std.proofs.Common.{◌≡◌, ◌≤◌, ◌+◌, ◌*◌, ℕ, zero, suc, Bool, true, false, List, [], ◌∷◌, ◌++◌, length, take, drop, map, find, Option, Some, None, refl, sym, ap, subst, ◌∙◌, arith, append_assoc, if◌then◌else◌}
+use Rattle.std.proofs.lemmas.Bool.{true≢false, false≢true}
 use Rattle.std.proofs.lemmas.List.{append-nil, drop_all, take_all, take-append-drop}
 use Rattle.std.proofs.Math.Seq.{take-nil}
 use Rattle.std.proofs.lemmas.Option.{none-some}
@@ -26,9 +27,9 @@ use Rattle.step_code.specs.Rules.{Meaning}
 use Rattle.step_code.specs.State.{bots_in_force, bots_of, is_dump, is_out, new_out, waiting}
 use Rattle.step_code.proofs.GivenBack.{kept-all_given_back}
 use Rattle.store_image.specs.Files.{root_file, out_file, generation_file}
-use Rattle.store_image.specs.Stands.{AreSealedFrom, FrontsStand, Stands, StandsFor}
+use Rattle.store_image.specs.Stands.{AreSealedFrom, FrontsStand, Origin, Stands, StandsFor}
 use Rattle.store_image.specs.Stored.{HoldsSteps, NamesLast, IsStored}
-use Rattle.store_image.proofs.Standing.{past_of, put_file, put_there, stands_by, IsPast}
+use Rattle.store_image.proofs.Standing.{below_same, past_of, put_file, put_there, stands_by, IsPast}
 use Rattle.journal_book.specs.Alone.{IsNoOut}
 use Rattle.journal_book.specs.Book.{BookView, durable_steps, waiting_steps, IsKept}
 use Rattle.journal_book.specs.Keeping.{AreAtRest, AreStoreFiles}
@@ -114,6 +115,34 @@ fronts_again n (whole ∷ wholes) [] image other stand begins = tt
 fronts_again n (whole ∷ wholes) (out ∷ outs) image other stand begins =
     (record { size = stand.0.size; begins = begins 0 n (omega arith) }, fronts_again (suc n) wholes outs image other stand.1 (λ k at same. begins (suc k) at (omega (arith, same))))
 
+-- ---- what is told, with the generations of another image
+
+abbrev is_odd : ℕ → Bool
+is_odd zero = false
+is_odd (suc zero) = true
+is_odd (suc (suc n)) = is_odd n
+
+twice_is_even : (k : ℕ) → is_odd (2 * k) ≡ false
+twice_is_even zero = refl
+twice_is_even (suc k) = let two : suc (suc (2 * k)) ≡ 2 * suc k = omega arith in subst (λ (n : ℕ). is_odd n ≡ false) two (twice_is_even k)
+
+next_is_odd : (n : ℕ) → is_odd n ≡ false → is_odd (suc n) ≡ true
+next_is_odd zero even = refl
+next_is_odd (suc zero) even = absurd (true≢false even)
+next_is_odd (suc (suc n)) even = next_is_odd n even
+
+out_is_even : (k : ℕ) → is_odd (out_file k) ≡ false
+out_is_even k = let twice : 2 * (8 + k) ≡ out_file k = omega arith in subst (λ (n : ℕ). is_odd n ≡ false) twice (twice_is_even (8 + k))
+
+generation_is_odd : (g : ℕ) → is_odd (generation_file g) ≡ true
+generation_is_odd g = let next : suc (2 * (8 + g)) ≡ generation_file g = omega arith in subst (λ (n : ℕ). is_odd n ≡ true) next (next_is_odd (2 * (8 + g)) (twice_is_even (8 + g)))
+
+abbrev told_with : Image → Image → Image
+told_with files image file = if is_odd file then image file else files file
+
+generations_left : (files image : Image) (g : ℕ) → told_with files image (generation_file g) ≡ image (generation_file g)
+generations_left files image g = ap (λ (odd : Bool). if odd then image (generation_file g) else files (generation_file g)) (generation_is_odd g)
+
 -- ---- a book whose outputs are completed
 
 root_is_no_out : IsNoOut root_file
@@ -122,20 +151,20 @@ root_is_no_out k same = omega (arith, same)
 generation_is_no_out : (g : ℕ) → IsNoOut (generation_file g)
 generation_is_no_out g k same = omega (arith, same)
 
-module _ {D R : Type 0} (disk : D → DiskView) (m : Meaning) (book : BookView D R) (root journal : JournalView) (files : Image) (honest : IsImage (disk book.disk).may_leave files) (stores : AreStoreFiles root journal book.generation) (writable : IsWritableBase first_format book.base) (rest : AreAtRest root journal (disk book.disk).may_leave book.generation book.base (durable_steps book) files) (first : Base) (past : List Step) (kept : IsKept disk m first past book) where
+module _ {D R : Type 0} (disk : D → DiskView) (m : Meaning) (book : BookView D R) (root journal : JournalView) (files : Image) (honest : IsImage (disk book.disk).may_leave files) (stores : AreStoreFiles root journal book.generation) (writable : IsWritableBase first_format book.base) (rest : AreAtRest root journal (disk book.disk).may_leave book.generation book.base (durable_steps book) files) (origin : Origin) (past : List Step) (kept : IsKept disk m origin past book) where
   abbrev gen : ℕ
   gen = generation_file book.generation
 
   stored_in : (image : Image) → IsImage (disk book.disk).may_leave image → IsStored image book.generation book.base (durable_steps book)
   stored_in image left = stored_now (disk book.disk).may_leave root journal book.generation book.base (durable_steps book) files honest stores writable rest image left
 
-  past_in : (image : Image) → IsImage (disk book.disk).may_leave image → IsPast m first past book.base image
+  past_in : (image : Image) → IsImage (disk book.disk).may_leave image → IsPast m origin past book.base book.generation image
   past_in image left =
       let stands = kept.each image left in
-      past_of m first past (durable_steps book) (take stands.count (waiting_steps book)) book.base book.generation image (stored_in image left) kept.counted stands.stands
+      past_of m origin past (durable_steps book) (take stands.count (waiting_steps book)) book.base book.generation image (stored_in image left) kept.counted stands.stands
 
   abbrev wholes : List Output
-  wholes = (replay m first past).outs
+  wholes = (replay m origin.first past).outs
 
   abbrev pub fronts : ℕ → List ℕ
   fronts k = front_of wholes book.base.outs k
@@ -166,44 +195,53 @@ module _ {D R : Type 0} (disk : D → DiskView) (m : Meaning) (book : BookView D
       let only : Only (files gen) ((disk book.disk).may_leave gen) = subst (λ (n : ℕ). Only (files n) ((disk book.disk).may_leave n)) stores.file_is rest.journal_rests.durable in
       only (image gen) (keeps.others gen (generation_is_no_out book.generation))
 
+  told_with_left : (image : Image) → KeepsFronts (disk book.disk) fronts image → IsImage (disk book.disk).may_leave (told_with files image)
+  told_with_left image keeps file = one (is_odd file) refl
+    where
+      one : (odd : Bool) → is_odd file ≡ odd → (disk book.disk).may_leave file (if odd then image file else files file)
+      one true is = keeps.others file (λ k same. absurd (false≢true (sym (out_is_even k) ∙ ap is_odd (sym same) ∙ is)))
+      one false is = honest file
+
   -- files in which the fronts stand, and all but outputs is as it was, stand for the same steps
-  pub stands_then : (image : Image) → KeepsFronts (disk book.disk) fronts image → StandsFor m first (past ++ durable_steps book) (waiting_steps book) image
+  pub stands_then : (image : Image) → KeepsFronts (disk book.disk) fronts image → StandsFor m origin (past ++ durable_steps book) (waiting_steps book) image
   stands_then image keeps =
       let stored = stored_in files honest in
       let now : IsStored image book.generation book.base (durable_steps book) = record {
         named = subst (λ (c : List ℕ). NamesLast c book.generation) (sym (root_same image keeps)) stored.named;
         holds = subst (λ (c : List ℕ). HoldsSteps book.generation c book.base (durable_steps book)) (sym (gen_same image keeps)) stored.holds;
       } in
-      let was = past_in files honest in
-      let here : IsPast m first past book.base image = record {
+      let was = past_in (told_with files image) (told_with_left image keeps) in
+      let here : IsPast m origin past book.base book.generation image = record {
         seals = was.seals;
-        fronts = fronts_again 0 wholes book.base.outs files image was.fronts (λ k at same.
+        fronts = fronts_again 0 wholes book.base.outs (told_with files image) image was.fronts (λ k at same.
             let is : at ≡ k = omega (arith, same) in
             ap (λ (n : ℕ). take (sealed_of book.base.outs k) (image (out_file n))) is ∙ ap (λ n. take n (image (out_file k))) (sym (long k)) ∙ keeps.begins k);
         short = was.short;
+        unsealed = was.unsealed;
+        below = below_same origin.whole m origin.first book.generation book.base past (told_with files image) image (λ k below. generations_left files image k) was.below;
       } in
       record {
         count = 0;
         within = omega arith;
-        stands = subst (λ (h : List Step). Stands m first image h) (sym (append-nil (past ++ durable_steps book))) (stands_by m first past (durable_steps book) book.base book.generation image image here (λ k. refl) now);
+        stands = subst (λ (h : List Step). Stands m origin image h) (sym (append-nil (past ++ durable_steps book))) (stands_by m origin past (durable_steps book) book.base book.generation image image here (λ k. refl) (λ k below. refl) now);
       }
 
   -- at each moment of the call
   pub outs_leave : (now : D) (state : Base) (steps : List Step) → (disk book.disk).told ≡ Some files → state ≡ replay m book.base steps → RunsOut (disk book.disk) (disk now) state.outs IsNoOut
-      → Leaves (disk book.disk) (disk now) (StandsFor m first (past ++ durable_steps book) (waiting_steps book))
+      → Leaves (disk book.disk) (disk now) (StandsFor m origin (past ++ durable_steps book) (waiting_steps book))
   outs_leave now state steps told is run = widened stands_then (run.any_moment files fronts told (are_fronts state steps is) begin)
 
 -- a book stands on where each moment of a call leaves what it stands for
-pub kept_later : {D R : Type 0} (disk : D → DiskView) (m : Meaning) (first : Base) (past : List Step) (book : BookView D R) (now : D) (broken : Bool) (after : Image) → IsKept disk m first past book
+pub kept_later : {D R : Type 0} (disk : D → DiskView) (m : Meaning) (origin : Origin) (past : List Step) (book : BookView D R) (now : D) (broken : Bool) (after : Image) → IsKept disk m origin past book
     → (disk now).told ≡ Some after
     → ((image : Image) → (disk book.disk).moment ≤ (disk now).moment → IsImage (disk now).may_leave image → (disk now).left_since (disk book.disk).moment image)
-    → Leaves (disk book.disk) (disk now) (StandsFor m first (past ++ durable_steps book) (waiting_steps book)) → IsKept disk m first past (record book { disk = now; broken = broken })
-kept_later disk m first past book now broken after kept told counts run =
+    → Leaves (disk book.disk) (disk now) (StandsFor m origin (past ++ durable_steps book) (waiting_steps book)) → IsKept disk m origin past (record book { disk = now; broken = broken })
+kept_later disk m origin past book now broken after kept told counts run =
     record { files = after; tells = told; counted = kept.counted; seals = kept.seals; within = kept.within; each = λ image left. run.each image (counts image run.later left) }
 
 -- what stands for all steps stands for the durable ones and those that wait
-pub all_or_fewer : (m : Meaning) (first : Base) (past : List Step) (kept : ℕ) (steps : List Step) (image : Image) → StandsFor m first (past ++ take (length steps) steps) (drop (length steps) steps) image → StandsFor m first (past ++ take kept steps) (drop kept steps) image
-all_or_fewer m first past kept steps image stands = record { count = length (drop kept steps); within = omega arith; stands = subst (λ (h : List Step). Stands m first image h) same stands.stands }
+pub all_or_fewer : (m : Meaning) (origin : Origin) (past : List Step) (kept : ℕ) (steps : List Step) (image : Image) → StandsFor m origin (past ++ take (length steps) steps) (drop (length steps) steps) image → StandsFor m origin (past ++ take kept steps) (drop kept steps) image
+all_or_fewer m origin past kept steps image stands = record { count = length (drop kept steps); within = omega arith; stands = subst (λ (h : List Step). Stands m origin image h) same stands.stands }
   where
     none : take stands.count (drop (length steps) steps) ≡ []
     none = ap (take stands.count) (drop_all (length steps) steps (omega arith)) ∙ take-nil stands.count
@@ -214,11 +252,11 @@ all_or_fewer m first past kept steps image stands = record { count = length (dro
         ∙ sym (append_assoc past (take kept steps) (drop kept steps)) ∙ ap (λ (ss : List Step). (past ++ take kept steps) ++ ss) (sym (take_all (length (drop kept steps)) (drop kept steps) (omega arith)))
 
 -- what stands for all steps, of which none waits
-pub all_durable : (m : Meaning) (first : Base) (past : List Step) (steps : List Step) (image : Image) → StandsFor m first (past ++ take (length steps) steps) (drop (length steps) steps) image → StandsFor m first (past ++ steps) [] image
-all_durable m first past steps image stands =
+pub all_durable : (m : Meaning) (origin : Origin) (past : List Step) (steps : List Step) (image : Image) → StandsFor m origin (past ++ take (length steps) steps) (drop (length steps) steps) image → StandsFor m origin (past ++ steps) [] image
+all_durable m origin past steps image stands =
     let all : take (length steps) steps ≡ steps = take_all (length steps) steps (omega arith) in
     let none : drop (length steps) steps ≡ [] = drop_all (length steps) steps (omega arith) in
-    subst (λ (ss : List Step). StandsFor m first (past ++ ss) [] image) all (subst (λ (ss : List Step). StandsFor m first (past ++ take (length steps) steps) ss image) none stands)
+    subst (λ (ss : List Step). StandsFor m origin (past ++ ss) [] image) all (subst (λ (ss : List Step). StandsFor m origin (past ++ take (length steps) steps) ss image) none stands)
 
 -- a journal rests while only outputs are written
 rests_beside : (old now : DiskView) (outs : List Output) (journal : JournalView) (bodies : List (List ℕ)) (files after : Image) → IsNoOut journal.file → RunsOut old now outs IsNoOut

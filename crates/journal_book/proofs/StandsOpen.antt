@@ -1,40 +1,34 @@
 -- What stands for a legal history of a new store opens.
-use Rattle.std.proofs.Common.{◌≡◌, ◌≤◌, ◌+◌, ◌-◌, ℕ, suc, Bool, true, false, List, [], ◌∷◌, ◌++◌, length, map, filter, flat_map, take, drop, find, min, Option, Some, None, refl, sym, ap, subst, ◌∙◌, arith, append_assoc}
+use Rattle.std.proofs.Common.{◌≡◌, ◌≤◌, ◌+◌, ℕ, suc, Bool, false, List, [], ◌∷◌, ◌++◌, length, map, filter, flat_map, take, drop, min, Some, sym, ap, subst, ◌∙◌, arith, append_assoc}
 use Rattle.std.specs.List.{AllByRecursion, IsDistinct, sum_by}
 use Rattle.std.specs.Str.{bytes_eq}
 use Rattle.std.proofs.lemmas.Bool.{ltb-false}
 use Rattle.std.proofs.lemmas.List.{length-take, take-append-drop}
 use Rattle.std.proofs.lemmas.List.Sums.{sum_by-append, sum_by-cons}
-use Rattle.base_types.specs.declared.message.Moment.{Moment}
-use Rattle.base_types.specs.declared.message.Msg.{Msg}
 use Rattle.base_types.specs.Lists.{IsIn}
-use Rattle.base_types.specs.Name.{queue_name}
 use Rattle.base_types.specs.Number.{last_u64}
-use Rattle.base_types.proofs.Everywhere.{all-append, all_changed}
-use Rattle.stored_types.specs.declared.message.Dump.{Dump}
+use Rattle.base_types.proofs.Everywhere.{all-append}
 use Rattle.edge_traits.specs.Disk.{Image}
 use Rattle.step_code.specs.declared.base.Base.{Base}
 use Rattle.step_code.specs.declared.output.Output.{Output}
 use Rattle.step_code.specs.declared.rules.Facts.{Facts}
 use Rattle.step_code.specs.declared.step.Step.{Step}
-use Rattle.step_code.specs.declared.step.StepKind.{StepKind}
-use Rattle.step_code.specs.declared.step.StepKind.TheVariants as kind
-use Rattle.step_code.specs.After.{after, body_in_hand, instances_of, redone, taken_first, written}
+use Rattle.step_code.specs.After.{after}
 use Rattle.step_code.specs.History.{first, replay, Legal}
 use Rattle.step_code.specs.Places.{standing}
 use Rattle.step_code.specs.Content.{May, MayReplay}
 use Rattle.step_code.specs.Rules.{writes, Meaning}
 use Rattle.step_code.specs.Sound.{last_number, numbers_of, IsSoundState}
 use Rattle.step_code.specs.Spent.{is_past, last_given, numbers_brought, out_length, NothingIsSpent, StaysSmall}
-use Rattle.step_code.specs.State.{bots_in_force, bots_of, is_dump, is_out, new_out, waiting}
-use Rattle.step_code.proofs.GivenBack.{kept-all_given_back}
+use Rattle.step_code.specs.State.{new_out}
 use Rattle.step_code.proofs.Lists.{all_fail}
 use Rattle.seal_laws.proofs.Histories.{same_spent, same_steps, seal_kept}
+use Rattle.seal_laws.proofs.Unsealed.{unsealed_replay}
 use Rattle.seal_laws.proofs.Sealed.{text_length}
 use Rattle.store_image.specs.Files.{out_file}
 use Rattle.store_image.specs.Damage.{IsDamagedStore}
 use Rattle.store_image.specs.Opens.{AreLong, AreReplayable, Opens}
-use Rattle.store_image.specs.Stands.{AreSealedFrom, FrontsStand, IsSealedFrom, IsSealOf, Stands, StandsFor}
+use Rattle.store_image.specs.Stands.{origin_of, AreSealedFrom, FrontsStand, IsSealOf, IsUnsealed, Stands, StandsFor}
 use Rattle.store_image.proofs.Standing.{replay-append}
 use Rattle.store_image.proofs.Damaged.{opens_whole}
 use Rattle.journal_book.specs.Laws.{WhatStandsOpens}
@@ -62,50 +56,11 @@ lengths_behind m s (step ∷ steps) small all =
     let brought = all_fail is_past (map (λ n. min n last_u64) (numbers_brought (after m s step))) small.0 in
     lengths_behind m (after m s step) steps small.1 (small_lengths (after m s step).outs brought.1.1.1.1.1)
 
--- ---- no step seals anything
-
-abbrev IsUnsealed : Output → Type 0
-IsUnsealed o = (o.sealed_bytes ≡ 0) × (o.sealed_lines ≡ 0)
-
-new_unsealed : (bots : List Facts) → AllByRecursion IsUnsealed (map new_out bots)
-new_unsealed [] = tt
-new_unsealed (f ∷ bots) = ((refl, refl), new_unsealed bots)
+-- ---- a sound state of which more is sealed
 
 new_lengths : (bots : List Facts) → AllByRecursion (λ o. out_length o ≤ last_given) (map new_out bots)
 new_lengths [] = tt
 new_lengths (f ∷ bots) = (omega arith, new_lengths bots)
-
-written_unsealed : (line : Bool) (bot body : List ℕ) (outs : List Output) → AllByRecursion IsUnsealed outs → AllByRecursion IsUnsealed (written line bot body outs)
-written_unsealed true bot body outs all = all_changed IsUnsealed (is_out bot) (λ (o : Output). record o { lines = o.lines ++ body ∷ [] }) outs (λ o is. is) all
-written_unsealed false bot body outs all = all
-
-unsealed_after : (m : Meaning) (s : Base) (now : Moment) (what : StepKind) → AllByRecursion IsUnsealed s.outs → AllByRecursion IsUnsealed (after m s (record { moment = now; what = what })).outs
-unsealed_after m s now kind.Start all = all
-unsealed_after m s now (kind.Collect bot from upto piece) all = all
-unsealed_after m s now (kind.FeedEnd bot position) all = all
-unsealed_after m s now (kind.Take bot instance message) all = go (waiting (queue_name bot) s)
-  where
-    go : (messages : List Msg) → AllByRecursion IsUnsealed (taken_first bot instance now messages (record s { steps = s.steps + 1; latest = now })).outs
-    go [] = all
-    go (x ∷ xs) = all
-unsealed_after m s now (kind.Done bot instance message bundle sends dumps key line) all = written_unsealed line bot (body_in_hand bot instance s) s.outs all
-unsealed_after m s now (kind.Retry bot instance message bundle fault) all = all
-unsealed_after m s now (kind.Fail bot instance message bundle fault queues halts) all = all
-unsealed_after m s now (kind.Reload bundle) all =
-    subst (λ (outs : List Output). AllByRecursion IsUnsealed outs)
-    (sym (kept-all_given_back (λ (t : Base). t.outs) (λ t queues hands. refl) (bots_of m bundle) (instances_of (bots_in_force m s)) _)) (all-append IsUnsealed s.outs _ all (new_unsealed _))
-unsealed_after m s now (kind.Redo dump) all = go (find (is_dump dump) s.dumps)
-  where
-    go : (found : Option Dump) → AllByRecursion IsUnsealed (redone dump found (record s { steps = s.steps + 1; latest = now })).outs
-    go None = all
-    go (Some d) = all
-unsealed_after m s now (kind.Round bot) all = all
-
-unsealed_behind : (m : Meaning) (s : Base) (steps : List Step) → AllByRecursion IsUnsealed s.outs → AllByRecursion IsUnsealed (replay m s steps).outs
-unsealed_behind m s [] all = all
-unsealed_behind m s (step ∷ steps) all = unsealed_behind m (after m s step) steps (unsealed_after m s step.moment step.what all)
-
--- ---- a sound state of which more is sealed
 
 abbrev IsLow : ℕ → Type 0
 IsLow n = n ≤ last_number
@@ -207,14 +162,14 @@ module _ (m : Meaning) (bots : List Facts) (bundle : List ℕ) (loads : m.facts 
             (subst (λ (h : List Step). Legal m start h) same legal) (subst (λ (h : List Step). NothingIsSpent m start h) same small),
       )
 
-  pub opens_as_it_stands : (image : Image) (history : List Step) → Legal m start history → NothingIsSpent m start history → (stands : Stands m start image history) → Opens m image stands.generation stands.base stands.steps
-  opens_as_it_stands image history legal small stands =
+  pub opens_as_it_stands : (whole : Bool) (image : Image) (history : List Step) → Legal m start history → NothingIsSpent m start history → (stands : Stands m (origin_of start whole) image history) → Opens m image stands.generation stands.base stands.steps
+  opens_as_it_stands looked image history legal small stands =
       let whole = replay m start stands.past in
       let legal_here = subst (λ (h : List Step). Legal m start h) stands.splits legal in
       let small_here = subst (λ (h : List Step). NothingIsSpent m start h) stands.splits small in
       let smalls = small_split m start stands.past stands.steps small_here in
       let sound = leave_sound bots bundle stands.past loads (legal_split m start stands.past stands.steps legal_here).0 smalls.0 in
-      let low = low_sealed whole.outs stands.base.outs stands.seals.outs (unsealed_behind m start stands.past (new_unsealed (filter writes bots))) (lengths_behind m start stands.past smalls.0 (new_lengths (filter writes bots))) in
+      let low = low_sealed whole.outs stands.base.outs stands.seals.outs (unsealed_replay m start stands.past stands.unsealed) (lengths_behind m start stands.past smalls.0 (new_lengths (filter writes bots))) in
       record {
         stored = stands.stored;
         sound = record {
@@ -226,12 +181,12 @@ module _ (m : Meaning) (bots : List Facts) (bundle : List ℕ) (loads : m.facts 
       }
 
 -- so files that stand for a front of such a history aren't damaged
-pub stands_undamaged : (m : Meaning) → WhatStandsOpens m → (bots : List Facts) (bundle : List ℕ) (steps more : List Step) (image : Image) → m.facts bundle ≡ Some bots → Legal m (first bots bundle) (steps ++ more)
-    → NothingIsSpent m (first bots bundle) (steps ++ more) → StandsFor m (first bots bundle) steps more image → (file at : ℕ) → IsDamagedStore m image file at → ⊥
-stands_undamaged m opens bots bundle steps more image loads legal small is file at damaged =
+pub stands_undamaged : (m : Meaning) → WhatStandsOpens m → (bots : List Facts) (bundle : List ℕ) (looked : Bool) (steps more : List Step) (image : Image) → m.facts bundle ≡ Some bots → Legal m (first bots bundle) (steps ++ more)
+    → NothingIsSpent m (first bots bundle) (steps ++ more) → StandsFor m (origin_of (first bots bundle) looked) steps more image → (file at : ℕ) → IsDamagedStore m image file at → ⊥
+stands_undamaged m opens bots bundle looked steps more image loads legal small is file at damaged =
     let start = first bots bundle in
     let read = steps ++ take is.count more in
     let whole : steps ++ more ≡ read ++ drop is.count more = ap (λ (ss : List Step). steps ++ ss) (sym (take-append-drop is.count more)) ∙ sym (append_assoc steps (take is.count more) (drop is.count more)) in
     let legals = legal_split m start read (drop is.count more) (subst (λ (h : List Step). Legal m start h) whole legal) in
     let smalls = small_split m start read (drop is.count more) (subst (λ (h : List Step). NothingIsSpent m start h) whole small) in
-    opens_whole m image is.stands.generation is.stands.base is.stands.steps file at (opens bots bundle image read loads legals.0 smalls.0 is.stands) damaged
+    opens_whole m image is.stands.generation is.stands.base is.stands.steps file at (opens bots bundle looked image read loads legals.0 smalls.0 is.stands) damaged

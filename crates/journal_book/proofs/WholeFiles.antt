@@ -1,6 +1,6 @@
 -- Files of outputs that are all lines which a history has written.
 use Rattle.std.proofs.Common.{◌≡◌, ◌≤◌, ◌+◌, ℕ, zero, suc, Bool, true, false, List, [], ◌∷◌, ◌++◌, length, take, drop, map, find, Option, Some, refl, sym, ap, subst, ◌∙◌, arith, append_assoc, if◌then◌else◌, None}
-use Rattle.std.specs.List.{slice_get}
+use Rattle.std.specs.List.{AllByRecursion, slice_get}
 use Rattle.std.proofs.lemmas.Grind.{flat_map-append}
 use Rattle.std.proofs.lemmas.List.{append-nil, length-take-le, take-append-drop}
 use Rattle.std.proofs.Math.Seq.{take-append_seam}
@@ -25,11 +25,11 @@ use Rattle.step_code.specs.Rules.{Meaning}
 use Rattle.step_code.specs.State.{bots_in_force, bots_of, is_dump, is_out, new_out, waiting}
 use Rattle.step_code.proofs.GivenBack.{kept-all_given_back}
 use Rattle.store_image.specs.Files.{out_file}
-use Rattle.store_image.specs.Stands.{AreSealedFrom, FrontsStand, IsSealedFrom, IsSealOf, Stands}
+use Rattle.store_image.specs.Stands.{AreSealedFrom, FrontsStand, IsSealOf, IsSealedFrom, IsUnsealed, Origin, Stands}
 use Rattle.store_image.specs.Stored.{IsStored}
 use Rattle.store_image.proofs.Standing.{replay-append}
 use Rattle.store_image.proofs.Stored.{stored_is_one}
-use Rattle.journal_book.specs.Outputs.{AreCompleted, AreWhole, HaveNoneSealed}
+use Rattle.journal_book.specs.Outputs.{AreCompleted, AreWhole}
 use Rattle.journal_book.specs.Running.{sealed_of}
 use Rattle.journal_book.proofs.Completing.{sealed_here}
 use Rattle.journal_book.proofs.Sealing.{front_begins, front_of, sealed_replay}
@@ -126,9 +126,9 @@ sealed_at (w ∷ wholes) (o ∷ outs) zero whole sealed is = (o, refl, subst (λ
     unwrapped (Some x) = x
 sealed_at (w ∷ wholes) (o ∷ outs) (suc k) whole sealed is = sealed_at wholes outs k whole sealed.1 is
 
-none_sealed : (outs : List Output) → HaveNoneSealed outs → (k : ℕ) → sealed_of outs k ≡ 0
+none_sealed : (outs : List Output) → AllByRecursion IsUnsealed outs → (k : ℕ) → sealed_of outs k ≡ 0
 none_sealed [] none k = refl
-none_sealed (o ∷ outs) none zero = none.0
+none_sealed (o ∷ outs) none zero = none.0.0
 none_sealed (o ∷ outs) none (suc k) = none_sealed outs none.1 k
 
 -- the sealed front of an output is a front of its lines
@@ -151,16 +151,16 @@ front_stays : (content : List ℕ) (sealed : ℕ) (lines : List (List ℕ)) (fil
 front_stays content sealed lines file long is =
     ap (take sealed) is ∙ ap (λ n. take n (completed content sealed lines)) (sym (length-take-le sealed content long)) ∙ take-append_seam (take sealed content) (lines_text lines)
 
-module _ (m : Meaning) (first : Base) (past : List Step) (base : Base) (steps : List Step) (state : Base) (none : HaveNoneSealed first.outs) (seal : IsSealOf (replay m first past) base) (is : state ≡ replay m base steps) where
+module _ (m : Meaning) (origin : Origin) (past : List Step) (base : Base) (steps : List Step) (state : Base) (none : AllByRecursion IsUnsealed origin.first.outs) (seal : IsSealOf (replay m origin.first past) base) (is : state ≡ replay m base steps) where
   abbrev before : List Output
-  before = (replay m first past).outs
+  before = (replay m origin.first past).outs
 
   abbrev wholes : List Output
-  wholes = (replay m first (past ++ steps)).outs
+  wholes = (replay m origin.first (past ++ steps)).outs
 
-  all : IsSealOf (replay m first (past ++ steps)) state
-  all = subst (λ (s : Base). IsSealOf (replay m first (past ++ steps)) s) (sym is)
-      (subst (λ (w : Base). IsSealOf w (replay m base steps)) (sym (replay-append m first past steps)) (seals m (replay m first past) base steps seal))
+  all : IsSealOf (replay m origin.first (past ++ steps)) state
+  all = subst (λ (s : Base). IsSealOf (replay m origin.first (past ++ steps)) s) (sym is)
+      (subst (λ (w : Base). IsSealOf w (replay m base steps)) (sym (replay-append m origin.first past steps)) (seals m (replay m origin.first past) base steps seal))
 
   bytes_kept : (k : ℕ) → sealed_of base.outs k ≡ sealed_of state.outs k
   bytes_kept k = sym (sealed_replay m base steps k) ∙ ap (λ (s : Base). sealed_of s.outs k) (sym is)
@@ -171,10 +171,10 @@ module _ (m : Meaning) (first : Base) (past : List Step) (base : Base) (steps : 
       let joined : lines_text whole.lines ≡ lines_text one.front ++ lines_text out.lines =
       ap lines_text one.lines ∙ flat_map-append (λ (line : List ℕ). line ++ 10 ∷ []) one.front out.lines in
       let later : Begins (text_of before k) (text_of wholes k) =
-      subst (λ (s : Base). Begins (text_of before k) (text_of s.outs k)) (sym (replay-append m first past steps)) (replay_longer m (replay m first past) steps k) in
+      subst (λ (s : Base). Begins (text_of before k) (text_of s.outs k)) (sym (replay-append m origin.first past steps)) (replay_longer m (replay m origin.first past) steps k) in
       let sealed : Begins front (text_of before k) = subst (λ (f : List ℕ). Begins f (text_of before k)) (sym is_front) (front_of_text before base.outs k) in
       let begins : Begins front (lines_text whole.lines) = subst (λ (t : List ℕ). Begins front t) (text_here wholes k whole there) (further _ _ _ sealed later) in
-      let nothing : whole.sealed_bytes ≡ 0 = sym (sealed_here wholes k whole there) ∙ sealed_replay m first (past ++ steps) k ∙ none_sealed first.outs none k in
+      let nothing : whole.sealed_bytes ≡ 0 = sym (sealed_here wholes k whole there) ∙ sealed_replay m origin.first (past ++ steps) k ∙ none_sealed origin.first.outs none k in
       let as_long : length front ≡ length (lines_text one.front) = omega (arith, long, one.bytes, nothing) in
       ap (λ t. t ++ lines_text out.lines) (one_front front (lines_text one.front) (lines_text whole.lines) begins (lines_text out.lines, joined) as_long) ∙ sym joined
 
@@ -194,14 +194,14 @@ module _ (m : Meaning) (first : Base) (past : List Step) (base : Base) (steps : 
       }
 
 -- the files of completed outputs are all lines of the history that the files of the store stand for
-pub whole_files : (m : Meaning) (first : Base) (history : List Step) (generation : ℕ) (base : Base) (steps : List Step) (state : Base) (may_leave : ℕ → List ℕ → Type 0) (old new : Image) → HaveNoneSealed first.outs
-    → Stands m first new history → IsStored new generation base steps → state ≡ replay m base steps → AreCompleted may_leave state.outs old new → AreWhole may_leave (replay m first history).outs new
-whole_files m first history generation base steps state may_leave old new none stands stored is done =
+pub whole_files : (m : Meaning) (origin : Origin) (history : List Step) (generation : ℕ) (base : Base) (steps : List Step) (state : Base) (may_leave : ℕ → List ℕ → Type 0) (old new : Image)
+    → Stands m origin new history → IsStored new generation base steps → state ≡ replay m base steps → AreCompleted may_leave state.outs old new → AreWhole may_leave (replay m origin.first history).outs new
+whole_files m origin history generation base steps state may_leave old new stands stored is done =
     let one = stored_is_one new stands.generation generation stands.base base stands.steps steps stands.stored stored in
-    let seal = subst (λ (b : Base). IsSealOf (replay m first stands.past) b) one.1 stands.seals in
-    let fronts = subst (λ (b : Base). FrontsStand 0 (replay m first stands.past).outs b.outs new) one.1 stands.fronts in
+    let seal = subst (λ (b : Base). IsSealOf (replay m origin.first stands.past) b) one.1 stands.seals in
+    let fronts = subst (λ (b : Base). FrontsStand 0 (replay m origin.first stands.past).outs b.outs new) one.1 stands.fronts in
     let splits : history ≡ stands.past ++ steps = stands.splits ∙ ap (λ ss. stands.past ++ ss) one.2 in
-    subst (λ (h : List Step). AreWhole may_leave (replay m first h).outs new) (sym splits) (files_whole m first stands.past base steps state none seal is may_leave old new fronts done)
+    subst (λ (h : List Step). AreWhole may_leave (replay m origin.first h).outs new) (sym splits) (files_whole m origin stands.past base steps state stands.unsealed seal is may_leave old new fronts done)
 
 -- a disk that tells what it holds behind a call told it before
 pub before_told : (told now : Option Image) (files : Image) → (told ≡ None → now ≡ None) → now ≡ Some files → (before : Image) × (told ≡ Some before)

@@ -5,7 +5,7 @@ use Rattle.step_code.specs.declared.base.Base.{Base}
 use Rattle.step_code.specs.declared.step.Step.{Step}
 use Rattle.step_code.specs.Rules.{Meaning}
 use Rattle.step_code.specs.History.{replay}
-use Rattle.store_image.specs.Stands.{IsSealOf, StandsFor}
+use Rattle.store_image.specs.Stands.{IsSealOf, Origin, StandsFor}
 
 -- the disk and the rules that it owns; its generation, the state with which that begins, and the steps behind that state,
 -- of which so many are durable; the state behind all of them; the limit of their codes together; and whether the disk
@@ -32,13 +32,13 @@ durable_steps book = take book.kept book.steps
 abbrev pub waiting_steps : {D R : Type 0} → BookView D R → List Step
 waiting_steps book = drop book.kept book.steps
 
--- the book goes on from these steps of the store whose first state is `first`: its generation begins with the state behind
+-- the book goes on from these steps of the store of this origin: its generation begins with the state behind
 -- them, with more lines of outputs sealed; and whatever a crash leaves now stands for them, the durable steps behind them, and
 -- a front of those that wait
-pub record IsKept {D R : Type 0} (disk : D → DiskView) (m : Meaning) (first : Base) (past : List Step) (book : BookView D R) : Type 0 where
+pub record IsKept {D R : Type 0} (disk : D → DiskView) (m : Meaning) (origin : Origin) (past : List Step) (book : BookView D R) : Type 0 where
   pub files : Image
   pub tells : (disk book.disk).told ≡ Some files
-  pub counted : book.base.steps ≡ first.steps + length past
-  pub seals : IsSealOf (replay m first past) book.base
+  pub counted : book.base.steps ≡ origin.first.steps + length past
+  pub seals : IsSealOf (replay m origin.first past) book.base
   pub within : book.kept ≤ length book.steps
-  pub each : (image : Image) → IsImage (disk book.disk).may_leave image → StandsFor m first (past ++ durable_steps book) (waiting_steps book) image
+  pub each : (image : Image) → IsImage (disk book.disk).may_leave image → StandsFor m origin (past ++ durable_steps book) (waiting_steps book) image

@@ -10,4 +10,3 @@ pub mod Staged
 -- what only the invariant and private contracts use
 pub mod Keeping
 pub mod Running
-pub mod Reading

@@ -11,7 +11,7 @@ use Rattle.step_code.specs.Rules.{Meaning}
 use Rattle.store_image.specs.Damage.{IsDamagedStore, IsShort}
 use Rattle.store_image.specs.Files.{root_file}
 use Rattle.store_image.specs.Opens.{AreLong}
-use Rattle.store_image.specs.Stands.{StandsFor}
+use Rattle.store_image.specs.Stands.{Origin, StandsFor}
 use Rattle.journal_book.specs.Book.{BookView, IsKept}
 use Rattle.journal_book.specs.declared.book_fault.BookFault.{BookFault}
 use Rattle.journal_book.specs.declared.book_fault.BookFault.TheVariants as fault
@@ -27,10 +27,10 @@ IsReopenFault m told fault.Refused = ⊥
 IsReopenFault m told fault.OutOfMemory = Unit {0}
 
 -- the disk tells what it holds, and whatever a crash leaves now stands for these steps and a front of those behind them
-pub record StandsNow (m : Meaning) (first : Base) (steps more : List Step) (now : DiskView) : Type 0 where
+pub record StandsNow (m : Meaning) (origin : Origin) (steps more : List Step) (now : DiskView) : Type 0 where
   pub files : Image
   pub tells : now.told ≡ Some files
-  pub each : (image : Image) → IsImage now.may_leave image → StandsFor m first steps more image
+  pub each : (image : Image) → IsImage now.may_leave image → StandsFor m origin steps more image
 
 -- the book of a store that was opened with this state, and with these steps behind it, all of them durable
 abbrev pub opened : {D R : Type 0} → Meaning → R → ℕ → Base → List Step → ℕ → D → BookView D R
@@ -38,12 +38,12 @@ opened m rules generation base steps limit disk =
     record { disk = disk; rules = rules; generation = generation; base = base; steps = steps; kept = length steps; state = replay m base steps; limit = limit; broken = false }
 
 -- the book goes on with these steps and a front of those behind them, all of which are durable
-pub record IsReopened {D R : Type 0} (disk : D → DiskView) (m : Meaning) (first : Base) (steps more : List Step) (book : BookView D R) : Type 0 where
+pub record IsReopened {D R : Type 0} (disk : D → DiskView) (m : Meaning) (origin : Origin) (steps more : List Step) (book : BookView D R) : Type 0 where
   pub past : List Step
   pub count : ℕ
   pub within : count ≤ length more
   pub splits : past ++ book.steps ≡ steps ++ take count more
-  pub kept : IsKept disk m first past book
+  pub kept : IsKept disk m origin past book
 
 -- the disk tells what it holds, and the files of these outputs are no shorter than what is sealed
 abbrev pub TellsLong : Option Image → List Output → Type 0
@@ -73,8 +73,8 @@ in_file file journal.OutOfMemory = fault.OutOfMemory
 
 -- whatever stood for a history does so at each moment of a call, and behind it
 pub record KeepsHistories (old new : DiskView) : Type 0 where
-  pub now : (m : Meaning) (first : Base) (steps more : List Step) → StandsNow m first steps more old → StandsNow m first steps more new
-  pub run : (m : Meaning) (first : Base) (steps more : List Step) → StandsNow m first steps more old → Leaves old new (StandsFor m first steps more)
+  pub now : (m : Meaning) (origin : Origin) (steps more : List Step) → StandsNow m origin steps more old → StandsNow m origin steps more new
+  pub run : (m : Meaning) (origin : Origin) (steps more : List Step) → StandsNow m origin steps more old → Leaves old new (StandsFor m origin steps more)
 
 -- what recovering one file of a store leaves
 pub record Recovers (file : ℕ) (old new : DiskView) : Type 0 where

@@ -1,6 +1,5 @@
 -- What becomes of the files of outputs.
 use Rattle.std.specs.Prelude.{◌≡◌, ◌≤◌, ◌<◌, ℕ, List, length, Option, Some, slice_get}
-use Rattle.std.specs.List.{AllByRecursion}
 use Rattle.edge_traits.specs.Disk.{DiskView, Image, Only}
 use Rattle.out_files.specs.Output.{completed, lines_text}
 use Rattle.step_code.specs.declared.base.Base.{Base}
@@ -21,10 +20,6 @@ pub record IsCompleted (may_leave : ℕ → List ℕ → Type 0) (file : ℕ) (o
 -- so is the file of each of these outputs
 abbrev pub AreCompleted : (ℕ → List ℕ → Type 0) → List Output → Image → Image → Type 0
 AreCompleted may_leave outs before after = (k : ℕ) (out : Output) → slice_get outs k ≡ Some out → IsCompleted may_leave (out_file k) out before after
-
--- no line of these outputs is sealed
-abbrev pub HaveNoneSealed : List Output → Type 0
-HaveNoneSealed outs = AllByRecursion (λ o. o.sealed_bytes ≡ 0) outs
 
 -- an output's file is all of its lines, each with a newline, and a crash leaves just that
 pub record IsWhole (may_leave : ℕ → List ℕ → Type 0) (file : ℕ) (out : Output) (after : Image) : Type 0 where

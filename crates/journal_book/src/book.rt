@@ -1,4 +1,4 @@
-ghost use Rattle.std.specs.Prelude.{◌≡◌, ◌≢◌, ◌↔◌, ◌⊎◌, ◌≤◌, ◌<◌, ◌+◌, ◌++◌, [], ◌∷◌, ℕ, List, true, false, length, take, drop, Option, Some, None, Err, IfOk, IfErr, OnOk, OnErr, IsErrOf};
+ghost use Rattle.std.specs.Prelude.{◌≡◌, ◌≢◌, ◌↔◌, ◌⊎◌, ◌≤◌, ◌<◌, ◌+◌, ◌++◌, [], ◌∷◌, ℕ, Bool, List, true, false, length, take, drop, Option, Some, None, Err, IfOk, IfErr, OnOk, OnErr, IsErrOf};
 ghost use Rattle.ack_steps.specs.Core.{HasNearFeeds, HasSoundHands};
 ghost use Rattle.edge_traits.specs.Count.{Rose};
 ghost use Rattle.edge_traits.specs.Disk.{Image, Leaves};
@@ -12,20 +12,19 @@ ghost use Rattle.step_code.specs.declared.rules.Facts.{Facts};
 ghost use Rattle.step_code.specs.History.{first, replay};
 ghost use Rattle.step_code.specs.Sound.{IsSound};
 ghost use Rattle.store_image.specs.Files.{generation_file, root_file};
-ghost use Rattle.store_image.specs.Stands.{StandsFor};
+ghost use Rattle.store_image.specs.Stands.{origin_of, Origin, StandsFor};
 ghost use Rattle.store_image.specs.Stored.{codes_of};
 ghost use Rattle.journal_book.specs.Alone.{IsApart, IsBeside, IsBesideNew, IsNoOut, LeavesAlone};
 ghost use Rattle.journal_book.specs.Book.{created, durable_steps, waiting_steps, IsKept};
 ghost use Rattle.journal_book.specs.Faults.{IsCreateFault};
 ghost use Rattle.journal_book.specs.NewStore.{HasOldRootOrFirst};
-ghost use Rattle.journal_book.specs.Outputs.{AreCompleted, AreWritten, HaveNoneSealed, IsBringUpFault, IsNoDamage, LeavesOuts};
+ghost use Rattle.journal_book.specs.Outputs.{AreCompleted, AreWritten, IsBringUpFault, IsNoDamage, LeavesOuts};
 ghost use Rattle.store_image.specs.Opens.{Opens};
 ghost use Rattle.journal_book.specs.Opening.{opened, IsReopened, IsReopenFault, StandsNow, TellsLong};
 ghost use Rattle.journal_book.specs.Staged.{cause_of, greatest_limit, most_waiting, most_waiting_bytes, staged, stamp, step_cause, IsMove, IsStageRefusal};
 
 use crate::create::{Opened, make_store};
 use crate::entering::enter;
-use crate::history::History;
 use crate::opening::{Reopened, open_store};
 use crate::outputs::complete_all;
 use crate::staging::{Move, next_step};
@@ -34,6 +33,7 @@ use ack_steps::Core;
 use base_types::{Blob, OutOfMemory};
 use disk_journal::Journal;
 use edge_traits::Disk;
+use generation_reading::History;
 use std::alloc::Global;
 use std::marker::Model;
 use std::snapshot::Snapshot;
@@ -109,14 +109,14 @@ impl<D: Disk, R: Rules> Book<D, R> {
         ensures sound { IfOk result (λ book. IsSound R.meaning book.base) }
 
         // Whatever a crash leaves now stands for no steps of the new store.
-        ensures kept { (files : Image) → (D.disk disk).told ≡ Some files → IfOk result (λ book. IsKept D.disk R.meaning book.base [] book) }
+        ensures kept { (files : Image) (whole : Bool) → (D.disk disk).told ≡ Some files → IfOk result (λ book. IsKept D.disk R.meaning (origin_of book.base whole) [] book) }
         ensures empty { (files : Image) → (D.disk disk).told ≡ Some files → OnOk result (files root_file ≡ []) }
         ensures refused_empty { (files : Image) → (D.disk disk).told ≡ Some files → IfErr result (λ e. e.0 ≡ BookFault.Refused → files root_file ≡ []) }
 
         // A store that is there is left alone: it stands for its history behind the call and at any moment of it.
-        ensures still_err { (first : Base) (steps more : List Step) → StandsNow R.meaning first steps more (D.disk disk) → IfErr result (λ e. StandsNow R.meaning first steps more (D.disk e.1)) }
-        ensures any_moment_err { (first : Base) (steps more : List Step) → StandsNow R.meaning first steps more (D.disk disk)
-            → IfErr result (λ e. Leaves (D.disk disk) (D.disk e.1) (StandsFor R.meaning first steps more)) }
+        ensures still_err { (origin : Origin) (steps more : List Step) → StandsNow R.meaning origin steps more (D.disk disk) → IfErr result (λ e. StandsNow R.meaning origin steps more (D.disk e.1)) }
+        ensures any_moment_err { (origin : Origin) (steps more : List Step) → StandsNow R.meaning origin steps more (D.disk disk)
+            → IfErr result (λ e. Leaves (D.disk disk) (D.disk e.1) (StandsFor R.meaning origin steps more)) }
 
         // The root is left as it was until the first generation is durable: where a crash leaves it empty before the call, one
         // at any moment leaves no store, or the new one.
@@ -185,14 +185,14 @@ impl<D: Disk, R: Rules> Book<D, R> {
         ensures long { (files : Image) → (D.disk disk).told ≡ Some files → IfOk result (λ book. TellsLong (D.disk book.disk).told book.state.outs) }
 
         // The book goes on from all steps that whatever a crash left stood for.
-        ensures kept { (first : Base) (steps more : List Step) → StandsNow R.meaning first steps more (D.disk disk) → IfOk result (λ book. IsReopened D.disk R.meaning first steps more book) }
-        ensures still_err { (first : Base) (steps more : List Step) → StandsNow R.meaning first steps more (D.disk disk) → IfErr result (λ e. StandsNow R.meaning first steps more (D.disk e.1)) }
+        ensures kept { (origin : Origin) (steps more : List Step) → StandsNow R.meaning origin steps more (D.disk disk) → IfOk result (λ book. IsReopened D.disk R.meaning origin steps more book) }
+        ensures still_err { (origin : Origin) (steps more : List Step) → StandsNow R.meaning origin steps more (D.disk disk) → IfErr result (λ e. StandsNow R.meaning origin steps more (D.disk e.1)) }
 
         // So does what a crash at any moment of the call leaves.
-        ensures any_moment { (first : Base) (steps more : List Step) → StandsNow R.meaning first steps more (D.disk disk)
-            → IfOk result (λ book. Leaves (D.disk disk) (D.disk book.disk) (StandsFor R.meaning first steps more)) }
-        ensures any_moment_err { (first : Base) (steps more : List Step) → StandsNow R.meaning first steps more (D.disk disk)
-            → IfErr result (λ e. Leaves (D.disk disk) (D.disk e.1) (StandsFor R.meaning first steps more)) }
+        ensures any_moment { (origin : Origin) (steps more : List Step) → StandsNow R.meaning origin steps more (D.disk disk)
+            → IfOk result (λ book. Leaves (D.disk disk) (D.disk book.disk) (StandsFor R.meaning origin steps more)) }
+        ensures any_moment_err { (origin : Origin) (steps more : List Step) → StandsNow R.meaning origin steps more (D.disk disk)
+            → IfErr result (λ e. Leaves (D.disk disk) (D.disk e.1) (StandsFor R.meaning origin steps more)) }
 
         // No file is changed but the root and the generation in force.
         ensures others { (files : Image) → (D.disk disk).told ≡ Some files → IfOk result (λ book. LeavesAlone (D.disk disk) (D.disk book.disk) (IsBeside files)) }
@@ -319,7 +319,7 @@ impl<D: Disk, R: Rules> Book<D, R> {
         ensures err { OnErr result (self.new ≡ self.old) }
 
         // Whatever a crash leaves now stands for a front of what was committed before and of this step.
-        ensures kept { (first : Base) (past : List Step) → IsKept D.disk R.meaning first past self.old → IsKept D.disk R.meaning first past self.new }
+        ensures kept { (origin : Origin) (past : List Step) → IsKept D.disk R.meaning origin past self.old → IsKept D.disk R.meaning origin past self.new }
     {
         if self.broken {
             return Err(StageRefusal::Broken);
@@ -385,11 +385,11 @@ impl<D: Disk, R: Rules> Book<D, R> {
 
         // Whatever a crash leaves now stands for all steps, if the answer is `Ok`, and else for a front of them that has each
         // one that was durable before.
-        ensures kept { (first : Base) (past : List Step) → IsKept D.disk R.meaning first past self.old → IsKept D.disk R.meaning first past self.new }
+        ensures kept { (origin : Origin) (past : List Step) → IsKept D.disk R.meaning origin past self.old → IsKept D.disk R.meaning origin past self.new }
 
         // So does what a crash at any moment of the call leaves.
-        ensures any_moment { (first : Base) (past : List Step) → IsKept D.disk R.meaning first past self.old
-            → Leaves (D.disk self.old.disk) (D.disk self.new.disk) (StandsFor R.meaning first (past ++ durable_steps self.old) (waiting_steps self.old)) }
+        ensures any_moment { (origin : Origin) (past : List Step) → IsKept D.disk R.meaning origin past self.old
+            → Leaves (D.disk self.old.disk) (D.disk self.new.disk) (StandsFor R.meaning origin (past ++ durable_steps self.old) (waiting_steps self.old)) }
         ensures failed { IsErrOf result FlushFault.Disk → Rose (D.disk self.old.disk).faults (D.disk self.new.disk).faults }
         ensures count { (D.disk self.old.disk).faults ≤ (D.disk self.new.disk).faults }
     {
@@ -435,21 +435,21 @@ impl<D: Disk, R: Rules> Book<D, R> {
             → OnOk result (AreCompleted (D.disk self.new.disk).may_leave self.old.state.outs files after) }
 
         // Each output's file is all lines of the history that the disk stands for, where that began with nothing sealed.
-        ensures written { (first : Base) (history : List Step) → StandsNow R.meaning first history [] (D.disk self.new.disk) → HaveNoneSealed first.outs
-            → OnOk result (AreWritten R.meaning first history (D.disk self.new.disk)) }
+        ensures written { (origin : Origin) (history : List Step) → StandsNow R.meaning origin history [] (D.disk self.new.disk)
+            → OnOk result (AreWritten R.meaning origin.first history (D.disk self.new.disk)) }
         ensures untold { (D.disk self.old.disk).told ≡ None → (D.disk self.new.disk).told ≡ None }
 
         // Whatever a crash leaves now stands for the same steps as before, and for all if the answer isn't `Disk`.
-        ensures kept { (first : Base) (past : List Step) → IsKept D.disk R.meaning first past self.old → IsKept D.disk R.meaning first past self.new }
+        ensures kept { (origin : Origin) (past : List Step) → IsKept D.disk R.meaning origin past self.old → IsKept D.disk R.meaning origin past self.new }
 
         // So does what a crash at any moment of the call leaves.
-        ensures any_moment { (first : Base) (past : List Step) → IsKept D.disk R.meaning first past self.old
-            → Leaves (D.disk self.old.disk) (D.disk self.new.disk) (StandsFor R.meaning first (past ++ durable_steps self.old) (waiting_steps self.old)) }
+        ensures any_moment { (origin : Origin) (past : List Step) → IsKept D.disk R.meaning origin past self.old
+            → Leaves (D.disk self.old.disk) (D.disk self.new.disk) (StandsFor R.meaning origin (past ++ durable_steps self.old) (waiting_steps self.old)) }
 
         // No line is written before its step is durable: where a crash leaves in an output's file what it might not have left
         // before, the files stand for all steps.
-        ensures lines_last { (first : Base) (past : List Step) → IsKept D.disk R.meaning first past self.old
-            → Leaves (D.disk self.old.disk) (D.disk self.new.disk) (λ image. LeavesOuts (D.disk self.old.disk) image ⊎ StandsFor R.meaning first (past ++ self.old.steps) [] image) }
+        ensures lines_last { (origin : Origin) (past : List Step) → IsKept D.disk R.meaning origin past self.old
+            → Leaves (D.disk self.old.disk) (D.disk self.new.disk) (λ image. LeavesOuts (D.disk self.old.disk) image ⊎ StandsFor R.meaning origin (past ++ self.old.steps) [] image) }
 
         // No file is changed but the generation's and those of outputs.
         ensures others { (files : Image) → (D.disk self.old.disk).told ≡ Some files → LeavesAlone (D.disk self.old.disk) (D.disk self.new.disk) (IsApart self.old.generation) }
@@ -473,12 +473,12 @@ impl<D: Disk, R: Rules> Book<D, R> {
         ensures others { LeavesAlone (D.disk self.old.disk) (D.disk self.new.disk) IsNoOut }
         ensures completed { (files after : Image) → (D.disk self.old.disk).told ≡ Some files → (D.disk self.new.disk).told ≡ Some after
             → OnOk result (AreCompleted (D.disk self.new.disk).may_leave self.old.state.outs files after) }
-        ensures written { (first : Base) (history : List Step) → self.old.kept ≡ length self.old.steps → StandsNow R.meaning first history [] (D.disk self.new.disk) → HaveNoneSealed first.outs
-            → OnOk result (AreWritten R.meaning first history (D.disk self.new.disk)) }
+        ensures written { (origin : Origin) (history : List Step) → self.old.kept ≡ length self.old.steps → StandsNow R.meaning origin history [] (D.disk self.new.disk)
+            → OnOk result (AreWritten R.meaning origin.first history (D.disk self.new.disk)) }
         ensures untold { (D.disk self.old.disk).told ≡ None → (D.disk self.new.disk).told ≡ None }
-        ensures kept { (first : Base) (past : List Step) → IsKept D.disk R.meaning first past self.old → IsKept D.disk R.meaning first past self.new }
-        ensures any_moment { (first : Base) (past : List Step) → IsKept D.disk R.meaning first past self.old
-            → Leaves (D.disk self.old.disk) (D.disk self.new.disk) (StandsFor R.meaning first (past ++ durable_steps self.old) (waiting_steps self.old)) }
+        ensures kept { (origin : Origin) (past : List Step) → IsKept D.disk R.meaning origin past self.old → IsKept D.disk R.meaning origin past self.new }
+        ensures any_moment { (origin : Origin) (past : List Step) → IsKept D.disk R.meaning origin past self.old
+            → Leaves (D.disk self.old.disk) (D.disk self.new.disk) (StandsFor R.meaning origin (past ++ durable_steps self.old) (waiting_steps self.old)) }
         ensures failed { IsErrOf result BookFault.Disk → Rose (D.disk self.old.disk).faults (D.disk self.new.disk).faults }
         ensures count { (D.disk self.old.disk).faults ≤ (D.disk self.new.disk).faults }
     {

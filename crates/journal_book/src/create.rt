@@ -19,11 +19,11 @@ ghost use Rattle.journal_book.specs.Opening.{KeepsHistories};
 
 use crate::BookFault;
 use crate::files::{ROOT, generation_file};
-use crate::first_state::first_state;
 use ack_steps::{Core, CoreFault};
 use base_types::Blob;
 use disk_journal::{Journal, JournalFault};
 use edge_traits::Disk;
+use generation_reading::first_state;
 use std::alloc::Global;
 use std::snapshot::Snapshot;
 use step_code::{Base, PlanFault, Rules, encode_base};

@@ -7,13 +7,9 @@ mod book_fault;
 mod create;
 mod entering;
 mod files;
-mod first_state;
-mod history;
 mod laws;
 mod opening;
 mod outputs;
-mod reading;
-mod replaying;
 mod stage_refusal;
 mod staging;
 

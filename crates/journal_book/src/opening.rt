@@ -16,16 +16,15 @@ ghost use Rattle.store_image.specs.Stored.{codes_of, NamesLast};
 ghost use Rattle.journal_book.specs.Alone.{IsBeside, LeavesAlone};
 ghost use Rattle.journal_book.specs.Keeping.{longest_waiting, AreAtRest, AreStoreFiles};
 ghost use Rattle.journal_book.specs.Opening.{in_file, IsFileFault, IsReopenFault, IsShortFault, KeepsHistories, Recovers, TellsLong};
-ghost use Rattle.journal_book.specs.Reading.{AreGenerations, AreHistory, IsHistory};
+ghost use Rattle.generation_reading.specs.Reading.{AreGenerations, AreHistory, IsHistory};
 
 use crate::BookFault;
 use crate::files::{ROOT, generation_file, out_file};
-use crate::history::{History, history_of};
-use crate::reading::generation_named;
 use ack_steps::Core;
 use base_types::BlobList;
 use disk_journal::{Journal, JournalFault};
 use edge_traits::Disk;
+use generation_reading::{History, generation_named, history_of};
 use std::alloc::Global;
 use step_code::Rules;
 

@@ -12,7 +12,7 @@ use Rattle.pipeline_top.specs.Outside.{Seen}
 use Rattle.pipeline_top.specs.Statuses.{store_status}
 
 pub still_here : (d : DiskView) → ((image : Image) → d.left_since d.moment image → IsImage d.may_leave image) → IsStill d d
-still_here d only = λ first steps more was. record { any_moment = started (λ image left. was.each image (only image left)); now = was }
+still_here d only = λ origin steps more was. record { any_moment = started (λ image left. was.each image (only image left)); now = was }
 
 -- nothing is done where no store was made
 pub not_drilled : {D : Type 0} (disk : D → DiskView) (lines number : ℕ) (seen : Seen) (mid new : D) (end : Status) (making : StoreEnd)

@@ -7,11 +7,11 @@ use Rattle.config_bundle.specs.declared.bundle.Bundle.{Bundle}
 use Rattle.config_bundle.specs.Bundle.{bundle_code}
 use Rattle.runtime_config.specs.declared.plan.Plan.{Plan}
 use Rattle.bot_rules.specs.Intel.{intel}
-use Rattle.step_code.specs.declared.base.Base.{Base}
 use Rattle.step_code.specs.declared.step.Step.{Step}
 use Rattle.store_image.specs.Files.{root_file}
+use Rattle.store_image.specs.Stands.{Origin}
 use Rattle.journal_book.specs.Opening.{StandsNow}
-use Rattle.journal_book.specs.Outputs.{AreWritten, HaveNoneSealed}
+use Rattle.journal_book.specs.Outputs.{AreWritten}
 use Rattle.journal_book.specs.Alone.{IsBeside, IsBesideNew, LeavesAlone}
 use Rattle.store_calls.specs.Calls.{IsEarlierIn, StandsOn}
 use Rattle.store_commands.specs.Begun.{IsBegun, IsMade, IsMadeWhole, IsNewStore}
@@ -67,7 +67,7 @@ pub record IsChecked (name : List ℕ) (seen : Seen) (end : Status) : Type 0 whe
 
 -- nothing of a history changes, at any moment of the call and behind it
 abbrev pub IsStill : DiskView → DiskView → Type 0
-IsStill old new = (first : Base) (steps more : List Step) → StandsNow intel first steps more old → StandsOn intel first steps more old new
+IsStill old new = (origin : Origin) (steps more : List Step) → StandsNow intel origin steps more old → StandsOn intel origin steps more old new
 
 -- where the disk tells what it holds
 abbrev pub WhereTold : DiskView → (Image → Type 0) → Type 0
@@ -77,7 +77,7 @@ WhereTold old passes = (files : Image) → old.told ≡ Some files → passes fi
 -- nothing sealed
 abbrev pub HasOutputsAt : DiskView → StoreEnd → Type 0
 HasOutputsAt new done =
-    (first : Base) (history : List Step) → StandsNow intel first history [] new → HaveNoneSealed first.outs → AreWrittenAt done (AreWritten intel first history new)
+    (origin : Origin) (history : List Step) → StandsNow intel origin history [] new → AreWrittenAt done (AreWritten intel origin.first history new)
 
 -- a store of this bundle was made, or one was there, which is left alone
 pub record IsMadeOf (seen : Seen) (end : Status) (old new : DiskView) (found : Bundle × Plan) : Type 0 where
@@ -180,8 +180,8 @@ pub record IsRedoneBy {D : Type 0} (disk : D → DiskView) (dump : ℕ) (seen : 
   pub redone : WhereTold old (λ files. IsRedone intel files dump now done seen.sink seen.sink_now)
   pub others : WhereTold old (λ files. LeavesAlone old new (IsEarlierIn files))
   pub written : HasOutputsAt new done
-  pub stands : (first : Base) (steps more : List Step) → StandsNow intel first steps more old
-      → IsRedoCall done (StandsOn intel first steps more old new) (RedoesStep disk intel first steps more old new dump now)
+  pub stands : (origin : Origin) (steps more : List Step) → StandsNow intel origin steps more old
+      → IsRedoCall done (StandsOn intel origin steps more old new) (RedoesStep disk intel origin steps more old new dump now)
 
 -- ---- all
 

@@ -1,3 +1,4 @@
 mod Acted
 pub mod Histories
 pub mod Sealed
+pub mod Unsealed

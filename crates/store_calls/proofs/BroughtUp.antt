@@ -2,10 +2,9 @@
 use Rattle.std.proofs.Common.{◌≡◌, ◌≢◌, ◌⊎◌, ⊎_elim, ◌≤◌, ◌++◌, List, [], length, true, Some, Result, Ok, Err, refl, sym, ap, subst, ◌∙◌, arith}
 use Rattle.std.specs.Prelude.{IfErr, IsErrOf, OnOk}
 use Rattle.edge_traits.specs.Disk.{DiskView, Image, Leaves}
-use Rattle.step_code.specs.declared.base.Base.{Base}
 use Rattle.step_code.specs.declared.step.Step.{Step}
 use Rattle.step_code.specs.Rules.{Meaning}
-use Rattle.store_image.specs.Stands.{StandsFor}
+use Rattle.store_image.specs.Stands.{Origin, StandsFor}
 use Rattle.journal_book.specs.Book.{durable_steps, waiting_steps, BookView, IsKept}
 use Rattle.journal_book.specs.declared.book_fault.BookFault.{BookFault}
 use Rattle.journal_book.specs.declared.book_fault.BookFault.TheVariants as fault
@@ -43,15 +42,15 @@ module _ {D R : Type 0} (old new : BookView D R) where
   same_book (Err fault.OutOfMemory) is = changes old new _ _ (is.still (λ e. absurd (cc)))
 
 module _ {D R : Type 0} {disk : D → DiskView} {m : Meaning} (old new : BookView D R)
-    (kept : (first : Base) (past : List Step) → IsKept disk m first past old → IsKept disk m first past new)
-    (leaves : (first : Base) (past : List Step) → IsKept disk m first past old → Leaves (disk old.disk) (disk new.disk) (StandsFor m first (past ++ durable_steps old) (waiting_steps old)))
+    (kept : (origin : Origin) (past : List Step) → IsKept disk m origin past old → IsKept disk m origin past new)
+    (leaves : (origin : Origin) (past : List Step) → IsKept disk m origin past old → Leaves (disk old.disk) (disk new.disk) (StandsFor m origin (past ++ durable_steps old) (waiting_steps old)))
     (others : (files : Image) → (disk old.disk).told ≡ Some files → LeavesAlone (disk old.disk) (disk new.disk) (IsApart old.generation)) where
   by_all : new ≡ record old { disk = new.disk; kept = length old.steps } → GoesOn disk m old new []
-  by_all is = makes_none old new (changes old new _ _ is) (λ first past was. omega (arith, was.within, ap (λ (b : BookView D R). b.kept) is)) kept leaves (apart_earlier old.generation others)
+  by_all is = makes_none old new (changes old new _ _ is) (λ origin past was. omega (arith, was.within, ap (λ (b : BookView D R). b.kept) is)) kept leaves (apart_earlier old.generation others)
 
   by_failure : new ≡ record old { disk = new.disk; kept = new.kept; broken = true } → (new.kept ≡ old.kept) ⊎ (new.kept ≡ length old.steps) → GoesOn disk m old new []
   by_failure is which =
-      makes_none old new (changes old new _ _ is) (λ first past was. ⊎_elim (λ (same : new.kept ≡ old.kept). omega (arith, same)) (λ (all : new.kept ≡ length old.steps). omega (arith, all, was.within)) which) kept leaves (apart_earlier old.generation others)
+      makes_none old new (changes old new _ _ is) (λ origin past was. ⊎_elim (λ (same : new.kept ≡ old.kept). omega (arith, same)) (λ (all : new.kept ≡ length old.steps). omega (arith, all, was.within)) which) kept leaves (apart_earlier old.generation others)
 
   pub goes_on : (r : Result (Unit {0}) BookFault) → Completed old new r → GoesOn disk m old new []
   goes_on (Ok x) is = by_all is.ok

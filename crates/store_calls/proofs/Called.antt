@@ -12,7 +12,7 @@ use Rattle.step_code.specs.History.{first, replay, Legal}
 use Rattle.step_code.specs.Places.{IsAccounted}
 use Rattle.step_code.specs.Rules.{Meaning}
 use Rattle.step_code.specs.Spent.{NothingIsSpent}
-use Rattle.store_image.specs.Stands.{IsSealOf, Stands, StandsFor}
+use Rattle.store_image.specs.Stands.{IsSealOf, Origin, Stands, StandsFor}
 use Rattle.store_image.specs.Files.{root_file}
 use Rattle.store_image.specs.Stored.{NamesLast}
 use Rattle.store_image.proofs.Standing.{replay-append}
@@ -26,17 +26,17 @@ use Rattle.seal_laws.proofs.Histories.{legal_whole, seals, small_whole}
 use Rattle.store_calls.specs.Calls.{IsCall, IsEarlierIn, IsFirstOf, IsOpened, StandsAccounted, StandsOn}
 
 -- what stands for what was read of a history stands for that history
-narrow : (m : Meaning) (begun : Base) (steps more rest : List Step) (n : ℕ) (image : Image) → n ≤ length more → rest ≡ [] → StandsFor m begun (steps ++ take n more) rest image → StandsFor m begun steps more image
-narrow m begun steps more rest n image within none stands =
+narrow : (m : Meaning) (origin : Origin) (steps more rest : List Step) (n : ℕ) (image : Image) → n ≤ length more → rest ≡ [] → StandsFor m origin (steps ++ take n more) rest image → StandsFor m origin steps more image
+narrow m origin steps more rest n image within none stands =
     let nothing : take stands.count rest ≡ [] = ap (take stands.count) none ∙ take-nil stands.count in
     let history : (steps ++ take n more) ++ take stands.count rest ≡ steps ++ take n more = ap (λ (ss : List Step). (steps ++ take n more) ++ ss) nothing ∙ append-nil (steps ++ take n more) in
-    record { count = n; within = within; stands = subst (λ (h : List Step). Stands m begun image h) history stands.stands }
+    record { count = n; within = within; stands = subst (λ (h : List Step). Stands m origin image h) history stands.stands }
 
 -- a store that was opened, by what opening says of it
-pub opened_so : {D R : Type 0} {disk : D → DiskView} {m : Meaning} (begun : Base) (steps more : List Step) (old : D) (rules : R) (limit : ℕ) (book : BookView D R)
-    → book ≡ opened m rules book.generation book.base book.steps limit book.disk → IsReopened disk m begun steps more book → Leaves (disk old) (disk book.disk) (StandsFor m begun steps more)
-    → IsOpened disk m begun steps more old book
-opened_so {D = D} {R = R} begun steps more old rules limit book is reopened any_moment = record {
+pub opened_so : {D R : Type 0} {disk : D → DiskView} {m : Meaning} (origin : Origin) (steps more : List Step) (old : D) (rules : R) (limit : ℕ) (book : BookView D R)
+    → book ≡ opened m rules book.generation book.base book.steps limit book.disk → IsReopened disk m origin steps more book → Leaves (disk old) (disk book.disk) (StandsFor m origin steps more)
+    → IsOpened disk m origin steps more old book
+opened_so {D = D} {R = R} origin steps more old rules limit book is reopened any_moment = record {
   all = ap (λ (b : BookView D R). b.kept) is;
   state = ap (λ (b : BookView D R). b.state) is;
   reopened = reopened;
@@ -52,12 +52,12 @@ legal-front m s [] more legal = tt
 legal-front m s (step ∷ front) more legal = (legal.0, legal-front m (after m s step) front more legal.1)
 
 -- a front of these steps stands where all of them are legal, and is accounted for
-accounted_front : (m : Meaning) (bundle : List ℕ) (begun : Base) (steps more : List Step) (image : Image) → AllAccounted m → IsFirstOf m bundle begun → Legal m begun (steps ++ more) → StandsFor m begun steps more image
-    → StandsAccounted m begun image
-accounted_front m bundle begun steps more image accounts is legal stands =
+accounted_front : (m : Meaning) (bundle : List ℕ) (origin : Origin) (steps more : List Step) (image : Image) → AllAccounted m → IsFirstOf m bundle origin.first → Legal m origin.first (steps ++ more) → StandsFor m origin steps more image
+    → StandsAccounted m origin image
+accounted_front m bundle origin steps more image accounts is legal stands =
     let front = steps ++ take stands.count more in
     let whole : steps ++ more ≡ front ++ drop stands.count more = ap (λ (ss : List Step). steps ++ ss) (sym (take-append-drop stands.count more)) ∙ sym (append_assoc steps (take stands.count more) (drop stands.count more)) in
-    let here : Legal m begun front = legal-front m begun front (drop stands.count more) (subst (Legal m begun) whole legal) in
+    let here : Legal m origin.first front = legal-front m origin.first front (drop stands.count more) (subst (Legal m origin.first) whole legal) in
     record {
       history = front;
       stands = stands.stands;
@@ -65,8 +65,8 @@ accounted_front m bundle begun steps more image accounts is legal stands =
       accounted = subst (λ (s : Base). IsAccounted m s front) (sym is.state) (accounts is.bots bundle front is.loads (subst (λ (s : Base). Legal m s front) is.state here));
     }
 
-module _ {D R : Type 0} {disk : D → DiskView} {m : Meaning} (begun : Base) (steps more made : List Step) (old : D) (opened later : BookView D R)
-    (is : IsOpened disk m begun steps more old opened) (run : GoesOn disk m opened later made) where
+module _ {D R : Type 0} {disk : D → DiskView} {m : Meaning} (origin : Origin) (steps more made : List Step) (old : D) (opened later : BookView D R)
+    (is : IsOpened disk m origin steps more old opened) (run : GoesOn disk m opened later made) where
   abbrev past : List Step
   past = is.reopened.past
 
@@ -81,8 +81,8 @@ module _ {D R : Type 0} {disk : D → DiskView} {m : Meaning} (begun : Base) (st
   abbrev durable : ℕ
   durable = (length run.archived + later.kept) - opened.kept
 
-  kept_now : IsKept disk m begun (past ++ run.archived) later
-  kept_now = run.kept begun past is.reopened.kept
+  kept_now : IsKept disk m origin (past ++ run.archived) later
+  kept_now = run.kept origin past is.reopened.kept
 
   -- the steps that were there are durable, and none of them waits
   all_durable : durable_steps opened ≡ opened.steps
@@ -92,7 +92,7 @@ module _ {D R : Type 0} {disk : D → DiskView} {m : Meaning} (begun : Base) (st
   none_waits = ap (λ n. drop n opened.steps) is.all ∙ drop-length opened.steps
 
   kept_is : length run.archived + later.kept ≡ length opened.steps + durable
-  kept_is = omega (arith, run.durable begun past is.reopened.kept, is.all)
+  kept_is = omega (arith, run.durable origin past is.reopened.kept, is.all)
 
   durable_now : run.archived ++ durable_steps later ≡ opened.steps ++ take durable made
   durable_now =
@@ -104,65 +104,65 @@ module _ {D R : Type 0} {disk : D → DiskView} {m : Meaning} (begun : Base) (st
 
   -- ---- at any moment
 
-  run_leaves : Leaves (disk opened.disk) (disk later.disk) (StandsFor m begun read made)
+  run_leaves : Leaves (disk opened.disk) (disk later.disk) (StandsFor m origin read made)
   run_leaves =
-      let there = run.any_moment begun past is.reopened.kept in
+      let there = run.any_moment origin past is.reopened.kept in
       let history : past ++ durable_steps opened ≡ read = ap (λ ss. past ++ ss) all_durable ∙ read_is in
       let waits : waiting_steps opened ++ made ≡ made = ap (λ ss. ss ++ made) none_waits in
-      subst (λ (h : List Step). Leaves (disk opened.disk) (disk later.disk) (StandsFor m begun h made)) history
-      (subst (λ (w : List Step). Leaves (disk opened.disk) (disk later.disk) (StandsFor m begun (past ++ durable_steps opened) w)) waits there)
+      subst (λ (h : List Step). Leaves (disk opened.disk) (disk later.disk) (StandsFor m origin h made)) history
+      (subst (λ (w : List Step). Leaves (disk opened.disk) (disk later.disk) (StandsFor m origin (past ++ durable_steps opened) w)) waits there)
 
-  read_now : StandsNow m begun read [] (disk opened.disk)
+  read_now : StandsNow m origin read [] (disk opened.disk)
   read_now =
       let history : past ++ durable_steps opened ≡ read = ap (λ ss. past ++ ss) all_durable ∙ read_is in
       record {
         files = is.reopened.kept.files;
         tells = is.reopened.kept.tells;
-        each = λ image left. subst (λ (w : List Step). StandsFor m begun read w image) none_waits
-            (subst (λ (h : List Step). StandsFor m begun h (waiting_steps opened) image) history (is.reopened.kept.each image left));
+        each = λ image left. subst (λ (w : List Step). StandsFor m origin read w image) none_waits
+            (subst (λ (h : List Step). StandsFor m origin h (waiting_steps opened) image) history (is.reopened.kept.each image left));
       }
 
   -- ---- behind the call
 
-  stands_now : StandsNow m begun (read ++ take durable made) (drop durable made) (disk later.disk)
+  stands_now : StandsNow m origin (read ++ take durable made) (drop durable made) (disk later.disk)
   stands_now =
       let history : (past ++ run.archived) ++ durable_steps later ≡ read ++ take durable made =
       append_assoc past run.archived (durable_steps later) ∙ ap (λ ss. past ++ ss) durable_now ∙ sym (append_assoc past opened.steps (take durable made)) ∙ ap (λ ss. ss ++ take durable made) read_is in
       record {
         files = kept_now.files;
         tells = kept_now.tells;
-        each = λ image left. subst (λ (w : List Step). StandsFor m begun (read ++ take durable made) w image) waiting_now
-            (subst (λ (h : List Step). StandsFor m begun h (waiting_steps later) image) history (kept_now.each image left));
+        each = λ image left. subst (λ (w : List Step). StandsFor m origin (read ++ take durable made) w image) waiting_now
+            (subst (λ (h : List Step). StandsFor m origin h (waiting_steps later) image) history (kept_now.each image left));
       }
 
   -- ---- legal
 
-  pub sealed_state : IsSealOf (replay m begun read) opened.state
+  pub sealed_state : IsSealOf (replay m origin.first read) opened.state
   sealed_state =
-      let behind = seals m (replay m begun past) opened.base opened.steps is.reopened.kept.seals in
-      subst (λ (s : Base). IsSealOf (replay m begun read) s) (sym is.state)
-      (subst (λ (s : Base). IsSealOf s (replay m opened.base opened.steps)) (sym (replay-append m begun past opened.steps) ∙ ap (replay m begun) read_is) behind)
+      let behind = seals m (replay m origin.first past) opened.base opened.steps is.reopened.kept.seals in
+      subst (λ (s : Base). IsSealOf (replay m origin.first read) s) (sym is.state)
+      (subst (λ (s : Base). IsSealOf s (replay m opened.base opened.steps)) (sym (replay-append m origin.first past opened.steps) ∙ ap (replay m origin.first) read_is) behind)
 
-  legal_now : Legal m begun read → Legal m begun (read ++ made)
-  legal_now legal = legal-append m begun read made legal (legal_whole m (replay m begun read) opened.state made sealed_state run.legal)
+  legal_now : Legal m origin.first read → Legal m origin.first (read ++ made)
+  legal_now legal = legal-append m origin.first read made legal (legal_whole m (replay m origin.first read) opened.state made sealed_state run.legal)
 
-  small_now : NothingIsSpent m begun read → NothingIsSpent m begun (read ++ made)
-  small_now small = small-append m begun read made small (small_whole m (replay m begun read) opened.state made sealed_state run.small)
+  small_now : NothingIsSpent m origin.first read → NothingIsSpent m origin.first (read ++ made)
+  small_now small = small-append m origin.first read made small (small_whole m (replay m origin.first read) opened.state made sealed_state run.small)
 
   -- ---- accounted for
 
-  legal_read : Legal m begun (steps ++ more) → Legal m begun read
+  legal_read : Legal m origin.first (steps ++ more) → Legal m origin.first read
   legal_read legal =
       let n = is.reopened.count in
       let whole : steps ++ more ≡ read ++ drop n more = ap (λ (ss : List Step). steps ++ ss) (sym (take-append-drop n more)) ∙ sym (append_assoc steps (take n more) (drop n more)) in
-      legal-front m begun read (drop n more) (subst (Legal m begun) whole legal)
+      legal-front m origin.first read (drop n more) (subst (Legal m origin.first) whole legal)
 
-  accounted_now : AllAccounted m → (bundle : List ℕ) → IsFirstOf m bundle begun → Legal m begun (steps ++ more) → Leaves (disk old) (disk later.disk) (StandsAccounted m begun)
+  accounted_now : AllAccounted m → (bundle : List ℕ) → IsFirstOf m bundle origin.first → Legal m origin.first (steps ++ more) → Leaves (disk old) (disk later.disk) (StandsAccounted m origin)
   accounted_now accounts bundle of legal =
-      run_on (widened (λ image stands. accounted_front m bundle begun steps more image accounts of legal stands) is.any_moment)
-      (widened (λ image stands. accounted_front m bundle begun read made image accounts of (legal_now (legal_read legal)) stands) run_leaves)
+      run_on (widened (λ image stands. accounted_front m bundle origin steps more image accounts of legal stands) is.any_moment)
+      (widened (λ image stands. accounted_front m bundle origin read made image accounts of (legal_now (legal_read legal)) stands) run_leaves)
 
-  pub called : AllAccounted m → IsCall disk m begun steps more (disk old) (disk later.disk) made durable
+  pub called : AllAccounted m → IsCall disk m origin steps more (disk old) (disk later.disk) made durable
   called accounts = record {
     count = is.reopened.count;
     within = is.reopened.within;
@@ -184,22 +184,22 @@ module _ {D R : Type 0} {disk : D → DiskView} {m : Meaning} (begun : Base) (st
   pub all_made : later.kept ≡ length later.steps → durable ≡ length made
   all_made all = omega (arith, all, is.all, ap length run.splits, length-append opened.steps made, length-append run.archived later.steps)
 
-  pub called_durably : AllAccounted m → later.kept ≡ length later.steps → IsCall disk m begun steps more (disk old) (disk later.disk) made (length made)
-  called_durably accounts all = subst (λ (n : ℕ). IsCall disk m begun steps more (disk old) (disk later.disk) made n) (all_made all) (called accounts)
+  pub called_durably : AllAccounted m → later.kept ≡ length later.steps → IsCall disk m origin steps more (disk old) (disk later.disk) made (length made)
+  called_durably accounts all = subst (λ (n : ℕ). IsCall disk m origin steps more (disk old) (disk later.disk) made n) (all_made all) (called accounts)
 
   -- a run that makes no step leaves the history as it stood
-  pub still_stands : made ≡ [] → StandsOn m begun steps more (disk old) (disk later.disk)
+  pub still_stands : made ≡ [] → StandsOn m origin steps more (disk old) (disk later.disk)
   still_stands none =
       let n = is.reopened.count in
       let kept : read ++ take durable made ≡ read = ap (λ (ss : List Step). read ++ take durable ss) none ∙ ap (λ (ss : List Step). read ++ ss) (take-nil durable) ∙ append-nil read in
       let rest : drop durable made ≡ [] = ap (drop durable) none ∙ drop_all durable [] (omega arith) in
       record {
-        any_moment = run_on is.any_moment (widened (λ image. narrow m begun steps more made n image is.reopened.within none) run_leaves);
+        any_moment = run_on is.any_moment (widened (λ image. narrow m origin steps more made n image is.reopened.within none) run_leaves);
         now = record {
           files = kept_now.files;
           tells = kept_now.tells;
           each = λ image left.
-              narrow m begun steps more (drop durable made) n image is.reopened.within rest (subst (λ (h : List Step). StandsFor m begun h (drop durable made) image) kept (stands_now.each image left));
+              narrow m origin steps more (drop durable made) n image is.reopened.within rest (subst (λ (h : List Step). StandsFor m origin h (drop durable made) image) kept (stands_now.each image left));
         };
       }
 
@@ -214,9 +214,9 @@ left_open old opened later made files told named left run =
     alone_on (left_closed files left) (alone_narrower (λ file is. is.1 opened.generation named) (run.others mid.0 mid.1))
 
 -- what was read of a history is one that the disk stood for
-pub stands_read : {D R : Type 0} {disk : D → DiskView} {m : Meaning} (begun : Base) (steps more : List Step) (opened : BookView D R) → opened.kept ≡ length opened.steps
-    → IsReopened disk m begun steps more opened → StandsNow m begun steps more (disk opened.disk)
-stands_read {disk = disk} {m = m} begun steps more opened all is = record {
+pub stands_read : {D R : Type 0} {disk : D → DiskView} {m : Meaning} (origin : Origin) (steps more : List Step) (opened : BookView D R) → opened.kept ≡ length opened.steps
+    → IsReopened disk m origin steps more opened → StandsNow m origin steps more (disk opened.disk)
+stands_read {disk = disk} {m = m} origin steps more opened all is = record {
   files = is.kept.files;
   tells = is.kept.tells;
   each = λ image left.
@@ -226,5 +226,5 @@ stands_read {disk = disk} {m = m} begun steps more opened all is = record {
       let none : take here.count (waiting_steps opened) ≡ [] = ap (take here.count) waits ∙ take-nil here.count in
       let history : (is.past ++ durable_steps opened) ++ take here.count (waiting_steps opened) ≡ steps ++ take is.count more =
       ap₂ (λ (a b : List Step). (is.past ++ a) ++ b) durable none ∙ append-nil (is.past ++ opened.steps) ∙ is.splits in
-      record { count = is.count; within = is.within; stands = subst (λ (h : List Step). Stands m begun image h) history here.stands };
+      record { count = is.count; within = is.within; stands = subst (λ (h : List Step). Stands m origin image h) history here.stands };
 }

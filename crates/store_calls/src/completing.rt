@@ -1,10 +1,10 @@
 ghost use Rattle.std.specs.Prelude.{◌≡◌, ◌≢◌, ◌≤◌, List, [], false, length, None, Some, Err, IfErr, IsErrOf, OnOk};
 ghost use Rattle.edge_traits.specs.Count.{Rose};
 ghost use Rattle.edge_traits.specs.Disk.{Image};
-ghost use Rattle.step_code.specs.declared.base.Base.{Base};
 ghost use Rattle.step_code.specs.declared.step.Step.{Step};
+ghost use Rattle.store_image.specs.Stands.{Origin};
 ghost use Rattle.journal_book.specs.Opening.{StandsNow};
-ghost use Rattle.journal_book.specs.Outputs.{AreCompleted, AreWritten, HaveNoneSealed, IsBringUpFault, IsNoDamage};
+ghost use Rattle.journal_book.specs.Outputs.{AreCompleted, AreWritten, IsBringUpFault, IsNoDamage};
 ghost use Rattle.book_runs.specs.GoesOn.{GoesOn, IsSameBook};
 
 use edge_traits::Disk;
@@ -24,8 +24,8 @@ pub fn complete_outputs<D: Disk, R: Rules>(book: &mut Book<D, R>) -> Result<(), 
     ensures durable { (result ≢ Err BookFault.Disk) → book.new.kept ≡ length book.new.steps }
     ensures completed { (files after : Image) → (D.disk book.old.disk).told ≡ Some files → (D.disk book.new.disk).told ≡ Some after
         → OnOk result (AreCompleted (D.disk book.new.disk).may_leave book.old.state.outs files after) }
-    ensures written { (first : Base) (history : List Step) → StandsNow R.meaning first history [] (D.disk book.new.disk) → HaveNoneSealed first.outs
-        → OnOk result (AreWritten R.meaning first history (D.disk book.new.disk)) }
+    ensures written { (origin : Origin) (history : List Step) → StandsNow R.meaning origin history [] (D.disk book.new.disk)
+        → OnOk result (AreWritten R.meaning origin.first history (D.disk book.new.disk)) }
     ensures undamaged { (files : Image) → (D.disk book.old.disk).told ≡ Some files → IfErr result IsNoDamage }
     ensures fault { IfErr result (IsBringUpFault book.old.state.outs (D.disk book.old.disk).told) }
     ensures failed { IsErrOf result BookFault.Disk → Rose (D.disk book.old.disk).faults (D.disk book.new.disk).faults }

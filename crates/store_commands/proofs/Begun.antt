@@ -12,7 +12,7 @@ use Rattle.step_code.specs.Rules.{Meaning}
 use Rattle.step_code.specs.Sound.{longest_base, IsSoundState}
 use Rattle.state_texts.specs.Texts.{summary}
 use Rattle.store_image.specs.Files.{root_file}
-use Rattle.store_image.specs.Stands.{StandsFor}
+use Rattle.store_image.specs.Stands.{origin_of, Origin, StandsFor}
 use Rattle.journal_book.specs.Book.{created, BookView, IsKept}
 use Rattle.journal_book.specs.Faults.{IsCreateFault}
 use Rattle.journal_book.specs.Opening.{StandsNow}
@@ -27,8 +27,8 @@ use Rattle.store_commands.specs.declared.end.StoreEnd.{StoreEnd}
 use Rattle.store_commands.specs.declared.end.StoreEnd.TheVariants as end
 
 -- a disk that stands for a history has a root
-pub no_store : (m : Meaning) (begun : Base) (steps more : List Step) (image : Image) → StandsFor m begun steps more image → image root_file ≡ [] → ⊥
-no_store m begun steps more image stands empty = omega (arith, some_root m begun steps more image stands, ap length empty)
+pub no_store : (m : Meaning) (origin : Origin) (steps more : List Step) (image : Image) → StandsFor m origin steps more image → image root_file ≡ [] → ⊥
+no_store m origin steps more image stands empty = omega (arith, some_root m origin steps more image stands, ap length empty)
 
 pub made_whole : (m : Meaning) (files : Image) (bundle : List ℕ) (s : Base) (e : StoreEnd) (old new : SinkView) → IsFirstOf m bundle s → files root_file ≡ [] → IsPrinted (summary s) e old new → IsMade m files bundle e old new
 made_whole m files bundle s end.Done old new is empty printed = (s, is, empty, printed)
@@ -77,19 +77,19 @@ not_made m files bundle fault.Refused sink none = (none.0, none.1, Took-nothing 
 not_made m files bundle fault.OutOfMemory sink none = Took-nothing sink
 
 -- the book of a new store stands for no steps
-pub stands_new : {D R : Type 0} {disk : D → DiskView} {m : Meaning} (rules : R) (base : Base) (limit : ℕ) (book : BookView D R) → book ≡ created rules base limit book.disk
-    → IsKept disk m base [] book → StandsNow m base [] [] (disk book.disk)
-stands_new {D = D} {R = R} rules base limit book is kept =
+pub stands_new : {D R : Type 0} {disk : D → DiskView} {m : Meaning} (rules : R) (base : Base) (whole : Bool) (limit : ℕ) (book : BookView D R) → book ≡ created rules base limit book.disk
+    → IsKept disk m (origin_of base whole) [] book → StandsNow m (origin_of base whole) [] [] (disk book.disk)
+stands_new {D = D} {R = R} rules base whole limit book is kept =
     let none = ap (λ (b : BookView D R). b.steps) is in
-    stands_read base [] [] book (ap (λ (b : BookView D R). b.kept) is ∙ sym (ap length none)) (record { past = []; count = 0; within = omega arith; splits = none; kept = kept })
+    stands_read (origin_of base whole) [] [] book (ap (λ (b : BookView D R). b.kept) is ∙ sym (ap length none)) (record { past = []; count = 0; within = omega arith; splits = none; kept = kept })
 
 -- it begins with the state that the bundle gives
 pub begun_by : {D R : Type 0} {disk : D → DiskView} {m : Meaning} (bundle : List ℕ) (bots : List Facts) (rules : R) (limit : ℕ) (book : BookView D R) → m.facts bundle ≡ Some bots
-    → book ≡ created rules (first bots bundle) limit book.disk → IsKept disk m book.base [] book → IsBegun m bundle (disk book.disk)
+    → book ≡ created rules (first bots bundle) limit book.disk → ((whole : Bool) → IsKept disk m (origin_of book.base whole) [] book) → IsBegun m bundle (disk book.disk)
 begun_by {D} {R} bundle bots rules limit book loads is kept =
     let base_is : book.base ≡ first bots bundle = ap (λ (b : BookView D R). b.base) is in
     record {
       state = book.base;
       first_is = record { bots = bots; loads = loads; state = base_is };
-      stands = stands_new rules book.base limit book (is ∙ ap (λ (s : Base). created rules s limit book.disk) (sym base_is)) kept;
+      stands = λ whole. stands_new rules book.base whole limit book (is ∙ ap (λ (s : Base). created rules s limit book.disk) (sym base_is)) (kept whole);
     }

@@ -1,5 +1,5 @@
 -- What `init` makes of a disk.
-use Rattle.std.specs.Prelude.{◌≡◌, ◌<◌, ℕ, List, [], length}
+use Rattle.std.specs.Prelude.{◌≡◌, ◌<◌, ℕ, Bool, List, [], length}
 use Rattle.edge_traits.specs.Disk.{DiskView, Image}
 use Rattle.edge_traits.specs.Output.{TookFront}
 use Rattle.edge_traits.specs.Sink.{SinkView, Took}
@@ -9,6 +9,7 @@ use Rattle.step_code.specs.Rules.{Meaning}
 use Rattle.step_code.specs.Sound.{longest_base}
 use Rattle.state_texts.specs.Texts.{summary}
 use Rattle.store_image.specs.Files.{root_file}
+use Rattle.store_image.specs.Stands.{origin_of}
 use Rattle.journal_book.specs.Opening.{StandsNow}
 use Rattle.store_calls.specs.Calls.{IsFirstOf}
 use Rattle.store_commands.specs.declared.end.StoreEnd.{StoreEnd}
@@ -63,4 +64,4 @@ IsMadeWhole (end.Full bytes) = ⊥
 pub record IsBegun (m : Meaning) (bundle : List ℕ) (now : DiskView) : Type 0 where
   pub state : Base
   pub first_is : IsFirstOf m bundle state
-  pub stands : StandsNow m state [] [] now
+  pub stands : (whole : Bool) → StandsNow m (origin_of state whole) [] [] now

@@ -15,6 +15,7 @@ use Rattle.state_texts.specs.Texts.{summary}
 use Rattle.store_image.specs.Damage.{IsDamagedStore}
 use Rattle.store_image.specs.Files.{root_file}
 use Rattle.store_image.specs.Opens.{Opens}
+use Rattle.store_image.specs.Stands.{Origin}
 use Rattle.journal_book.specs.Book.{BookView}
 use Rattle.journal_book.specs.Staged.{step_cause, stamp}
 use Rattle.journal_book.specs.declared.stage_refusal.StageRefusal.{StageRefusal}
@@ -60,10 +61,10 @@ IsRedone m files dump now end.Refused old new = ⊥
 -- ---- at any moment
 
 -- the call made the one step that redoes the dump in the state behind what was read, and so many of its steps are durable
-pub record RedoesStep {D : Type 0} (disk : D → DiskView) (m : Meaning) (first : Base) (steps more : List Step) (old new : DiskView) (dump now durable : ℕ) : Type 0 where
+pub record RedoesStep {D : Type 0} (disk : D → DiskView) (m : Meaning) (origin : Origin) (steps more : List Step) (old new : DiskView) (dump now durable : ℕ) : Type 0 where
   pub step : Step
-  pub call : IsCall disk m first steps more old new (step ∷ []) durable
-  pub step_is : step ≡ redo_step (replay m first (steps ++ take call.count more)) dump now
+  pub call : IsCall disk m origin steps more old new (step ∷ []) durable
+  pub step_is : step ≡ redo_step (replay m origin.first (steps ++ take call.count more)) dump now
 
 -- at these ends a call made its step, and it is durable; at those it made none; where the disk failed or memory ran out, either
 abbrev pub IsRedoCall : StoreEnd → Type 0 → (ℕ → Type 0) → Type 0

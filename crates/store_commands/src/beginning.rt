@@ -1,10 +1,10 @@
 ghost use Rattle.std.specs.Prelude.{◌≡◌, ◌≢◌, ◌≤◌, List, length, Some, IfOk, IsErr, ⊤};
 ghost use Rattle.edge_traits.specs.Count.{Rose};
 ghost use Rattle.edge_traits.specs.Disk.{Image};
-ghost use Rattle.step_code.specs.declared.base.Base.{Base};
 ghost use Rattle.step_code.specs.declared.step.Step.{Step};
 ghost use Rattle.step_code.specs.Rules.{Meaning};
 ghost use Rattle.store_image.specs.Files.{root_file};
+ghost use Rattle.store_image.specs.Stands.{Origin};
 ghost use Rattle.journal_book.specs.Alone.{IsBesideNew, LeavesAlone};
 ghost use Rattle.journal_book.specs.Opening.{StandsNow};
 ghost use Rattle.store_calls.specs.Calls.{StandsOn};
@@ -40,8 +40,8 @@ pub fn init<D: Disk, R: Rules, S: Sink>(
         → IsBegun R.meaning bundle.now (D.disk result.1) }
 
     // A store that was there is left alone, at any moment of the call and behind it.
-    ensures left_alone { (first : Base) (steps more : List Step) → StandsNow R.meaning first steps more (D.disk disk)
-        → StandsOn R.meaning first steps more (D.disk disk) (D.disk result.1) }
+    ensures left_alone { (origin : Origin) (steps more : List Step) → StandsNow R.meaning origin steps more (D.disk disk)
+        → StandsOn R.meaning origin steps more (D.disk disk) (D.disk result.1) }
 
     // The files that are none of its own are left alone, where the disk tells what it holds.
     ensures others { (files : Image) → (D.disk disk).told ≡ Some files → LeavesAlone (D.disk disk) (D.disk result.1) (IsBesideNew files) }
@@ -78,8 +78,8 @@ pub fn make_store<D: Disk, R: Rules>(
         → IsBegun R.meaning bundle.now (D.disk result.1) }
 
     // A store that was there is left alone, at any moment of the call and behind it.
-    ensures left_alone { (first : Base) (steps more : List Step) → StandsNow R.meaning first steps more (D.disk disk)
-        → StandsOn R.meaning first steps more (D.disk disk) (D.disk result.1) }
+    ensures left_alone { (origin : Origin) (steps more : List Step) → StandsNow R.meaning origin steps more (D.disk disk)
+        → StandsOn R.meaning origin steps more (D.disk disk) (D.disk result.1) }
 
     // The files that are none of its own are left alone, where the disk tells what it holds.
     ensures others { (files : Image) → (D.disk disk).told ≡ Some files → LeavesAlone (D.disk disk) (D.disk result.1) (IsBesideNew files) }
@@ -106,8 +106,8 @@ pub fn make_store<D: Disk, R: Rules>(
 /// The disk failed.
 pub fn find_store<D: Disk>(disk: &mut D) -> Result<u64, Failed>
     ensures length { (files : Image) → (D.disk disk.old).told ≡ Some files → IfOk result (λ n. n ≡ length (files root_file)) }
-    ensures stands { (m : Meaning) (first : Base) (steps more : List Step) → StandsNow m first steps more (D.disk disk.old)
-        → StandsOn m first steps more (D.disk disk.old) (D.disk disk.new) }
+    ensures stands { (m : Meaning) (origin : Origin) (steps more : List Step) → StandsNow m origin steps more (D.disk disk.old)
+        → StandsOn m origin steps more (D.disk disk.old) (D.disk disk.new) }
     ensures told { (D.disk disk.new).told ≡ (D.disk disk.old).told }
     ensures others { LeavesAlone (D.disk disk.old) (D.disk disk.new) (λ file. ⊤) }
     ensures failed { IsErr result → Rose (D.disk disk.old).faults (D.disk disk.new).faults }

@@ -1,11 +1,11 @@
 ghost use Rattle.std.specs.Prelude.{◌≡◌, ◌≢◌, ◌≤◌, ℕ, List, [], length, false, None, Some};
 ghost use Rattle.edge_traits.specs.Count.{Rose};
 ghost use Rattle.edge_traits.specs.Disk.{Image};
-ghost use Rattle.step_code.specs.declared.base.Base.{Base};
 ghost use Rattle.step_code.specs.declared.step.Step.{Step};
+ghost use Rattle.store_image.specs.Stands.{Origin};
 ghost use Rattle.journal_book.specs.Alone.{LeavesAlone};
 ghost use Rattle.journal_book.specs.Opening.{StandsNow};
-ghost use Rattle.journal_book.specs.Outputs.{AreCompleted, AreWritten, HaveNoneSealed};
+ghost use Rattle.journal_book.specs.Outputs.{AreCompleted, AreWritten};
 ghost use Rattle.book_runs.specs.GoesOn.{GoesOn, IsSameBook};
 ghost use Rattle.store_calls.specs.Calls.{IsEarlierIn, StandsOn};
 ghost use Rattle.store_commands.specs.Ends.{AreWrittenAt};
@@ -45,8 +45,8 @@ pub fn finish<D: Disk, R: Rules, S: Sink>(
     // where that began with nothing sealed.
     ensures completed { (files after : Image) → (D.disk book.old.disk).told ≡ Some files → (D.disk book.new.disk).told ≡ Some after
         → AreWrittenAt result (AreCompleted (D.disk book.new.disk).may_leave book.old.state.outs files after) }
-    ensures written { (first : Base) (history : List Step) → StandsNow R.meaning first history [] (D.disk book.new.disk) → HaveNoneSealed first.outs
-        → AreWrittenAt result (AreWritten R.meaning first history (D.disk book.new.disk)) }
+    ensures written { (origin : Origin) (history : List Step) → StandsNow R.meaning origin history [] (D.disk book.new.disk)
+        → AreWrittenAt result (AreWritten R.meaning origin.first history (D.disk book.new.disk)) }
 
     // No file is too short where the disk tells what it holds.
     ensures undamaged { (files : Image) (file at : ℕ) → (D.disk book.old.disk).told ≡ Some files → result ≢ StoreEnd.Damaged file at }
@@ -83,12 +83,12 @@ pub fn complete<D: Disk, R: Rules, S: Sink>(
         → IsCompleted R.meaning files is_said result.0 (S.sink out.old) (S.sink out.new) }
 
     // At any moment of the call, and behind it, the disk stands for the history that it stood for.
-    ensures stands { (first : Base) (steps more : List Step) → StandsNow R.meaning first steps more (D.disk disk)
-        → StandsOn R.meaning first steps more (D.disk disk) (D.disk result.1) }
+    ensures stands { (origin : Origin) (steps more : List Step) → StandsNow R.meaning origin steps more (D.disk disk)
+        → StandsOn R.meaning origin steps more (D.disk disk) (D.disk result.1) }
 
     // Each output's file is all lines of the history that the disk stands for, where that began with nothing sealed.
-    ensures written { (first : Base) (history : List Step) → StandsNow R.meaning first history [] (D.disk result.1) → HaveNoneSealed first.outs
-        → AreWrittenAt result.0 (AreWritten R.meaning first history (D.disk result.1)) }
+    ensures written { (origin : Origin) (history : List Step) → StandsNow R.meaning origin history [] (D.disk result.1)
+        → AreWrittenAt result.0 (AreWritten R.meaning origin.first history (D.disk result.1)) }
 
     // The files that are none of its own are left alone, where the disk tells what it holds.
     ensures others { (files : Image) → (D.disk disk).told ≡ Some files → LeavesAlone (D.disk disk) (D.disk result.1) (IsEarlierIn files) }

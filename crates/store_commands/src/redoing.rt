@@ -1,11 +1,11 @@
 ghost use Rattle.std.specs.Prelude.{◌≡◌, ◌≢◌, ◌≤◌, ℕ, [], false, length, List, Some};
 ghost use Rattle.edge_traits.specs.Count.{Rose};
 ghost use Rattle.edge_traits.specs.Disk.{Image};
-ghost use Rattle.step_code.specs.declared.base.Base.{Base};
 ghost use Rattle.step_code.specs.declared.step.Step.{Step};
+ghost use Rattle.store_image.specs.Stands.{Origin};
 ghost use Rattle.journal_book.specs.Alone.{LeavesAlone};
 ghost use Rattle.journal_book.specs.Opening.{StandsNow};
-ghost use Rattle.journal_book.specs.Outputs.{AreWritten, HaveNoneSealed};
+ghost use Rattle.journal_book.specs.Outputs.{AreWritten};
 ghost use Rattle.journal_book.specs.Staged.{step_cause};
 ghost use Rattle.store_calls.specs.Calls.{IsEarlierIn, StandsOn};
 ghost use Rattle.store_commands.specs.Ends.{AreWrittenAt};
@@ -36,13 +36,13 @@ pub fn redo<D: Disk, R: Rules, S: Sink>(
         → IsRedone R.meaning files dump now result.0 (S.sink out.old) (S.sink out.new) }
 
     // At any moment of the call, and behind it, the disk stands for the history that it stood for, or for that and the step.
-    ensures stands { (first : Base) (steps more : List Step) → StandsNow R.meaning first steps more (D.disk disk)
-        → IsRedoCall result.0 (StandsOn R.meaning first steps more (D.disk disk) (D.disk result.1))
-        (RedoesStep D.disk R.meaning first steps more (D.disk disk) (D.disk result.1) dump now) }
+    ensures stands { (origin : Origin) (steps more : List Step) → StandsNow R.meaning origin steps more (D.disk disk)
+        → IsRedoCall result.0 (StandsOn R.meaning origin steps more (D.disk disk) (D.disk result.1))
+        (RedoesStep D.disk R.meaning origin steps more (D.disk disk) (D.disk result.1) dump now) }
 
     // Each output's file is all lines of the history that the disk stands for, where that began with nothing sealed.
-    ensures written { (first : Base) (history : List Step) → StandsNow R.meaning first history [] (D.disk result.1) → HaveNoneSealed first.outs
-        → AreWrittenAt result.0 (AreWritten R.meaning first history (D.disk result.1)) }
+    ensures written { (origin : Origin) (history : List Step) → StandsNow R.meaning origin history [] (D.disk result.1)
+        → AreWrittenAt result.0 (AreWritten R.meaning origin.first history (D.disk result.1)) }
 
     // The files that are none of its own are left alone, where the disk tells what it holds.
     ensures others { (files : Image) → (D.disk disk).told ≡ Some files → LeavesAlone (D.disk disk) (D.disk result.1) (IsEarlierIn files) }
@@ -78,8 +78,8 @@ fn redo_dump<D: Disk, R: Rules, S: Sink>(
     ensures end { IsRedoEnd R.meaning book.old.state (step_cause R.meaning book.old.state book.old.steps book.old.limit (redo_step book.old.state dump now)) dump now result (S.sink out.old) (S.sink out.new) }
     ensures run { Redid D.disk R.meaning book.old book.new (redo_step book.old.state dump now) result }
     ensures durable { result ≢ StoreEnd.Disk → book.new.kept ≡ length book.new.steps }
-    ensures written { (first : Base) (history : List Step) → StandsNow R.meaning first history [] (D.disk book.new.disk) → HaveNoneSealed first.outs
-        → AreWrittenAt result (AreWritten R.meaning first history (D.disk book.new.disk)) }
+    ensures written { (origin : Origin) (history : List Step) → StandsNow R.meaning origin history [] (D.disk book.new.disk)
+        → AreWrittenAt result (AreWritten R.meaning origin.first history (D.disk book.new.disk)) }
     ensures undamaged { (files : Image) (file at : ℕ) → (D.disk book.old.disk).told ≡ Some files → result ≢ StoreEnd.Damaged file at }
     ensures disk { result ≡ StoreEnd.Disk → Rose (D.disk book.old.disk).faults (D.disk book.new.disk).faults }
     ensures sink { result ≡ StoreEnd.Sink → Rose (S.sink out.old).faults (S.sink out.new).faults }

@@ -1,8 +1,8 @@
 ghost use Rattle.std.specs.Prelude.{◌≡◌, ◌≤◌, List, Some};
 ghost use Rattle.edge_traits.specs.Count.{Rose};
 ghost use Rattle.edge_traits.specs.Disk.{Image};
-ghost use Rattle.step_code.specs.declared.base.Base.{Base};
 ghost use Rattle.step_code.specs.declared.step.Step.{Step};
+ghost use Rattle.store_image.specs.Stands.{Origin};
 ghost use Rattle.journal_book.specs.Alone.{IsBeside, LeavesAlone};
 ghost use Rattle.journal_book.specs.Opening.{StandsNow};
 ghost use Rattle.store_calls.specs.Calls.{StandsOn};
@@ -29,8 +29,8 @@ pub fn show<D: Disk, R: Rules, S: Sink>(
         → IsShown R.meaning files what result.0 (S.sink out.old) (S.sink out.new) }
 
     // At any moment of the call, and behind it, the disk stands for the history that it stood for.
-    ensures stands { (first : Base) (steps more : List Step) → StandsNow R.meaning first steps more (D.disk disk)
-        → StandsOn R.meaning first steps more (D.disk disk) (D.disk result.1) }
+    ensures stands { (origin : Origin) (steps more : List Step) → StandsNow R.meaning origin steps more (D.disk disk)
+        → StandsOn R.meaning origin steps more (D.disk disk) (D.disk result.1) }
 
     // The files that are none of its own are left alone, where the disk tells what it holds.
     ensures others { (files : Image) → (D.disk disk).told ≡ Some files → LeavesAlone (D.disk disk) (D.disk result.1) (IsBeside files) }

@@ -1,5 +1,5 @@
 -- Files of a store that differ only behind their records.
-use Rattle.std.proofs.Common.{◌≡◌, inl, inr, ◌==◌, ℕ, Bool, true, false, List, refl, sym, subst, arith, if◌then◌else◌}
+use Rattle.std.proofs.Common.{◌≡◌, inl, inr, ◌==◌, ℕ, suc, Bool, true, false, List, [], ◌∷◌, refl, sym, subst, arith, if◌then◌else◌}
 use Rattle.std.proofs.lemmas.Bool.{eqb-true}
 use Rattle.edge_traits.specs.Disk.{Image}
 use Rattle.disk_journal.specs.GateFile.{Heading, heading_of, HasBodies, HaveSameBodies}
@@ -9,8 +9,8 @@ use Rattle.step_code.specs.declared.step.Step.{Step}
 use Rattle.step_code.specs.History.{replay}
 use Rattle.step_code.specs.Rules.{Meaning}
 use Rattle.store_image.specs.Files.{root_file, out_file, generation_file, IsStoreFile}
-use Rattle.store_image.specs.Stands.{StandsFor}
-use Rattle.store_image.specs.Stored.{IsStored}
+use Rattle.store_image.specs.Stands.{AreArchived, IsArchive, Origin, StandsFor, WhereWhole}
+use Rattle.store_image.specs.Stored.{HoldsSteps, IsStored}
 use Rattle.store_image.proofs.Standing.{put_file, put_there, put_elsewhere, fronts_same}
 
 -- the same records in the root and in each generation, and the same outputs
@@ -19,14 +19,25 @@ pub record AreAlike (a b : Image) : Type 0 where
   pub generations : (g : ℕ) (bodies : List (List ℕ)) → HasBodies (heading_of g) bodies (a (generation_file g)) → HasBodies (heading_of g) bodies (b (generation_file g))
   pub outs : (k : ℕ) → a (out_file k) ≡ b (out_file k)
 
+holds_alike : (a b : Image) → AreAlike a b → (g : ℕ) (base : Base) (steps : List Step) → HoldsSteps g (a (generation_file g)) base steps → HoldsSteps g (b (generation_file g)) base steps
+holds_alike a b alike g base steps is = record { records = is.records; bodies = alike.generations g _ is.bodies; writable = is.writable; content = is.content }
+
 stored_alike : (a b : Image) → AreAlike a b → (g : ℕ) (base : Base) (steps : List Step) → IsStored a g base steps → IsStored b g base steps
 stored_alike a b alike g base steps is = record {
   named = record { before = is.named.before; bodies = alike.root _ is.named.bodies; given = is.named.given };
-  holds = record { records = is.holds.records; bodies = alike.generations g _ is.holds.bodies; writable = is.holds.writable; content = is.holds.content };
+  holds = holds_alike a b alike g base steps is.holds;
 }
 
-pub stands_alike : (m : Meaning) (first : Base) (steps more : List Step) (a b : Image) → AreAlike a b → StandsFor m first steps more a → StandsFor m first steps more b
-stands_alike m first steps more a b alike is =
+archived_alike : (m : Meaning) (a b : Image) → AreAlike a b → (h : ℕ) (s : Base) (held : List (Base × List Step)) → AreArchived m a h s held → AreArchived m b h s held
+archived_alike m a b alike h s [] each = tt
+archived_alike m a b alike h s (held ∷ later) each = (holds_alike a b alike h held.0 held.1 each.0, each.1, archived_alike m a b alike (suc h) (replay m held.0 held.1) later each.2)
+
+below_alike : (whole : Bool) (m : Meaning) (first : Base) (g : ℕ) (base : Base) (past : List Step) (a b : Image) → AreAlike a b → WhereWhole whole (IsArchive m first g base past a) → WhereWhole whole (IsArchive m first g base past b)
+below_alike true m first g base past a b alike is = record { held = is.held; count = is.count; each = archived_alike m a b alike 0 first is.held is.each; joins = is.joins; ends = is.ends }
+below_alike false m first g base past a b alike is = tt
+
+pub stands_alike : (m : Meaning) (origin : Origin) (steps more : List Step) (a b : Image) → AreAlike a b → StandsFor m origin steps more a → StandsFor m origin steps more b
+stands_alike m origin steps more a b alike is =
     let stands = is.stands in
     record {
       count = is.count;
@@ -39,8 +50,10 @@ stands_alike m first steps more a b alike is =
         splits = stands.splits;
         stored = stored_alike a b alike stands.generation stands.base stands.steps stands.stored;
         seals = stands.seals;
-        fronts = fronts_same 0 (replay m first stands.past).outs stands.base.outs a b alike.outs stands.fronts;
+        fronts = fronts_same 0 (replay m origin.first stands.past).outs stands.base.outs a b alike.outs stands.fronts;
         short = stands.short;
+        unsealed = stands.unsealed;
+        below = below_alike origin.whole m origin.first stands.generation stands.base stands.past a b alike stands.below;
       };
     }
 

@@ -4,3 +4,4 @@ pub mod Either
 pub mod Standing
 pub mod Stops
 pub mod Stored
+mod Whole

@@ -1,6 +1,7 @@
 -- what public contracts cite
 pub mod Damage
 pub mod Files
+pub mod History
 pub mod Opens
 pub mod Stands
 pub mod Stored

@@ -1,8 +1,10 @@
-ghost use Rattle.std.specs.Prelude.{◌≡◌, List, ℕ};
+ghost use Rattle.std.specs.Prelude.{◌≡◌, List, true, ℕ};
 ghost use Rattle.edge_traits.specs.Disk.{Image};
 ghost use Rattle.step_code.specs.Rules.{Meaning};
 ghost use Rattle.store_image.specs.Damage.{IsDamagedStore};
+ghost use Rattle.store_image.specs.History.{HasHistory};
 ghost use Rattle.store_image.specs.Opens.{Opens};
+ghost use Rattle.store_image.specs.Stands.{origin_of, Stands};
 ghost use Rattle.store_image.specs.Stored.{IsStored};
 
 use step_code::{Base, Step};
@@ -10,6 +12,16 @@ use step_code::{Base, Step};
 /// The files of a store hold one generation, one state, and one list of steps.
 pub fn what_is_stored_is_one()
     ensures { (image : Image) (g h : ℕ) (a b : Base) (s t : List Step) → IsStored image g a s → IsStored image h b t → (g ≡ h) × (a ≡ b) × (s ≡ t) }
+{}
+
+/// Where all generations of a store are looked at, its files hold the history that they stand for.
+pub fn what_stands_whole_is_held()
+    ensures { (m : Meaning) (first : Base) (image : Image) (history : List Step) → Stands m (origin_of first true) image history → HasHistory image history }
+{}
+
+/// All generations of a store hold one history.
+pub fn what_is_held_is_one()
+    ensures { (image : Image) (a b : List Step) → HasHistory image a → HasHistory image b → a ≡ b }
 {}
 
 /// What opens isn't damaged anywhere.

@@ -4,6 +4,6 @@
 mod laws;
 
 pub use laws::{
-    a_store_is_damaged_at_one_place, a_store_opens_or_is_damaged, what_is_stored_is_one,
-    what_opens_is_whole,
+    a_store_is_damaged_at_one_place, a_store_opens_or_is_damaged, what_is_held_is_one,
+    what_is_stored_is_one, what_opens_is_whole, what_stands_whole_is_held,
 };

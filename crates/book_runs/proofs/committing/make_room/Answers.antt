@@ -13,13 +13,13 @@ returns-in-Ok-clause-goes_on g c = makes_durable c.args.book.now c.flush.new.sel
 pub returns-in-Err-Disk-clause-goes_on : goal.returns-in-Err-Disk-clause-goes_on
 returns-in-Err-Disk-clause-goes_on g c =
     let failed = c.in-Err-Disk.ensures.disk (ap (λ e. Err e) c.in-Err-Disk.field-0-is) in
-    makes_none c.args.book.now c.flush.new.self (changes c.args.book.now c.flush.new.self _ _ failed) (λ first past was. omega (arith, ap (λ (b : BookView _ _). b.kept) failed)) c.flush.ensures.kept c.flush.ensures.any_moment
+    makes_none c.args.book.now c.flush.new.self (changes c.args.book.now c.flush.new.self _ _ failed) (λ origin past was. omega (arith, ap (λ (b : BookView _ _). b.kept) failed)) c.flush.ensures.kept c.flush.ensures.any_moment
     (written_earlier c.args.book.now.generation c.flush.ensures.others)
 
 pub returns-in-Err-Broken-clause-goes_on : goal.returns-in-Err-Broken-clause-goes_on
 returns-in-Err-Broken-clause-goes_on g c =
     let still = c.in-Err-Broken.ensures.still (ap (λ e. Err e) c.in-Err-Broken.field-0-is) in
-    makes_none c.args.book.now c.flush.new.self (changes c.args.book.now c.flush.new.self _ _ (stays c.args.book.now c.flush.new.self still)) (λ first past was. omega (arith, ap (λ (b : BookView _ _). b.kept) still)) c.flush.ensures.kept c.flush.ensures.any_moment
+    makes_none c.args.book.now c.flush.new.self (changes c.args.book.now c.flush.new.self _ _ (stays c.args.book.now c.flush.new.self still)) (λ origin past was. omega (arith, ap (λ (b : BookView _ _). b.kept) still)) c.flush.ensures.kept c.flush.ensures.any_moment
     (written_earlier c.args.book.now.generation c.flush.ensures.others)
   where
     stays : {D R : Type 0} (old new : BookView D R) → new ≡ old → new ≡ record old { disk = new.disk; kept = old.kept; broken = old.broken }

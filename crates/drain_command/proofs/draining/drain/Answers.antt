@@ -89,7 +89,7 @@ returns-in-Err-clause-drained g c = λ files told.
     let disk = c.in-Err.disk in
     subst (λ (e : StoreEnd). IsDrainCall g.D.Disk.disk o o.shelf files c.args.asked (g.D.Disk.disk c.args.disk) (g.D.Disk.disk disk) (Err e) sink sink) (sym c.end_of.ensures)
     (drain_closed g.D.Disk.disk o o.shelf files c.args.asked (g.D.Disk.disk c.args.disk) (g.D.Disk.disk disk) (g.D.Disk.disk c.args.disk).told c.in-Err.fault sink told c.in-Err.ensures.fault
-    (λ first steps more was. record { any_moment = c.in-Err.ensures.any_moment_err first steps more was; now = c.in-Err.ensures.still_err first steps more was }))
+    (λ origin steps more was. record { any_moment = c.in-Err.ensures.any_moment_err origin steps more was; now = c.in-Err.ensures.still_err origin steps more was }))
 
 pub returns-in-Err-clause-others : goal.returns-in-Err-clause-others
 returns-in-Err-clause-others g c = λ files told. left_closed files (c.in-Err.ensures.others_err files told)

@@ -2,7 +2,7 @@ use Rattle.std.proofs.Common.{List, ℕ, subst}
 use Rattle.disk_journal.specs.GateFile.{heading_of, HasBodies}
 use Rattle.store_image.specs.Damage.{AreNoHistory}
 use Rattle.store_image.specs.Files.{generation_file}
-use Rattle.journal_book.specs.Reading.{AreHistory}
+use Rattle.generation_reading.specs.Reading.{AreHistory}
 use Rattle.journal_book.proofs.Histories.{bad_bodies}
 use Rattle.journal_book.proofs.opening.open_generation.Goals as goal
 

@@ -13,7 +13,7 @@ pub returns-in-Err-clause-unmade : goal.returns-in-Err-clause-unmade
 returns-in-Err-clause-unmade g c = λ seen same. record {
   ends = inl refl;
   nothing = nothing seen.sink seen.sink_now same;
-  still = λ first steps more was. c.find_store.ensures.stands intel first steps more was;
+  still = λ origin steps more was. c.find_store.ensures.stands intel origin steps more was;
   others = c.find_store.ensures.others;
 }
 
@@ -21,7 +21,7 @@ pub returns-then-have-gt0-clause-unmade : goal.returns-then-have-gt0-clause-unma
 returns-then-have-gt0-clause-unmade g c = λ seen same. record {
   ends = inr (inl (c.in-Ok.have, c.if-have-gt0.true, refl, λ files told. c.in-Ok.ensures.length files told));
   nothing = nothing seen.sink seen.sink_now same;
-  still = λ first steps more was. c.find_store.ensures.stands intel first steps more was;
+  still = λ origin steps more was. c.find_store.ensures.stands intel origin steps more was;
   others = c.find_store.ensures.others;
 }
 
@@ -29,6 +29,6 @@ pub returns-clause-unmade : goal.returns-clause-unmade
 returns-clause-unmade g c = λ seen same. record {
   ends = inr (inr (c.unbrought_status.ensures, λ files told. is_nothing (files root_file) c.in-Ok.have (c.in-Ok.ensures.length files told) (omega (arith, c.if-have-gt0.false))));
   nothing = nothing seen.sink seen.sink_now same;
-  still = λ first steps more was. c.find_store.ensures.stands intel first steps more was;
+  still = λ origin steps more was. c.find_store.ensures.stands intel origin steps more was;
   others = c.find_store.ensures.others;
 }

@@ -21,7 +21,7 @@ returns-then-lacks_store-clause-drilled g c = λ other other_now lines number is
       making = making;
       made = λ files told. subst (λ (code : List ℕ). IsNewStore intel files code making) c.requires.bundle (c.make_store-end.ensures.made files told);
       begun = λ files told done. subst (λ (code : List ℕ). IsBegun intel code (g.D.Disk.disk mid)) c.requires.bundle (c.make_store-end.ensures.stands files told done);
-      left_alone = λ first steps more was. c.make_store-end.ensures.left_alone first steps more was;
+      left_alone = λ origin steps more was. c.make_store-end.ensures.left_alone origin steps more was;
       others = λ files told. c.make_store-end.ensures.others files told;
       done = not_drilled g.D.Disk.disk lines number (record { shelf = other; shelf_now = other_now; sink = sink; sink_now = sink; clock = g.C.Clock.told c.args.clock.now }) mid mid c.store_status.result making lacks
           (c.store_status.ensures, refl, Took-nothing sink);
@@ -41,7 +41,7 @@ returns-clause-drilled g c = λ other other_now lines number is.
       making = making;
       made = λ files told. subst (λ (code : List ℕ). IsNewStore intel files code making) c.requires.bundle (c.make_store-end.ensures.made files told);
       begun = λ files told done. subst (λ (code : List ℕ). IsBegun intel code (g.D.Disk.disk mid)) c.requires.bundle (c.make_store-end.ensures.stands files told done);
-      left_alone = λ first steps more was. c.make_store-end.ensures.left_alone first steps more was;
+      left_alone = λ origin steps more was. c.make_store-end.ensures.left_alone origin steps more was;
       others = λ files told. c.make_store-end.ensures.others files told;
       done = subst (λ (e : StoreEnd). IsDrillEnd g.D.Disk.disk lines number
           (record { shelf = other; shelf_now = other_now; sink = g.S.Sink.sink c.args.out.now; sink_now = g.S.Sink.sink drained.new.out; clock = g.C.Clock.told c.args.clock.now }) mid drained.result.1 drained.result.0 e) (sym made_one)

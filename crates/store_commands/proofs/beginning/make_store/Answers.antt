@@ -14,10 +14,10 @@ returns-in-Ok-clause-made g c = λ files told.
 pub returns-in-Ok-clause-stands : goal.returns-in-Ok-clause-stands
 returns-in-Ok-clause-stands g c = λ files told done.
     let made = c.in-Ok.ensures.book in
-    subst (λ d. IsBegun g.R.Rules.meaning c.args.bundle.now (g.D.Disk.disk d)) (sym c.into_disk.ensures) (begun_by c.args.bundle.now made.0 c.args.rules 67_108_864 c.in-Ok.book made.1 made.2 (c.in-Ok.ensures.kept files told))
+    subst (λ d. IsBegun g.R.Rules.meaning c.args.bundle.now (g.D.Disk.disk d)) (sym c.into_disk.ensures) (begun_by c.args.bundle.now made.0 c.args.rules 67_108_864 c.in-Ok.book made.1 made.2 (λ looked. c.in-Ok.ensures.kept files looked told))
 
 pub returns-in-Ok-clause-left_alone : goal.returns-in-Ok-clause-left_alone
-returns-in-Ok-clause-left_alone g c = λ first steps more was. absurd (no_store g.R.Rules.meaning first steps more was.files (was.each was.files (g.met.D.Disk.honest c.args.disk was.files was.tells)) (c.in-Ok.ensures.empty was.files was.tells))
+returns-in-Ok-clause-left_alone g c = λ origin steps more was. absurd (no_store g.R.Rules.meaning origin steps more was.files (was.each was.files (g.met.D.Disk.honest c.args.disk was.files was.tells)) (c.in-Ok.ensures.empty was.files was.tells))
 
 pub returns-in-Err-clause-made : goal.returns-in-Err-clause-made
 returns-in-Err-clause-made g c = λ files told.
@@ -27,7 +27,7 @@ returns-in-Err-clause-made g c = λ files told.
     (not_new m files c.args.bundle.now (g.D.Disk.disk c.args.disk).told c.in-Err.fault told sound (c.in-Err.ensures.refused_empty files told) c.in-Err.ensures.fault)
 
 pub returns-in-Err-clause-left_alone : goal.returns-in-Err-clause-left_alone
-returns-in-Err-clause-left_alone g c = λ first steps more was. record { any_moment = c.in-Err.ensures.any_moment_err first steps more was; now = c.in-Err.ensures.still_err first steps more was }
+returns-in-Err-clause-left_alone g c = λ origin steps more was. record { any_moment = c.in-Err.ensures.any_moment_err origin steps more was; now = c.in-Err.ensures.still_err origin steps more was }
 
 pub returns-in-Err-clause-unprinted : goal.returns-in-Err-clause-unprinted
 returns-in-Err-clause-unprinted g c = never_sink c.in-Err.fault c.end_of.result c.end_of.ensures

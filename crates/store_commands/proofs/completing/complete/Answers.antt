@@ -27,19 +27,19 @@ returns-in-Ok-clause-completed g c = λ files told.
     (λ file at. c.finish-end.ensures.undamaged long.0 file at long.1)
 
 pub returns-in-Ok-clause-stands : goal.returns-in-Ok-clause-stands
-returns-in-Ok-clause-stands g c = λ first steps more was.
+returns-in-Ok-clause-stands g c = λ origin steps more was.
     let m = g.R.Rules.meaning in
     let opened = c.in-Ok.book in let later = c.finish-end.new.book in
-    let is : IsOpened g.D.Disk.disk m first steps more c.args.disk opened =
-    opened_so first steps more c.args.disk c.args.rules _ opened c.in-Ok.ensures.book (c.in-Ok.ensures.kept first steps more was) (c.in-Ok.ensures.any_moment first steps more was) in
-    subst (λ d. StandsOn m first steps more (g.D.Disk.disk c.args.disk) (g.D.Disk.disk d)) (sym c.into_disk.ensures) (still_stands first steps more [] c.args.disk opened later is c.finish-end.ensures.goes_on refl)
+    let is : IsOpened g.D.Disk.disk m origin steps more c.args.disk opened =
+    opened_so origin steps more c.args.disk c.args.rules _ opened c.in-Ok.ensures.book (c.in-Ok.ensures.kept origin steps more was) (c.in-Ok.ensures.any_moment origin steps more was) in
+    subst (λ d. StandsOn m origin steps more (g.D.Disk.disk c.args.disk) (g.D.Disk.disk d)) (sym c.into_disk.ensures) (still_stands origin steps more [] c.args.disk opened later is c.finish-end.ensures.goes_on refl)
 
 pub returns-in-Ok-clause-written : goal.returns-in-Ok-clause-written
-returns-in-Ok-clause-written g c = λ first history now none.
+returns-in-Ok-clause-written g c = λ origin history now.
     let m = g.R.Rules.meaning in
     let is = c.into_disk.ensures in
-    subst (λ d. AreWrittenAt c.finish-end.result (AreWritten m first history (g.D.Disk.disk d))) (sym is)
-    (c.finish-end.ensures.written first history (subst (λ d. StandsNow m first history [] (g.D.Disk.disk d)) is now) none)
+    subst (λ d. AreWrittenAt c.finish-end.result (AreWritten m origin.first history (g.D.Disk.disk d))) (sym is)
+    (c.finish-end.ensures.written origin history (subst (λ d. StandsNow m origin history [] (g.D.Disk.disk d)) is now))
 
 pub returns-in-Ok-clause-others : goal.returns-in-Ok-clause-others
 returns-in-Ok-clause-others g c = λ files told.
@@ -54,11 +54,11 @@ returns-in-Err-clause-completed g c = λ files told.
     (completed_closed m files c.args.is_said (g.D.Disk.disk c.args.disk).told c.in-Err.fault sink told c.in-Err.ensures.fault)
 
 pub returns-in-Err-clause-stands : goal.returns-in-Err-clause-stands
-returns-in-Err-clause-stands g c = λ first steps more was. record { any_moment = c.in-Err.ensures.any_moment_err first steps more was; now = c.in-Err.ensures.still_err first steps more was }
+returns-in-Err-clause-stands g c = λ origin steps more was. record { any_moment = c.in-Err.ensures.any_moment_err origin steps more was; now = c.in-Err.ensures.still_err origin steps more was }
 
 pub returns-in-Err-clause-written : goal.returns-in-Err-clause-written
-returns-in-Err-clause-written g c = λ first history now none.
-    unwritten_end c.in-Err.fault c.end_of.result (AreWritten g.R.Rules.meaning first history (g.D.Disk.disk c.in-Err.disk)) c.end_of.ensures
+returns-in-Err-clause-written g c = λ origin history now.
+    unwritten_end c.in-Err.fault c.end_of.result (AreWritten g.R.Rules.meaning origin.first history (g.D.Disk.disk c.in-Err.disk)) c.end_of.ensures
 
 pub returns-in-Err-clause-others : goal.returns-in-Err-clause-others
 returns-in-Err-clause-others g c = λ files told. left_closed files (c.in-Err.ensures.others_err files told)

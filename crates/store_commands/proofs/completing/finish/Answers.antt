@@ -22,7 +22,7 @@ pub returns-then-is_said-clause-completed : goal.returns-then-is_said-clause-com
 returns-then-is_said-clause-completed g c = λ files after was now. written_at c.print_summary.result _ (c.in-Ok.ensures.completed files after was now)
 
 pub returns-then-is_said-clause-written : goal.returns-then-is_said-clause-written
-returns-then-is_said-clause-written g c = λ first history now none. written_at c.print_summary.result _ (c.in-Ok.ensures.written first history now none)
+returns-then-is_said-clause-written g c = λ origin history now. written_at c.print_summary.result _ (c.in-Ok.ensures.written origin history now)
 
 pub returns-then-is_said-clause-undamaged : goal.returns-then-is_said-clause-undamaged
 returns-then-is_said-clause-undamaged g c = λ files file at told. undamaged_print _ c.print_summary.result _ _ file at c.print_summary.ensures.printed
@@ -41,7 +41,7 @@ pub returns-in-Err-clause-completed : goal.returns-in-Err-clause-completed
 returns-in-Err-clause-completed g c = λ files after was now. unwritten_end c.in-Err.fault c.end_of.result _ c.end_of.ensures
 
 pub returns-in-Err-clause-written : goal.returns-in-Err-clause-written
-returns-in-Err-clause-written g c = λ first history now none. unwritten_end c.in-Err.fault c.end_of.result _ c.end_of.ensures
+returns-in-Err-clause-written g c = λ origin history now. unwritten_end c.in-Err.fault c.end_of.result _ c.end_of.ensures
 
 pub returns-in-Err-clause-undamaged : goal.returns-in-Err-clause-undamaged
 returns-in-Err-clause-undamaged g c = λ files file at told. undamaged_end c.in-Err.fault c.end_of.result file at (c.in-Err.ensures.undamaged files told) c.end_of.ensures

@@ -34,24 +34,24 @@ returns-in-Ok-clause-redone g c = λ files told.
     (λ file at. c.redo_dump-end.ensures.undamaged long.0 file at long.1)
 
 pub returns-in-Ok-clause-stands : goal.returns-in-Ok-clause-stands
-returns-in-Ok-clause-stands g c = λ first steps more was.
+returns-in-Ok-clause-stands g c = λ origin steps more was.
     let m = g.R.Rules.meaning in
     let opened = c.in-Ok.book in
     let later = c.redo_dump-end.new.book in
     let step = redo_step opened.state c.args.dump c.args.now in
     let run = c.redo_dump-end.ensures.run in
     let accounts = c.each_message_stands_in_one_place.ensures in
-    let is : IsOpened g.D.Disk.disk m first steps more c.args.disk opened =
-    opened_so first steps more c.args.disk c.args.rules _ opened c.in-Ok.ensures.book (c.in-Ok.ensures.kept first steps more was) (c.in-Ok.ensures.any_moment first steps more was) in
+    let is : IsOpened g.D.Disk.disk m origin steps more c.args.disk opened =
+    opened_so origin steps more c.args.disk c.args.rules _ opened c.in-Ok.ensures.book (c.in-Ok.ensures.kept origin steps more was) (c.in-Ok.ensures.any_moment origin steps more was) in
     let e = c.redo_dump-end.result in
     let long = c.in-Ok.ensures.long was.files was.tells in
-    subst (λ d. IsRedoCall e (StandsOn m first steps more (g.D.Disk.disk c.args.disk) (g.D.Disk.disk d))
-    (RedoesStep g.D.Disk.disk m first steps more (g.D.Disk.disk c.args.disk) (g.D.Disk.disk d) c.args.dump c.args.now))
+    subst (λ d. IsRedoCall e (StandsOn m origin steps more (g.D.Disk.disk c.args.disk) (g.D.Disk.disk d))
+    (RedoesStep g.D.Disk.disk m origin steps more (g.D.Disk.disk c.args.disk) (g.D.Disk.disk d) c.args.dump c.args.now))
     (sym c.into_disk.ensures)
     (call_open step run.made e _ _ (λ file at. c.redo_dump-end.ensures.undamaged long.0 file at long.1) run.made_is
-    (stands accounts first steps more c.args.disk opened later is c.args.dump c.args.now e run)
-    (λ one. ((length run.run.archived + later.kept) - opened.kept, makes accounts first steps more c.args.disk opened later is c.args.dump c.args.now e run one))
-    (λ other one. makes_durably accounts first steps more c.args.disk opened later is c.args.dump c.args.now e run (c.redo_dump-end.ensures.durable other) one))
+    (stands accounts origin steps more c.args.disk opened later is c.args.dump c.args.now e run)
+    (λ one. ((length run.run.archived + later.kept) - opened.kept, makes accounts origin steps more c.args.disk opened later is c.args.dump c.args.now e run one))
+    (λ other one. makes_durably accounts origin steps more c.args.disk opened later is c.args.dump c.args.now e run (c.redo_dump-end.ensures.durable other) one))
 
 pub returns-in-Err-clause-redone : goal.returns-in-Err-clause-redone
 returns-in-Err-clause-redone g c = λ files told.
@@ -61,24 +61,24 @@ returns-in-Err-clause-redone g c = λ files told.
     (redone_closed m files c.args.dump c.args.now (g.D.Disk.disk c.args.disk).told c.in-Err.fault sink told c.in-Err.ensures.fault)
 
 pub returns-in-Err-clause-stands : goal.returns-in-Err-clause-stands
-returns-in-Err-clause-stands g c = λ first steps more was.
+returns-in-Err-clause-stands g c = λ origin steps more was.
     let m = g.R.Rules.meaning in
     let disk = c.in-Err.disk in
-    subst (λ (e : StoreEnd). IsRedoCall e (StandsOn m first steps more (g.D.Disk.disk c.args.disk) (g.D.Disk.disk disk))
-    (RedoesStep g.D.Disk.disk m first steps more (g.D.Disk.disk c.args.disk) (g.D.Disk.disk disk) c.args.dump c.args.now))
+    subst (λ (e : StoreEnd). IsRedoCall e (StandsOn m origin steps more (g.D.Disk.disk c.args.disk) (g.D.Disk.disk disk))
+    (RedoesStep g.D.Disk.disk m origin steps more (g.D.Disk.disk c.args.disk) (g.D.Disk.disk disk) c.args.dump c.args.now))
     (sym c.end_of.ensures)
-    (call_closed c.in-Err.fault _ _ (record { any_moment = c.in-Err.ensures.any_moment_err first steps more was; now = c.in-Err.ensures.still_err first steps more was }))
+    (call_closed c.in-Err.fault _ _ (record { any_moment = c.in-Err.ensures.any_moment_err origin steps more was; now = c.in-Err.ensures.still_err origin steps more was }))
 
 pub returns-in-Ok-clause-written : goal.returns-in-Ok-clause-written
-returns-in-Ok-clause-written g c = λ first history now none.
+returns-in-Ok-clause-written g c = λ origin history now.
     let m = g.R.Rules.meaning in
     let is = c.into_disk.ensures in
-    subst (λ d. AreWrittenAt c.redo_dump-end.result (AreWritten m first history (g.D.Disk.disk d))) (sym is)
-    (c.redo_dump-end.ensures.written first history (subst (λ d. StandsNow m first history [] (g.D.Disk.disk d)) is now) none)
+    subst (λ d. AreWrittenAt c.redo_dump-end.result (AreWritten m origin.first history (g.D.Disk.disk d))) (sym is)
+    (c.redo_dump-end.ensures.written origin history (subst (λ d. StandsNow m origin history [] (g.D.Disk.disk d)) is now))
 
 pub returns-in-Err-clause-written : goal.returns-in-Err-clause-written
-returns-in-Err-clause-written g c = λ first history now none.
-    unwritten_end c.in-Err.fault c.end_of.result (AreWritten g.R.Rules.meaning first history (g.D.Disk.disk c.in-Err.disk)) c.end_of.ensures
+returns-in-Err-clause-written g c = λ origin history now.
+    unwritten_end c.in-Err.fault c.end_of.result (AreWritten g.R.Rules.meaning origin.first history (g.D.Disk.disk c.in-Err.disk)) c.end_of.ensures
 
 pub returns-in-Ok-clause-others : goal.returns-in-Ok-clause-others
 returns-in-Ok-clause-others g c = λ files told.

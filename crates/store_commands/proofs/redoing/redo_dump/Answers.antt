@@ -60,7 +60,7 @@ returns-in-Done-clause-run g c =
     }
 
 pub returns-in-Done-clause-written : goal.returns-in-Done-clause-written
-returns-in-Done-clause-written g c = λ first history now none. written_at c.refusal_end.result _ (c.in-Done.ensures.written first history now none)
+returns-in-Done-clause-written g c = λ origin history now. written_at c.refusal_end.result _ (c.in-Done.ensures.written origin history now)
 
 -- ---- the step was refused, and the book could not be finished
 

@@ -24,12 +24,12 @@ returns-in-Ok-clause-shown g c = λ files told.
     shown_open g.R.Rules.meaning files c.args.what c.state.result.now.state c.print-end.result _ _ open_in c.print-end.ensures.printed
 
 pub returns-in-Ok-clause-stands : goal.returns-in-Ok-clause-stands
-returns-in-Ok-clause-stands g c = λ first steps more was.
+returns-in-Ok-clause-stands g c = λ origin steps more was.
     let book = c.in-Ok.book in
     let all : book.kept ≡ length book.steps = ap (λ (b : BookView _ _). b.kept) c.in-Ok.ensures.book in
     record {
-      any_moment = subst (λ d. Leaves (g.D.Disk.disk c.args.disk) (g.D.Disk.disk d) (StandsFor g.R.Rules.meaning first steps more)) (sym c.into_disk.ensures) (c.in-Ok.ensures.any_moment first steps more was);
-      now = subst (λ d. StandsNow g.R.Rules.meaning first steps more (g.D.Disk.disk d)) (sym c.into_disk.ensures) (stands_read first steps more book all (c.in-Ok.ensures.kept first steps more was));
+      any_moment = subst (λ d. Leaves (g.D.Disk.disk c.args.disk) (g.D.Disk.disk d) (StandsFor g.R.Rules.meaning origin steps more)) (sym c.into_disk.ensures) (c.in-Ok.ensures.any_moment origin steps more was);
+      now = subst (λ d. StandsNow g.R.Rules.meaning origin steps more (g.D.Disk.disk d)) (sym c.into_disk.ensures) (stands_read origin steps more book all (c.in-Ok.ensures.kept origin steps more was));
     }
 
 pub returns-in-Err-clause-shown : goal.returns-in-Err-clause-shown
@@ -38,8 +38,8 @@ returns-in-Err-clause-shown g c = λ files told.
     subst (λ (e : StoreEnd). IsShown g.R.Rules.meaning files c.args.what e sink sink) (sym c.end_of.ensures) (shown_fault g.R.Rules.meaning files c.args.what _ c.in-Err.fault sink told c.in-Err.ensures.fault)
 
 pub returns-in-Err-clause-stands : goal.returns-in-Err-clause-stands
-returns-in-Err-clause-stands g c = λ first steps more was.
-    record { any_moment = c.in-Err.ensures.any_moment_err first steps more was; now = c.in-Err.ensures.still_err first steps more was }
+returns-in-Err-clause-stands g c = λ origin steps more was.
+    record { any_moment = c.in-Err.ensures.any_moment_err origin steps more was; now = c.in-Err.ensures.still_err origin steps more was }
 
 pub returns-in-Ok-clause-others : goal.returns-in-Ok-clause-others
 returns-in-Ok-clause-others g c = λ files told. subst (λ d. LeavesAlone (g.D.Disk.disk c.args.disk) (g.D.Disk.disk d) (IsBeside files)) (sym c.into_disk.ensures) (c.in-Ok.ensures.others files told)

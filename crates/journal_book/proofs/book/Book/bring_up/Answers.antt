@@ -34,21 +34,21 @@ pub returns-in-Err-Disk-clause-others : goal.returns-in-Err-Disk-clause-others
 returns-in-Err-Disk-clause-others g c = λ files told. alone_narrower (λ file apart. apart.0) (c.flush.ensures.others files told)
 
 pub returns-in-Ok-clause-written : goal.returns-in-Ok-clause-written
-returns-in-Ok-clause-written g c = λ first history now none.
-    c.complete_outputs.ensures.written first history (ap (λ b. b.kept) c.in-Ok.ensures.ok ∙ ap (λ b. length b.steps) (sym c.in-Ok.ensures.ok)) now none
+returns-in-Ok-clause-written g c = λ origin history now.
+    c.complete_outputs.ensures.written origin history (ap (λ b. b.kept) c.in-Ok.ensures.ok ∙ ap (λ b. length b.steps) (sym c.in-Ok.ensures.ok)) now
 
 pub returns-in-Ok-clause-any_moment : goal.returns-in-Ok-clause-any_moment
-returns-in-Ok-clause-any_moment g c = λ first past kept.
+returns-in-Ok-clause-any_moment g c = λ origin past kept.
     let old = c.args.self.now in
-    let rest = c.complete_outputs.ensures.any_moment first past (c.flush.ensures.kept first past kept) in
-    let behind = subst (λ (b : BookView g.row.D.Denot g.row.R.Denot). Leaves (g.D.Disk.disk c.flush.new.self.disk) (g.D.Disk.disk c.complete_outputs.new.self.disk) (StandsFor g.R.Rules.meaning first (past ++ durable_steps b) (waiting_steps b)))
+    let rest = c.complete_outputs.ensures.any_moment origin past (c.flush.ensures.kept origin past kept) in
+    let behind = subst (λ (b : BookView g.row.D.Denot g.row.R.Denot). Leaves (g.D.Disk.disk c.flush.new.self.disk) (g.D.Disk.disk c.complete_outputs.new.self.disk) (StandsFor g.R.Rules.meaning origin (past ++ durable_steps b) (waiting_steps b)))
     c.in-Ok.ensures.ok rest in
-    run_on (c.flush.ensures.any_moment first past kept) (widened (λ image. all_or_fewer g.R.Rules.meaning first past old.kept old.steps image) behind)
+    run_on (c.flush.ensures.any_moment origin past kept) (widened (λ image. all_or_fewer g.R.Rules.meaning origin past old.kept old.steps image) behind)
 
 pub returns-in-Ok-clause-lines_last : goal.returns-in-Ok-clause-lines_last
-returns-in-Ok-clause-lines_last g c = λ first past kept.
+returns-in-Ok-clause-lines_last g c = λ origin past kept.
     let old = c.args.self.now in
-    let rest = c.complete_outputs.ensures.any_moment first past (c.flush.ensures.kept first past kept) in
-    let behind = subst (λ (b : BookView g.row.D.Denot g.row.R.Denot). Leaves (g.D.Disk.disk c.flush.new.self.disk) (g.D.Disk.disk c.complete_outputs.new.self.disk) (StandsFor g.R.Rules.meaning first (past ++ durable_steps b) (waiting_steps b)))
+    let rest = c.complete_outputs.ensures.any_moment origin past (c.flush.ensures.kept origin past kept) in
+    let behind = subst (λ (b : BookView g.row.D.Denot g.row.R.Denot). Leaves (g.D.Disk.disk c.flush.new.self.disk) (g.D.Disk.disk c.complete_outputs.new.self.disk) (StandsFor g.R.Rules.meaning origin (past ++ durable_steps b) (waiting_steps b)))
     c.in-Ok.ensures.ok rest in
-    run_on (widened (λ image left. inl (λ k. left (out_file k) (λ same. omega (arith, same)))) (c.flush.ensures.others kept.files kept.tells).any_moment) (widened (λ image stands. inr (all_durable g.R.Rules.meaning first past old.steps image stands)) behind)
+    run_on (widened (λ image left. inl (λ k. left (out_file k) (λ same. omega (arith, same)))) (c.flush.ensures.others kept.files kept.tells).any_moment) (widened (λ image stands. inr (all_durable g.R.Rules.meaning origin past old.steps image stands)) behind)

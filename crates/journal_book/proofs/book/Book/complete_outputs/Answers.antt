@@ -53,7 +53,7 @@ returns-in-Ok-clause-completed g c = λ files after told now.
     (c.in-Ok.ensures.completed files after (ap (λ b. (g.D.Disk.disk b.disk).told) c.self.view_is ∙ told) now)
 
 pub returns-in-Ok-clause-written : goal.returns-in-Ok-clause-written
-returns-in-Ok-clause-written g c = λ first history durable now none.
+returns-in-Ok-clause-written g c = λ origin history durable now.
     let m = g.R.Rules.meaning in
     let i = c.self.inside in
     let disk = c.complete_all.new.disk in
@@ -71,29 +71,29 @@ returns-in-Ok-clause-written g c = λ first history durable now none.
     let history_is : history ++ take stands.count [] ≡ history = ap (λ ss. history ++ ss) (take-nil stands.count) ∙ append-nil history in (
       now.files,
       now.tells,
-      whole_files m first history i.generation i.base.value i.steps i.core.state leaves told_before.0 now.files none
-          (subst (λ (h : List Step). Stands m first now.files h) history_is stands.stands) stored c.self.invariant.1.behind
+      whole_files m origin history i.generation i.base.value i.steps i.core.state leaves told_before.0 now.files
+          (subst (λ (h : List Step). Stands m origin now.files h) history_is stands.stands) stored c.self.invariant.1.behind
           (c.in-Ok.ensures.completed told_before.0 now.files told_before.1 now.tells),
     )
 
 pub returns-in-Ok-clause-kept : goal.returns-in-Ok-clause-kept
-returns-in-Ok-clause-kept g c = λ first past kept.
+returns-in-Ok-clause-kept g c = λ origin past kept.
     let i = c.self.inside in
-    let here = subst (λ (b : BookView g.row.D.Denot g.row.R.Denot). IsKept g.D.Disk.disk g.R.Rules.meaning first past b) (sym c.self.view_is) kept in
+    let here = subst (λ (b : BookView g.row.D.Denot g.row.R.Denot). IsKept g.D.Disk.disk g.R.Rules.meaning origin past b) (sym c.self.view_is) kept in
     let rest = c.self.invariant.5 (ap (λ b. b.broken) c.self.view_is ∙ c.requires.whole) here.files here.tells in
     let run = outs_leave g.D.Disk.disk g.R.Rules.meaning _ i.root i.journal here.files (g.met.D.Disk.honest i.disk here.files here.tells) c.self.invariant.0 c.self.invariant.1.writable rest
-    first past here c.complete_all.new.disk i.core.state i.steps here.tells c.self.invariant.1.behind c.complete_all.ensures.run in
+    origin past here c.complete_all.new.disk i.core.state i.steps here.tells c.self.invariant.1.behind c.complete_all.ensures.run in
     let changes = c.complete_all.ensures.run.elsewhere here.files here.tells in
-    kept_later g.D.Disk.disk g.R.Rules.meaning first past _ c.complete_all.new.disk i.broken changes.0 here changes.1 (λ image le left. g.met.D.Disk.counts_now c.complete_all.new.disk _ image le left) run
+    kept_later g.D.Disk.disk g.R.Rules.meaning origin past _ c.complete_all.new.disk i.broken changes.0 here changes.1 (λ image le left. g.met.D.Disk.counts_now c.complete_all.new.disk _ image le left) run
 
 pub returns-in-Ok-clause-any_moment : goal.returns-in-Ok-clause-any_moment
-returns-in-Ok-clause-any_moment g c = λ first past kept.
+returns-in-Ok-clause-any_moment g c = λ origin past kept.
     let i = c.self.inside in
-    let here = subst (λ (b : BookView g.row.D.Denot g.row.R.Denot). IsKept g.D.Disk.disk g.R.Rules.meaning first past b) (sym c.self.view_is) kept in
+    let here = subst (λ (b : BookView g.row.D.Denot g.row.R.Denot). IsKept g.D.Disk.disk g.R.Rules.meaning origin past b) (sym c.self.view_is) kept in
     let rest = c.self.invariant.5 (ap (λ b. b.broken) c.self.view_is ∙ c.requires.whole) here.files here.tells in
     let run = outs_leave g.D.Disk.disk g.R.Rules.meaning _ i.root i.journal here.files (g.met.D.Disk.honest i.disk here.files here.tells) c.self.invariant.0 c.self.invariant.1.writable rest
-    first past here c.complete_all.new.disk i.core.state i.steps here.tells c.self.invariant.1.behind c.complete_all.ensures.run in
-    subst (λ (b : BookView g.row.D.Denot g.row.R.Denot). Leaves (g.D.Disk.disk b.disk) (g.D.Disk.disk c.complete_all.new.disk) (StandsFor g.R.Rules.meaning first (past ++ durable_steps b) (waiting_steps b))) c.self.view_is run
+    origin past here c.complete_all.new.disk i.core.state i.steps here.tells c.self.invariant.1.behind c.complete_all.ensures.run in
+    subst (λ (b : BookView g.row.D.Denot g.row.R.Denot). Leaves (g.D.Disk.disk b.disk) (g.D.Disk.disk c.complete_all.new.disk) (StandsFor g.R.Rules.meaning origin (past ++ durable_steps b) (waiting_steps b))) c.self.view_is run
 
 pub returns-in-Err-clause-disk : goal.returns-in-Err-clause-disk
 returns-in-Err-clause-disk g c = λ is.
@@ -111,23 +111,23 @@ pub returns-in-Err-clause-fault : goal.returns-in-Err-clause-fault
 returns-in-Err-clause-fault g c = subst (λ (b : BookView g.row.D.Denot g.row.R.Denot). IsBringUpFault b.state.outs (g.D.Disk.disk b.disk).told c.in-Err.fault) c.self.view_is c.in-Err.ensures.fault
 
 pub returns-in-Err-clause-kept : goal.returns-in-Err-clause-kept
-returns-in-Err-clause-kept g c = λ first past kept.
+returns-in-Err-clause-kept g c = λ origin past kept.
     let i = c.self.inside in
-    let here = subst (λ (b : BookView g.row.D.Denot g.row.R.Denot). IsKept g.D.Disk.disk g.R.Rules.meaning first past b) (sym c.self.view_is) kept in
+    let here = subst (λ (b : BookView g.row.D.Denot g.row.R.Denot). IsKept g.D.Disk.disk g.R.Rules.meaning origin past b) (sym c.self.view_is) kept in
     let rest = c.self.invariant.5 (ap (λ b. b.broken) c.self.view_is ∙ c.requires.whole) here.files here.tells in
     let run = outs_leave g.D.Disk.disk g.R.Rules.meaning _ i.root i.journal here.files (g.met.D.Disk.honest i.disk here.files here.tells) c.self.invariant.0 c.self.invariant.1.writable rest
-    first past here c.complete_all.new.disk i.core.state i.steps here.tells c.self.invariant.1.behind c.complete_all.ensures.run in
+    origin past here c.complete_all.new.disk i.core.state i.steps here.tells c.self.invariant.1.behind c.complete_all.ensures.run in
     let changes = c.complete_all.ensures.run.elsewhere here.files here.tells in
-    kept_later g.D.Disk.disk g.R.Rules.meaning first past _ c.complete_all.new.disk c.is_disk-self-inside.result changes.0 here changes.1 (λ image le left. g.met.D.Disk.counts_now c.complete_all.new.disk _ image le left) run
+    kept_later g.D.Disk.disk g.R.Rules.meaning origin past _ c.complete_all.new.disk c.is_disk-self-inside.result changes.0 here changes.1 (λ image le left. g.met.D.Disk.counts_now c.complete_all.new.disk _ image le left) run
 
 pub returns-in-Err-clause-any_moment : goal.returns-in-Err-clause-any_moment
-returns-in-Err-clause-any_moment g c = λ first past kept.
+returns-in-Err-clause-any_moment g c = λ origin past kept.
     let i = c.self.inside in
-    let here = subst (λ (b : BookView g.row.D.Denot g.row.R.Denot). IsKept g.D.Disk.disk g.R.Rules.meaning first past b) (sym c.self.view_is) kept in
+    let here = subst (λ (b : BookView g.row.D.Denot g.row.R.Denot). IsKept g.D.Disk.disk g.R.Rules.meaning origin past b) (sym c.self.view_is) kept in
     let rest = c.self.invariant.5 (ap (λ b. b.broken) c.self.view_is ∙ c.requires.whole) here.files here.tells in
     let run = outs_leave g.D.Disk.disk g.R.Rules.meaning _ i.root i.journal here.files (g.met.D.Disk.honest i.disk here.files here.tells) c.self.invariant.0 c.self.invariant.1.writable rest
-    first past here c.complete_all.new.disk i.core.state i.steps here.tells c.self.invariant.1.behind c.complete_all.ensures.run in
-    subst (λ (b : BookView g.row.D.Denot g.row.R.Denot). Leaves (g.D.Disk.disk b.disk) (g.D.Disk.disk c.complete_all.new.disk) (StandsFor g.R.Rules.meaning first (past ++ durable_steps b) (waiting_steps b))) c.self.view_is run
+    origin past here c.complete_all.new.disk i.core.state i.steps here.tells c.self.invariant.1.behind c.complete_all.ensures.run in
+    subst (λ (b : BookView g.row.D.Denot g.row.R.Denot). Leaves (g.D.Disk.disk b.disk) (g.D.Disk.disk c.complete_all.new.disk) (StandsFor g.R.Rules.meaning origin (past ++ durable_steps b) (waiting_steps b))) c.self.view_is run
 
 pub returns-in-Err-clause-undamaged : goal.returns-in-Err-clause-undamaged
 returns-in-Err-clause-undamaged g c = λ files told.

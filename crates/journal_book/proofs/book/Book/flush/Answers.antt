@@ -56,31 +56,31 @@ returns-in-Ok-clause-nothing g c = λ cause.
     absurd (something _ i.broken _ (subst (λ (b : BookView g.row.D.Denot g.row.R.Denot). 1 ≤ length (waiting_steps b)) c.self.view_is some) c.if-self.false (ap (λ b. b.broken) c.self.view_is) cause)
 
 pub returns-in-Ok-clause-kept : goal.returns-in-Ok-clause-kept
-returns-in-Ok-clause-kept g c = λ first past kept.
+returns-in-Ok-clause-kept g c = λ origin past kept.
     let i = c.self.inside in
-    let here = subst (λ (b : BookView g.row.D.Denot g.row.R.Denot). IsKept g.D.Disk.disk g.R.Rules.meaning first past b) (sym c.self.view_is) kept in
+    let here = subst (λ (b : BookView g.row.D.Denot g.row.R.Denot). IsKept g.D.Disk.disk g.R.Rules.meaning origin past b) (sym c.self.view_is) kept in
     let rest = c.self.invariant.5 c.if-self.false here.files here.tells in
     let grown = c.in-Ok.ensures.ok in
     let changes = c.in-Ok.ensures.elsewhere here.files here.tells in
     let is = record_is g.R.Rules.meaning i.base.value i.steps i.durable i.core.state i.pending c.bytes.result.now i.used i.limit i.journal c.self.invariant.1 c.self.invariant.2
     (λ same. c.if-self-len.false (same ∙ sym c.len.ensures)) c.bytes.ensures in
     let flushed = kept_flushed g.D.Disk.disk g.R.Rules.meaning _ i.root i.journal here.files (g.met.D.Disk.honest i.disk here.files here.tells) c.self.invariant.0 c.self.invariant.1.writable rest
-    _ is first past c.append.new.disk changes.0 c.append.new.self here changes.1 c.in-Ok.ensures.crash_elsewhere (ap (λ j. j.file) grown) (ap (λ j. j.heading) grown)
+    _ is origin past c.append.new.disk changes.0 c.append.new.self here changes.1 c.in-Ok.ensures.crash_elsewhere (ap (λ j. j.file) grown) (ap (λ j. j.heading) grown)
     (c.in-Ok.ensures.at_rest here.files changes.0 _ here.tells changes.1 rest.journal_rests) in
-    subst (λ (n : ℕ). IsKept g.D.Disk.disk g.R.Rules.meaning first past
+    subst (λ (n : ℕ). IsKept g.D.Disk.disk g.R.Rules.meaning origin past
     (record { disk = c.append.new.disk; rules = i.core.rules; generation = i.generation; base = i.base.value; steps = i.steps; kept = n; state = i.core.state; limit = i.limit; broken = i.broken }))
     (sym c.len-self-inside.ensures) flushed
 
 pub returns-in-Ok-clause-any_moment : goal.returns-in-Ok-clause-any_moment
-returns-in-Ok-clause-any_moment g c = λ first past kept.
+returns-in-Ok-clause-any_moment g c = λ origin past kept.
     let i = c.self.inside in
-    let here = subst (λ (b : BookView g.row.D.Denot g.row.R.Denot). IsKept g.D.Disk.disk g.R.Rules.meaning first past b) (sym c.self.view_is) kept in
+    let here = subst (λ (b : BookView g.row.D.Denot g.row.R.Denot). IsKept g.D.Disk.disk g.R.Rules.meaning origin past b) (sym c.self.view_is) kept in
     let rest = c.self.invariant.5 c.if-self.false here.files here.tells in
     let is = record_is g.R.Rules.meaning i.base.value i.steps i.durable i.core.state i.pending c.bytes.result.now i.used i.limit i.journal c.self.invariant.1 c.self.invariant.2
     (λ same. c.if-self-len.false (same ∙ sym c.len.ensures)) c.bytes.ensures in
     let run = flush_leaves g.D.Disk.disk g.R.Rules.meaning _ i.root i.journal here.files (g.met.D.Disk.honest i.disk here.files here.tells) c.self.invariant.0 c.self.invariant.1.writable rest
-    _ is first past c.append.new.disk here (c.in-Ok.ensures.any_moment here.files _ here.tells rest.journal_rests) in
-    subst (λ (b : BookView g.row.D.Denot g.row.R.Denot). Leaves (g.D.Disk.disk b.disk) (g.D.Disk.disk c.append.new.disk) (StandsFor g.R.Rules.meaning first (past ++ durable_steps b) (waiting_steps b))) c.self.view_is run
+    _ is origin past c.append.new.disk here (c.in-Ok.ensures.any_moment here.files _ here.tells rest.journal_rests) in
+    subst (λ (b : BookView g.row.D.Denot g.row.R.Denot). Leaves (g.D.Disk.disk b.disk) (g.D.Disk.disk c.append.new.disk) (StandsFor g.R.Rules.meaning origin (past ++ durable_steps b) (waiting_steps b))) c.self.view_is run
 
 pub returns-in-Err-clause-nothing : goal.returns-in-Err-clause-nothing
 returns-in-Err-clause-nothing g c = λ cause.
@@ -89,28 +89,28 @@ returns-in-Err-clause-nothing g c = λ cause.
     absurd (something _ i.broken _ (subst (λ (b : BookView g.row.D.Denot g.row.R.Denot). 1 ≤ length (waiting_steps b)) c.self.view_is some) c.if-self.false (ap (λ b. b.broken) c.self.view_is) cause)
 
 pub returns-in-Err-clause-kept : goal.returns-in-Err-clause-kept
-returns-in-Err-clause-kept g c = λ first past kept.
+returns-in-Err-clause-kept g c = λ origin past kept.
     let i = c.self.inside in
-    let here = subst (λ (b : BookView g.row.D.Denot g.row.R.Denot). IsKept g.D.Disk.disk g.R.Rules.meaning first past b) (sym c.self.view_is) kept in
+    let here = subst (λ (b : BookView g.row.D.Denot g.row.R.Denot). IsKept g.D.Disk.disk g.R.Rules.meaning origin past b) (sym c.self.view_is) kept in
     let rest = c.self.invariant.5 c.if-self.false here.files here.tells in
     let changes = c.in-Err.ensures.elsewhere here.files here.tells in
     let honest = g.met.D.Disk.honest i.disk here.files here.tells in
     let is = record_is g.R.Rules.meaning i.base.value i.steps i.durable i.core.state i.pending c.bytes.result.now i.used i.limit i.journal c.self.invariant.1 c.self.invariant.2
     (λ same. c.if-self-len.false (same ∙ sym c.len.ensures)) c.bytes.ensures in
     let run = flush_leaves g.D.Disk.disk g.R.Rules.meaning _ i.root i.journal here.files honest c.self.invariant.0 c.self.invariant.1.writable rest
-    _ is first past c.append.new.disk here (c.in-Err.ensures.any_moment here.files _ here.tells rest.journal_rests) in
-    kept_later g.D.Disk.disk g.R.Rules.meaning first past _ c.append.new.disk true changes.0 here changes.1 (λ image le left. g.met.D.Disk.counts_now c.append.new.disk _ image le left) run
+    _ is origin past c.append.new.disk here (c.in-Err.ensures.any_moment here.files _ here.tells rest.journal_rests) in
+    kept_later g.D.Disk.disk g.R.Rules.meaning origin past _ c.append.new.disk true changes.0 here changes.1 (λ image le left. g.met.D.Disk.counts_now c.append.new.disk _ image le left) run
 
 pub returns-in-Err-clause-any_moment : goal.returns-in-Err-clause-any_moment
-returns-in-Err-clause-any_moment g c = λ first past kept.
+returns-in-Err-clause-any_moment g c = λ origin past kept.
     let i = c.self.inside in
-    let here = subst (λ (b : BookView g.row.D.Denot g.row.R.Denot). IsKept g.D.Disk.disk g.R.Rules.meaning first past b) (sym c.self.view_is) kept in
+    let here = subst (λ (b : BookView g.row.D.Denot g.row.R.Denot). IsKept g.D.Disk.disk g.R.Rules.meaning origin past b) (sym c.self.view_is) kept in
     let rest = c.self.invariant.5 c.if-self.false here.files here.tells in
     let is = record_is g.R.Rules.meaning i.base.value i.steps i.durable i.core.state i.pending c.bytes.result.now i.used i.limit i.journal c.self.invariant.1 c.self.invariant.2
     (λ same. c.if-self-len.false (same ∙ sym c.len.ensures)) c.bytes.ensures in
     let run = flush_leaves g.D.Disk.disk g.R.Rules.meaning _ i.root i.journal here.files (g.met.D.Disk.honest i.disk here.files here.tells) c.self.invariant.0 c.self.invariant.1.writable rest
-    _ is first past c.append.new.disk here (c.in-Err.ensures.any_moment here.files _ here.tells rest.journal_rests) in
-    subst (λ (b : BookView g.row.D.Denot g.row.R.Denot). Leaves (g.D.Disk.disk b.disk) (g.D.Disk.disk c.append.new.disk) (StandsFor g.R.Rules.meaning first (past ++ durable_steps b) (waiting_steps b))) c.self.view_is run
+    _ is origin past c.append.new.disk here (c.in-Err.ensures.any_moment here.files _ here.tells rest.journal_rests) in
+    subst (λ (b : BookView g.row.D.Denot g.row.R.Denot). Leaves (g.D.Disk.disk b.disk) (g.D.Disk.disk c.append.new.disk) (StandsFor g.R.Rules.meaning origin (past ++ durable_steps b) (waiting_steps b))) c.self.view_is run
 
 pub returns-in-Ok-clause-others : goal.returns-in-Ok-clause-others
 returns-in-Ok-clause-others g c = λ files told.

@@ -25,18 +25,18 @@ invariant_of-result g c =
     )
 
 pub returns-in-Ok-clause-kept : goal.returns-in-Ok-clause-kept
-returns-in-Ok-clause-kept g c = λ first steps more was.
+returns-in-Ok-clause-kept g c = λ origin steps more was.
     let m = g.R.Rules.meaning in
-    let now = c.open_store.ensures.histories.now m first steps more was in
-    let kept = kept_reopened g.D.Disk.disk m first steps more c.args.rules c.args.limit c.open_store.new.disk _ _ _ _ _ now
+    let now = c.open_store.ensures.histories.now m origin steps more was in
+    let kept = kept_reopened g.D.Disk.disk m origin steps more c.args.rules c.args.limit c.open_store.new.disk _ _ _ _ _ now
     (g.met.D.Disk.honest c.open_store.new.disk now.files now.tells) c.in-Ok.ensures.files c.in-Ok.ensures.history.writable (c.in-Ok.ensures.at_rest was.files now.files was.tells now.tells) in
-    subst (λ (b : BookView g.row.D.Denot g.row.R.Denot). IsReopened g.D.Disk.disk m first steps more b)
+    subst (λ (b : BookView g.row.D.Denot g.row.R.Denot). IsReopened g.D.Disk.disk m origin steps more b)
     (sym (view_reopened m c.args.rules _ _ _ _ _ c.len-durable.result c.args.limit c.open_store.new.disk (ap (λ core. core.rules) c.in-Ok.ensures.core)
     (ap (λ core. core.state) c.in-Ok.ensures.core) c.len-durable.ensures))
     kept
 
 pub returns-in-Ok-clause-any_moment : goal.returns-in-Ok-clause-any_moment
-returns-in-Ok-clause-any_moment g c = λ first steps more was. c.open_store.ensures.histories.run g.R.Rules.meaning first steps more was
+returns-in-Ok-clause-any_moment g c = λ origin steps more was. c.open_store.ensures.histories.run g.R.Rules.meaning origin steps more was
 
 pub returns-in-Err-clause-any_moment_err : goal.returns-in-Err-clause-any_moment_err
-returns-in-Err-clause-any_moment_err g c = λ first steps more was. c.open_store.ensures.histories.run g.R.Rules.meaning first steps more was
+returns-in-Err-clause-any_moment_err g c = λ origin steps more was. c.open_store.ensures.histories.run g.R.Rules.meaning origin steps more was

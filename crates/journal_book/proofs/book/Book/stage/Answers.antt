@@ -7,6 +7,7 @@ use Rattle.step_code.specs.After.{after}
 use Rattle.step_code.specs.Content.{May}
 use Rattle.step_code.specs.Fits.{Fits}
 use Rattle.step_code.specs.Rules.{last_moment, Meaning}
+use Rattle.store_image.specs.Stands.{Origin}
 use Rattle.journal_book.specs.declared.stage_refusal.StageRefusal.{StageRefusal}
 use Rattle.journal_book.specs.Book.{BookView, IsKept}
 use Rattle.journal_book.specs.Staged.{cause_of, staged, stamp, step_cause, IsMove}
@@ -14,10 +15,10 @@ use Rattle.journal_book.proofs.OneMore.{kept_staged, may_stage, nothing_refuses}
 use Rattle.journal_book.proofs.book.Book.stage.Goals as goal
 
 -- a committed step is one more, and a refused one leaves the book
-kept_either : {D R : Type 0} (disk : D → DiskView) (m : Meaning) (first : Base) (past : List Step) (old new : BookView D R) (step : Step) (state : Base) (result : Result ℕ StageRefusal)
-    → OnOk result (new ≡ record old { state = state; steps = old.steps ++ step ∷ [] }) → OnErr result (new ≡ old) → IsKept disk m first past old → IsKept disk m first past new
-kept_either disk m first past old new step state (Ok number) made left kept = subst (λ (b : BookView _ _). IsKept disk m first past b) (sym made) (kept_staged disk m first past old step state kept)
-kept_either disk m first past old new step state (Err refusal) made left kept = subst (λ (b : BookView _ _). IsKept disk m first past b) (sym left) kept
+kept_either : {D R : Type 0} (disk : D → DiskView) (m : Meaning) (origin : Origin) (past : List Step) (old new : BookView D R) (step : Step) (state : Base) (result : Result ℕ StageRefusal)
+    → OnOk result (new ≡ record old { state = state; steps = old.steps ++ step ∷ [] }) → OnErr result (new ≡ old) → IsKept disk m origin past old → IsKept disk m origin past new
+kept_either disk m origin past old new step state (Ok number) made left kept = subst (λ (b : BookView _ _). IsKept disk m origin past b) (sym made) (kept_staged disk m origin past old step state kept)
+kept_either disk m origin past old new step state (Err refusal) made left kept = subst (λ (b : BookView _ _). IsKept disk m origin past b) (sym left) kept
 
 on_any : {P : Type 0} (result : Result ℕ StageRefusal) → P → OnOk result P
 on_any (Ok number) p = p
@@ -63,4 +64,4 @@ returns-in-Ok-clause-may g c =
     refl c.requires.content)
 
 pub returns-in-Ok-clause-kept : goal.returns-in-Ok-clause-kept
-returns-in-Ok-clause-kept g c = λ first past kept. kept_either g.D.Disk.disk g.R.Rules.meaning first past c.args.self.now c.commit.new.self c.in-Ok.step (after g.R.Rules.meaning c.args.self.now.state c.in-Ok.step) c.commit.result c.commit.ensures.ok c.commit.ensures.err kept
+returns-in-Ok-clause-kept g c = λ origin past kept. kept_either g.D.Disk.disk g.R.Rules.meaning origin past c.args.self.now c.commit.new.self c.in-Ok.step (after g.R.Rules.meaning c.args.self.now.state c.in-Ok.step) c.commit.result c.commit.ensures.ok c.commit.ensures.err kept

@@ -1,0 +1,3 @@
+pub mod Bodies
+mod Histories
+mod Replays

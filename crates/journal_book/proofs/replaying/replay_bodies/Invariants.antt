@@ -1,9 +1,0 @@
-use Rattle.std.proofs.Common.{◌≡◌, take}
-use Rattle.step_code.specs.History.{replay}
-use Rattle.journal_book.proofs.Replays.{HaveReplayed}
-use Rattle.journal_book.proofs.replaying.replay_bodies.Given as goal
-
-abbrev pub invariant-bodies : goal.invariant-bodies
-invariant-bodies g l =
-    HaveReplayed g.R.Rules.meaning l.initial.core.state l.fn.start (take l.body-index l.fn.bodies) l.at l.steps
-    × (l.core ≡ record l.initial.core { state = replay g.R.Rules.meaning l.initial.core.state l.steps })
