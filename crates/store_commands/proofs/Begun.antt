@@ -1,5 +1,5 @@
 -- A store that was made, or why none was.
-use Rattle.std.proofs.Common.{◌≡◌, ◌≢◌, ◌<◌, ◌≤◌, [], ◌++◌, ℕ, List, length, Option, Some, refl, sym, ap, subst, ◌∙◌, arith}
+use Rattle.std.proofs.Common.{◌≡◌, ◌≢◌, ◌<◌, ◌≤◌, [], ◌++◌, ℕ, Bool, List, length, Option, Some, refl, sym, ap, subst, ◌∙◌, arith}
 use Rattle.edge_traits.specs.Disk.{DiskView, Image}
 use Rattle.edge_traits.specs.Sink.{SinkView}
 use Rattle.edge_traits.proofs.Outputs.{Took-nothing}
