@@ -11,6 +11,7 @@ use Rattle.step_code.specs.History.{first, replay}
 use Rattle.step_code.specs.Rules.{Meaning}
 use Rattle.store_image.specs.Damage.{IsDamagedStore}
 use Rattle.store_image.specs.Files.{root_file}
+use Rattle.store_image.specs.Stands.{origin_of}
 use Rattle.journal_book.specs.Laws.{WhatStandsOpens}
 use Rattle.journal_book.proofs.Recovering.{some_root}
 use Rattle.journal_book.proofs.StandsOpen.{stands_undamaged}
@@ -77,7 +78,7 @@ module _ {D : Type 0} (disk : D → DiskView) (o : Outside) (feeds : List (List 
   -- the root isn't empty
   has_root : ((image : Image) → old.told ≡ Some image → IsImage old.may_leave image) → files root_file ≡ [] → ⊥
   has_root honest none =
-      let some = some_root o.meaning begun is.steps is.more files (is.stands.each files (honest files is.disk_tells)) in omega (arith, some, ap length none)
+      let some = some_root o.meaning (origin_of begun is.whole) is.steps is.more files (is.stands.each files (honest files is.disk_tells)) in omega (arith, some, ap length none)
 
   -- the store opens
   undamaged : ((image : Image) → old.told ≡ Some image → IsImage old.may_leave image) → WhatStandsOpens o.meaning → (file at : ℕ) → IsDamagedStore o.meaning files file at → ⊥
