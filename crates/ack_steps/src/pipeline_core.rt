@@ -7,6 +7,7 @@ ghost use Rattle.step_code.specs.Rules.{IsPlanOf, is_collector, last_moment};
 ghost use Rattle.step_code.specs.Sound.{IsSound};
 ghost use Rattle.ack_steps.specs.Core.{reload_of, HasSmallNumbers, HasSoundHands, IsOrderly, IsNoReload, IsRefusal};
 ghost use Rattle.core_state.specs.Outputs.{HaveLengths};
+ghost use Rattle.core_state.specs.Sealing.{HaveSmallOutputs, sealed_whole};
 ghost use Rattle.step_code.specs.Spent.{last_given, spent, StaysSmall};
 ghost use Rattle.core_state.specs.State.{state_of};
 
@@ -19,8 +20,9 @@ use crate::refusal::refusal;
 use crate::reload::{make_entry_room, reload};
 use base_types::{Blob, BotName, Moment, OutOfMemory};
 use core_state::copies::to_each;
+use core_state::outputs::seal_all;
 use core_state::spent::first_spent;
-use core_state::state::{State, from_base, to_base};
+use core_state::state::{State, from_base, to_base, to_sealed_base};
 use sound_states::is_sound;
 use std::alloc::Global;
 use std::marker::Model;
@@ -433,5 +435,30 @@ impl<R: Rules> Core<R> {
         ensures { IfOk result (λ base. base ≡ self.now.state) }
     {
         to_base(self.alloc, &self.state)
+    }
+
+    /// A copy of the state with all lines of its outputs sealed. Want of memory also where 64 bits don't hold the bytes or the
+    /// lines of an output.
+    pub fn sealed_base(&self) -> Result<Base, OutOfMemory>
+        ensures base { IfOk result (λ base. base ≡ sealed_whole self.now.state) }
+        ensures small { OnOk result (HaveSmallOutputs self.now.state.outs) }
+    {
+        to_sealed_base(self.alloc, &self.state)
+    }
+
+    /// Whether a store may hold this state of the bundle in force.
+    pub fn may_hold(&self, base: &Base) -> Result<bool, OutOfMemory>
+        requires bundle { base.now.bundle ≡ self.now.state.bundle }
+        ensures { IfOk result (λ may. (may ≡ true) ↔ IsSound R.meaning base.now) }
+    {
+        is_sound(self.alloc, self.bots(), base)
+    }
+
+    /// Seals all lines of the outputs, and drops them. It takes no memory.
+    pub fn seal(&mut self)
+        requires small { HaveSmallOutputs self.old.state.outs }
+        ensures { self.new ≡ record self.old { state = sealed_whole self.old.state } }
+    {
+        seal_all(&mut self.state.outs, self.alloc);
     }
 }

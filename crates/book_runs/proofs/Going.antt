@@ -1,7 +1,7 @@
 -- How runs of a book's calls are put together.
-use Rattle.std.proofs.Common.{◌≡◌, ◌≢◌, ◌≤◌, ◌+◌, ◌-◌, ℕ, Bool, true, false, Option, Some, None, List, [], ◌∷◌, ◌++◌, length, take, refl, sym, ap, subst, ◌∙◌, arith, append_assoc, length-append}
+use Rattle.std.proofs.Common.{◌≡◌, ◌≢◌, ◌≤◌, ◌+◌, ◌-◌, ℕ, suc, Bool, true, false, Option, Some, None, List, [], ◌∷◌, ◌++◌, drop, length, take, take_all, refl, sym, ap, subst, ◌∙◌, arith, append_assoc, length-append}
 use Rattle.std.proofs.Math.Seq.{take-append-add}
-use Rattle.std.proofs.lemmas.List.{append-nil, length-take, take-append-drop, take-append-le}
+use Rattle.std.proofs.lemmas.List.{append-nil, drop_all, length-take, take-append-drop, take-append-le}
 use Rattle.edge_traits.specs.Disk.{DiskView, Image, IsImage, Leaves}
 use Rattle.edge_traits.proofs.Moments.{run_on, started, widened}
 use Rattle.step_code.specs.declared.base.Base.{Base}
@@ -12,10 +12,12 @@ use Rattle.step_code.specs.History.{replay, Legal}
 use Rattle.step_code.specs.Rules.{Meaning}
 use Rattle.step_code.specs.Spent.{NothingIsSpent, StaysSmall}
 use Rattle.seal_laws.proofs.Histories.{legal_whole, seals, seals_on, seals_self, small_whole}
+use Rattle.seal_laws.proofs.Renewed.{seals_whole}
 use Rattle.store_image.specs.Files.{generation_file}
 use Rattle.store_image.specs.Stands.{IsSealOf, Origin, Stands, StandsFor}
 use Rattle.store_image.proofs.Standing.{replay-append}
 use Rattle.journal_book.specs.Book.{BookView, durable_steps, waiting_steps, IsKept}
+use Rattle.journal_book.specs.Renewing.{renewed, IsBesideNext}
 use Rattle.journal_book.specs.Staged.{cause_of, step_cause}
 use Rattle.journal_book.specs.declared.stage_refusal.StageRefusal.{StageRefusal}
 use Rattle.journal_book.proofs.OneMore.{nothing_refuses}
@@ -198,3 +200,45 @@ module _ {D R : Type 0} {disk : D → DiskView} {m : Meaning} where
       from_the_start origin past now was image stands =
           stands_wider m origin ((past ++ front.archived) ++ durable_steps mid) (waiting_steps mid ++ more) (past ++ durable_steps old) (waiting_steps old ++ (made ++ more)) image (same_steps past)
           (omega (arith, front.durable origin past was, now.within, was.within, length-append (past ++ front.archived) (durable_steps mid), length-append past front.archived, length-append past (durable_steps old), length-take mid.kept mid.steps, length-take old.kept old.steps)) stands
+
+  -- the next generation is begun
+  pub renews : (old new : BookView D R) → old.kept ≡ length old.steps → new ≡ record (renewed old) { disk = new.disk }
+      → ((origin : Origin) (past : List Step) → IsKept disk m origin past old → IsKept disk m origin (past ++ old.steps) new)
+      → ((origin : Origin) (past : List Step) → IsKept disk m origin past old → Leaves (disk old.disk) (disk new.disk) (StandsFor m origin (past ++ old.steps) []))
+      → ((files : Image) → (disk old.disk).told ≡ Some files → LeavesAlone (disk old.disk) (disk new.disk) (IsBesideNext (suc old.generation))) → GoesOn disk m old new []
+  renews old new all book kept leaves others = record {
+    same = (ap (λ (b : BookView D R). b.rules) book, ap (λ (b : BookView D R). b.limit) book);
+    archived = old.steps;
+    splits = ap (λ (ss : List Step). old.steps ++ ss) (sym (ap (λ (b : BookView D R). b.steps) book));
+    state = subst (λ (s : Base). IsSealOf old.state s) (sym (ap (λ (b : BookView D R). b.state) book)) (seals_whole old.state);
+    legal = tt;
+    small = tt;
+    durable = λ origin past was. omega (arith, was.within);
+    kept = kept;
+    any_moment = λ origin past was. widened (all_or_some old past origin all) (leaves origin past was);
+    onward = omega (arith, ap (λ (b : BookView D R). b.generation) book);
+    others = λ files told. alone_narrower (λ file is. (is.0, is.2 (suc old.generation) (omega arith), is.1)) (others files told);
+  }
+    where
+      -- what stands for all steps stands for the durable ones, of which none waits
+      all_or_some : (book : BookView D R) (past : List Step) (origin : Origin) → book.kept ≡ length book.steps → (image : Image) → StandsFor m origin (past ++ book.steps) [] image → StandsFor m origin (past ++ durable_steps book) (waiting_steps book ++ []) image
+      all_or_some book past origin all image stands =
+          let durable : durable_steps book ≡ book.steps = ap (λ n. take n book.steps) all ∙ take_all (length book.steps) book.steps (omega arith) in
+          let none : waiting_steps book ++ [] ≡ [] = append-nil (waiting_steps book) ∙ ap (λ n. drop n book.steps) all ∙ drop_all (length book.steps) book.steps (omega arith) in
+          subst (λ (ss : List Step). StandsFor m origin (past ++ durable_steps book) ss image) (sym none) (subst (λ (ss : List Step). StandsFor m origin (past ++ ss) [] image) (sym durable) stands)
+
+  -- the next generation isn't begun
+  pub renews_not : (old new : BookView D R) (broken : Bool) → old.kept ≡ length old.steps → new ≡ record old { disk = new.disk; broken = broken }
+      → ((origin : Origin) (past : List Step) → IsKept disk m origin past old → IsKept disk m origin past new)
+      → ((origin : Origin) (past : List Step) → IsKept disk m origin past old → Leaves (disk old.disk) (disk new.disk) (StandsFor m origin (past ++ old.steps) []))
+      → ((files : Image) → (disk old.disk).told ≡ Some files → LeavesAlone (disk old.disk) (disk new.disk) (IsBesideNext (suc old.generation))) → GoesOn disk m old new []
+  renews_not old new broken all book kept leaves others =
+      makes_none old new (changes old new old.kept broken book) (λ origin past was. omega (arith, ap (λ (b : BookView D R). b.kept) book)) kept
+      (λ origin past was. widened (whole_steps old past origin all) (leaves origin past was))
+      (λ files told. alone_narrower (λ file is. (is.0, is.2 (suc old.generation) (omega arith), is.1)) (others files told))
+    where
+      whole_steps : (book : BookView D R) (past : List Step) (origin : Origin) → book.kept ≡ length book.steps → (image : Image) → StandsFor m origin (past ++ book.steps) [] image → StandsFor m origin (past ++ durable_steps book) (waiting_steps book) image
+      whole_steps book past origin all image stands =
+          let durable : durable_steps book ≡ book.steps = ap (λ n. take n book.steps) all ∙ take_all (length book.steps) book.steps (omega arith) in
+          let none : waiting_steps book ≡ [] = ap (λ n. drop n book.steps) all ∙ drop_all (length book.steps) book.steps (omega arith) in
+          subst (λ (ss : List Step). StandsFor m origin (past ++ durable_steps book) ss image) (sym none) (subst (λ (ss : List Step). StandsFor m origin (past ++ ss) [] image) (sym durable) stands)

@@ -1,4 +1,5 @@
 mod Brought
+pub mod Halves
 pub mod Numbered
 pub mod Past
 mod Places

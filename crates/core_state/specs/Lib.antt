@@ -2,5 +2,6 @@
 pub mod Caches
 pub mod Outputs
 pub mod Room
+pub mod Sealing
 pub mod Spent
 pub mod State

@@ -1,10 +1,11 @@
 //! What bots have written: so much that is sealed, and the lines behind it.
-ghost use Rattle.std.specs.Prelude.{◌≡◌, ◌+◌, ◌<◌, ◌++◌, ◌∷◌, [], true, length, min, sum_by, position, vec_len, vec_capacity, IfOk, OnOk};
+ghost use Rattle.std.specs.Prelude.{◌≡◌, ◌+◌, ◌<◌, ◌++◌, ◌∷◌, [], true, length, map, min, sum_by, position, vec_len, vec_capacity, IfOk, OnOk};
 ghost use Rattle.base_types.specs.Number.{last_u64};
 ghost use Rattle.std.specs.List.{list_any};
 ghost use Rattle.step_code.specs.After.{written};
 ghost use Rattle.step_code.specs.State.{is_out};
 ghost use Rattle.core_state.specs.Outputs.{HasLength, HasLineRoom, HaveLengths, is_written_by, out_of, outs_of};
+ghost use Rattle.core_state.specs.Sealing.{HasSmallOutput, HaveSmallOutputs, sealed_out};
 
 use base_types::{Blob, BotName, LineList, OutOfMemory};
 use std::alloc::{AllocError, Global};
@@ -151,4 +152,64 @@ pub fn from_lists(list: OutList, alloc: Global) -> Result<Vec<Written>, OutOfMem
         outs.push(from_list(out))?;
     }
     Ok(outs)
+}
+
+// With all of its lines sealed. Want of memory also where 64 bits don't hold its bytes or its lines. A length that is the
+// greatest number may stand for a greater one.
+fn sealed_copy(written: &Written, alloc: Global) -> Result<Output, OutOfMemory>
+    requires { HasLength written.now }
+    ensures copy { IfOk result (λ copy. copy ≡ sealed_out (out_of written.now)) }
+    ensures small { OnOk result (HasSmallOutput (out_of written.now)) }
+{
+    let lines = written.lines.len() as u64;
+    let Some(sealed_lines) = written.sealed_lines.checked_add(lines) else {
+        return Err(OutOfMemory);
+    };
+    if written.length == u64::MAX {
+        return Err(OutOfMemory);
+    }
+    Ok(Output {
+        bot: written.bot,
+        sealed_bytes: written.length,
+        sealed_lines,
+        lines: LineList::from(Vec::new(alloc)),
+    })
+}
+
+/// The outputs as lists, with all of their lines sealed. Want of memory also where 64 bits don't hold the bytes or the lines
+/// of one.
+pub fn sealed_copies(outs: &[Written], alloc: Global) -> Result<OutList, OutOfMemory>
+    requires { HaveLengths outs.now }
+    ensures list { IfOk result (λ list. list ≡ map sealed_out (outs_of outs.now)) }
+    ensures small { OnOk result (HaveSmallOutputs (outs_of outs.now)) }
+{
+    let mut list = Vec::with_capacity(alloc, outs.len())?;
+    'outs: for written in outs {
+        list.push(sealed_copy(written, alloc)?)?;
+    }
+    Ok(OutList::from(list))
+}
+
+// Seals all lines of an output, and drops them.
+fn seal(written: &mut Written, alloc: Global)
+    requires length { HasLength written.old }
+    requires small { HasSmallOutput (out_of written.old) }
+    ensures sealed { out_of written.new ≡ sealed_out (out_of written.old) }
+    ensures length { HasLength written.new }
+{
+    written.sealed_bytes = written.length;
+    written.sealed_lines += written.lines.len() as u64;
+    written.lines = Vec::new(alloc);
+}
+
+/// Seals all lines of all outputs, and drops them. It takes no memory.
+pub fn seal_all(outs: &mut Vec<Written>, alloc: Global)
+    requires lengths { HaveLengths outs.old.items }
+    requires small { HaveSmallOutputs (outs_of outs.old.items) }
+    ensures sealed { outs_of outs.new.items ≡ map sealed_out (outs_of outs.old.items) }
+    ensures lengths { HaveLengths outs.new.items }
+{
+    'outs: for written in outs.iter_mut() {
+        seal(written, alloc);
+    }
 }

@@ -18,8 +18,8 @@ use crate::state::State;
 use base_types::BotName;
 use step_code::{Facts, StepKind, bot_named, writes};
 
-// The last number that may be given.
-const LAST_GIVEN: u64 = 1 << 62;
+/// The last number that may be given.
+pub const LAST_GIVEN: u64 = 1 << 62;
 
 fn first_past(numbers: &[u64]) -> Option<u64>
     ensures { result ≡ find is_past numbers.now }

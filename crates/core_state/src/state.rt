@@ -1,10 +1,11 @@
 //! The state in parts that grow.
-ghost use Rattle.std.specs.Prelude.{◌≡◌, IfOk, map};
+ghost use Rattle.std.specs.Prelude.{◌≡◌, IfOk, OnOk, map};
 ghost use Rattle.std.specs.List.Sorted.{IsStrictlySortedBy};
 ghost use Rattle.std.specs.Ordering.{nat_cmp};
 ghost use Rattle.queue_broker.specs.Broker.{HaveQueues};
 ghost use Rattle.core_state.specs.Caches.{AreCaches};
-ghost use Rattle.core_state.specs.Outputs.{HaveLengths};
+ghost use Rattle.core_state.specs.Outputs.{HaveLengths, outs_of};
+ghost use Rattle.core_state.specs.Sealing.{HaveSmallOutputs, sealed_whole};
 ghost use Rattle.core_state.specs.State.{state_of};
 
 use crate::caches::Marks;
@@ -14,7 +15,7 @@ use base_types::{Blob, BotName, Moment, OutOfMemory};
 use dump_store::Dumps;
 use queue_broker::Broker;
 use std::alloc::Global;
-use step_code::{Base, BotList, Feed, FeedList};
+use step_code::{Base, BotList, Feed, FeedList, OutList};
 use stored_types::{Coded, copies};
 
 /// A pipeline's state, with room to grow.
@@ -60,9 +61,9 @@ pub fn from_base(alloc: Global, base: Base) -> Result<State, OutOfMemory>
     })
 }
 
-/// A copy of the state as a base.
-pub fn to_base(alloc: Global, state: &State) -> Result<Base, OutOfMemory>
-    ensures { IfOk result (λ base. base ≡ state_of state.now) }
+// A copy of the state as a base, with these outputs.
+fn base_with(alloc: Global, state: &State, outs: OutList) -> Result<Base, OutOfMemory>
+    ensures { IfOk result (λ base. base ≡ record (state_of state.now) { outs = outs }) }
 {
     Ok(Base {
         steps: state.steps,
@@ -76,8 +77,25 @@ pub fn to_base(alloc: Global, state: &State) -> Result<Base, OutOfMemory>
         hands: state.broker.hands_copy(alloc)?,
         caches: caches::copies(&state.caches, alloc)?,
         dumps: state.dumps.copy(alloc)?,
-        outs: outputs::copies(&state.outs, alloc)?,
+        outs,
         feeds: FeedList::from(copies(alloc, &state.feeds)?),
         halted: BotList::from(copies(alloc, &state.halted)?),
     })
+}
+
+/// A copy of the state as a base.
+pub fn to_base(alloc: Global, state: &State) -> Result<Base, OutOfMemory>
+    ensures { IfOk result (λ base. base ≡ state_of state.now) }
+{
+    base_with(alloc, state, outputs::copies(&state.outs, alloc)?)
+}
+
+/// A copy of the state as a base, with all lines of its outputs sealed. Want of memory also where 64 bits don't hold the bytes
+/// or the lines of an output.
+pub fn to_sealed_base(alloc: Global, state: &State) -> Result<Base, OutOfMemory>
+    requires { HaveLengths state.now.outs.items }
+    ensures base { IfOk result (λ base. base ≡ sealed_whole (state_of state.now)) }
+    ensures small { OnOk result (HaveSmallOutputs (outs_of state.now.outs.items)) }
+{
+    base_with(alloc, state, outputs::sealed_copies(&state.outs, alloc)?)
 }

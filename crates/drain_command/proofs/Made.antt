@@ -1,6 +1,7 @@
 -- The steps that a call makes, and what they leave of a store's history.
-use Rattle.std.proofs.Common.{◌≡◌, ◌≢◌, ◌+◌, ◌-◌, ◌++◌, [], ℕ, List, length, take, Bool, true, false, Option, Some, None, Ok, Err, IfErr, inl, inr, refl, sym, ap, subst, ◌∙◌, arith, length-append}
+use Rattle.std.proofs.Common.{◌≡◌, ◌≢◌, ◌+◌, ◌-◌, ◌++◌, [], ℕ, List, length, min, take, Bool, true, false, Option, Some, None, Ok, Err, IfErr, inl, inr, refl, sym, ap, subst, ◌∙◌, arith, length-append}
 use Rattle.std.proofs.lemmas.List.{append-nil}
+use Rattle.base_types.specs.Number.{last_u64}
 use Rattle.edge_traits.specs.Disk.{DiskView, Image, Leaves}
 use Rattle.edge_traits.specs.Shelf.{ShelfView}
 use Rattle.edge_traits.specs.Sink.{SinkView}
@@ -11,13 +12,14 @@ use Rattle.step_code.specs.History.{replay}
 use Rattle.step_code.specs.Rules.{Meaning}
 use Rattle.store_image.specs.Opens.{Opens}
 use Rattle.store_image.specs.Stands.{IsSealOf, Origin, StandsFor}
+use Rattle.store_image.specs.Stored.{codes_of}
 use Rattle.journal_book.specs.Book.{BookView}
-use Rattle.journal_book.specs.Opening.{opened as opened_with, IsReopenFault, IsReopened, StandsNow, TellsLong}
+use Rattle.journal_book.specs.Opening.{opened as opened_with, IsReopenFault, IsReopened, IsRootLength, StandsNow, TellsLong}
 use Rattle.journal_book.specs.Outputs.{AreCompleted, AreWritten}
 use Rattle.journal_book.specs.declared.book_fault.BookFault.{BookFault}
 use Rattle.journal_book.specs.declared.book_fault.BookFault.TheVariants as fault
 use Rattle.book_runs.specs.GoesOn.{GoesOn}
-use Rattle.book_runs.proofs.Going.{goes_further, longer_on}
+use Rattle.book_runs.proofs.Going.{goes_further}
 use Rattle.store_calls.specs.Calls.{IsOpened as IsOpenedCall}
 use Rattle.store_calls.proofs.Called.{called, count_called, opened_so, sealed_state, AllAccounted}
 use Rattle.store_commands.specs.Completed.{IsFinished}
@@ -29,7 +31,7 @@ use Rattle.drain_turns.specs.Drained.{Drains, Place}
 use Rattle.drain_turns.specs.Turn.{Outside}
 use Rattle.drain_turns.specs.declared.end.TurnsEnd.{TurnsEnd}
 use Rattle.drain_turns.specs.declared.end.TurnsEnd.TheVariants as last
-use Rattle.drain_loop.specs.Calls.{opening_of, place_with, IsDrained, IsOpened}
+use Rattle.drain_loop.specs.Calls.{opening_of, place_with, IsDrained, IsOpened, IsUndamaged}
 use Rattle.drain_loop.specs.Feeds.{FailedBeyond}
 use Rattle.drain_command.specs.Drained.{start, Drained, IsCallIn, IsDrainCall, IsFailedBeyond, IsStill, MayEndDrain}
 use Rattle.drain_command.specs.Turned.{ended, IsTurned}
@@ -44,14 +46,18 @@ module _ {D R : Type 0} {disk : D → DiskView} where
     made = opened.made ++ drained.made;
     drains = opened.opens drained.made why drained.drains;
     run = goes_further old mid new opened.made drained.made opened.goes_on drained.goes_on;
-    book = longer_on o.meaning old mid new opened.made drained.made opened.book drained.book;
   }
 
   -- the opening alone
   pub turned_off : (o : Outside) (asked : Asked) (old new : BookView D R) (why : TurnsEnd)
       → IsOpened disk o (place_with (opening_of o.meaning old.state asked.opening.bundle asked.opening.rounds) old asked.left) [] old new (Err why)
       → IsTurned disk o asked old new why
-  turned_off o asked old new why opened = record { made = opened.made; drains = opened.opens; run = opened.goes_on; book = opened.book }
+  turned_off o asked old new why opened = record { made = opened.made; drains = opened.opens; run = opened.goes_on }
+
+  -- neither damage ends
+  pub undamaged_on : (m : Meaning) (files : Image) (old mid : BookView D R) (made : List Step) (why : TurnsEnd) → (disk old.disk).told ≡ Some files → GoesOn disk m old mid made
+      → ((now : Image) → (disk mid.disk).told ≡ Some now → IsUndamaged why) → IsUndamaged why
+  undamaged_on m files old mid made why told run each = let there = (run.others files told).told files told in each there.0 there.1
 
   -- a run that makes no more steps behind another
   pub still_runs : (m : Meaning) (old mid new : BookView D R) (made : List Step) → GoesOn disk m old mid made → GoesOn disk m mid new [] → GoesOn disk m old new made
@@ -62,17 +68,19 @@ pub record Reopened {D R : Type 0} (disk : D → DiskView) (m : Meaning) (files 
   pub all : book.kept ≡ length book.steps
   pub state : book.state ≡ replay m book.base book.steps
   pub opens : Opens m files book.generation book.base book.steps
+  pub root : IsRootLength files book.generation book.root
   pub tells : (now : Image) × ((disk book.disk).told ≡ Some now)
   pub call : (origin : Origin) (steps more : List Step) → StandsNow m origin steps more (disk old) → IsOpenedCall disk m origin steps more old book
 
-pub reopened_so : {D R : Type 0} {disk : D → DiskView} {m : Meaning} (files : Image) (old : D) (rules : R) (limit : ℕ) (book : BookView D R) → book ≡ opened_with m rules book.generation book.base book.steps limit book.disk
-    → Opens m files book.generation book.base book.steps → TellsLong (disk book.disk).told book.state.outs
+pub reopened_so : {D R : Type 0} {disk : D → DiskView} {m : Meaning} (files : Image) (old : D) (rules : R) (limit : ℕ) (book : BookView D R) → book ≡ opened_with m rules book.generation book.root book.base book.steps limit book.disk
+    → Opens m files book.generation book.base book.steps → IsRootLength files book.generation book.root → TellsLong (disk book.disk).told book.state.outs
     → ((origin : Origin) (steps more : List Step) → StandsNow m origin steps more (disk old) → IsReopened disk m origin steps more book)
     → ((origin : Origin) (steps more : List Step) → StandsNow m origin steps more (disk old) → Leaves (disk old) (disk book.disk) (StandsFor m origin steps more)) → Reopened disk m files old book
-reopened_so {D = D} {R = R} files old rules limit book is opens long kept any_moment = record {
+reopened_so {D = D} {R = R} files old rules limit book is opens root long kept any_moment = record {
   all = ap (λ (b : BookView D R). b.kept) is;
   state = ap (λ (b : BookView D R). b.state) is;
   opens = opens;
+  root = root;
   tells = (long.0, long.1);
   call = λ origin steps more was. opened_so origin steps more old rules limit book is (kept origin steps more was) (any_moment origin steps more was);
 }
@@ -86,11 +94,11 @@ module _ {D R : Type 0} {disk : D → DiskView} (o : Outside) (accounts : AllAcc
   abbrev made_durable : ℕ
   made_durable = (length run.archived + later.kept) - opened.kept
 
-  place_is : place_with (opening_of o.meaning opened.state asked.opening.bundle asked.opening.rounds) opened asked.left ≡ start o.meaning opened.base opened.steps asked
-  place_is = ap (λ (s : Base). record { opening = opening_of o.meaning s asked.opening.bundle asked.opening.rounds; left = asked.left; steps = opened.steps; state = s }) is.state
+  place_is : place_with (opening_of o.meaning opened.state asked.opening.bundle asked.opening.rounds) opened asked.left ≡ start o.meaning opened.generation opened.root opened.base opened.steps asked
+  place_is = ap (λ (s : Base). record { opening = opening_of o.meaning s asked.opening.bundle asked.opening.rounds; left = asked.left; bytes = min (length (codes_of opened.steps)) last_u64; generation = opened.generation; root = opened.root; state = s }) is.state
 
-  state_now : mid.state ≡ replay o.meaning (replay o.meaning opened.base opened.steps) turned.made
-  state_now = ap (λ (b : BookView D R). b.state) turned.book ∙ ap (λ (s : Base). replay o.meaning s turned.made) is.state
+  state_now : IsSealOf (replay o.meaning (replay o.meaning opened.base opened.steps) turned.made) mid.state
+  state_now = subst (λ (s : Base). IsSealOf (replay o.meaning s turned.made) mid.state) is.state turned.run.state
 
   call_in : (durable : ℕ) (origin : Origin) (steps more : List Step) → (was : IsOpenedCall disk o.meaning origin steps more old opened)
       → made_durable ≡ durable → IsCallIn disk o.meaning origin steps more (disk old) (disk later.disk) (replay o.meaning opened.base opened.steps) turned.made durable
@@ -107,9 +115,11 @@ module _ {D R : Type 0} {disk : D → DiskView} (o : Outside) (accounts : AllAcc
   pub drained : (durable : ℕ) → made_durable ≡ durable → Drained disk o files asked (disk old) (disk later.disk) why
   drained durable number = record {
     generation = opened.generation;
+    root = opened.root;
     base = opened.base;
     read = opened.steps;
     opens = is.opens;
+    root_is = is.root;
     made = turned.made;
     drains = subst (λ (p : Place). Drains o p turned.made why) place_is turned.drains;
     state = mid.state;
@@ -135,27 +145,27 @@ module _ {D R : Type 0} {disk : D → DiskView} (o : Outside) (accounts : AllAcc
   drain_broken now sink = (Took-nothing sink, inr (why, drained made_durable refl))
 
   -- by how the book was finished behind them
-  pub drain_called : (now : ShelfView) → IsFailedBeyond o now mid.state why → why ≢ last.Disk → (is_said : Bool) → (why ≡ last.Memory → is_said ≡ false) → (e : StoreEnd) (a b : SinkView) → IsFinished is_said mid.state e a b
+  pub drain_called : (now : ShelfView) → IsFailedBeyond o now mid.state why → why ≢ last.Disk → ((file at : ℕ) → why ≢ last.Damaged file at) → (is_said : Bool) → (why ≡ last.Memory → is_said ≡ false) → (e : StoreEnd) (a b : SinkView) → IsFinished is_said mid.state e a b
       → (e ≢ end.Disk → later.kept ≡ length later.steps)
       → ((before after : Image) → (disk mid.disk).told ≡ Some before → (disk later.disk).told ≡ Some after → AreWrittenAt e (AreCompleted (disk later.disk).may_leave mid.state.outs before after))
       → ((origin : Origin) (history : List Step) → StandsNow o.meaning origin history [] (disk later.disk) → AreWrittenAt e (AreWritten o.meaning origin.first history (disk later.disk)))
       → ((files : Image) (file at : ℕ) → (disk mid.disk).told ≡ Some files → e ≢ end.Damaged file at)
       → ((disk mid.disk).told ≡ None → (disk later.disk).told ≡ None) → IsDrainCall disk o now files asked (disk old) (disk later.disk) (ended e is_said why) a b
   unfolding drained
-  drain_called now failed whole_disk true memory end.Done a b finished all completed written undamaged untold =
-      ((whole_disk, λ same. cc (memory same)), drained (length turned.made) (all_number (all (λ same. cc (same)))), refl, record { completed = λ after tells. whole (disk mid.disk).told after _ untold tells (λ before was. completed before after was tells); written = written }, finished, failed)
-  drain_called now failed whole_disk false memory end.Done a b finished all completed written undamaged untold = (finished, inr (why, drained (length turned.made) (all_number (all (λ same. cc (same)))), refl))
-  drain_called now failed whole_disk is_said memory end.Sink a b finished all completed written undamaged untold =
-      (why, (whole_disk, λ same. cc (finished.0, memory same)), drained (length turned.made) (all_number (all (λ same. cc (same)))), refl, record { completed = λ after tells. whole (disk mid.disk).told after _ untold tells (λ before was. completed before after was tells); written = written }, finished.1, failed)
-  drain_called now failed whole_disk is_said memory end.Memory a b finished all completed written undamaged untold = (finished, inr (why, drained (length turned.made) (all_number (all (λ same. cc (same)))), refl))
-  drain_called now failed whole_disk is_said memory end.Disk a b finished all completed written undamaged untold = (finished, inr (why, drained made_durable refl))
-  drain_called now failed whole_disk is_said memory (end.Damaged file at) a b finished all completed written undamaged untold =
+  drain_called now failed whole_disk sound true memory end.Done a b finished all completed written undamaged untold =
+      ((whole_disk, (λ same. cc (memory same)), sound), drained (length turned.made) (all_number (all (λ same. cc (same)))), refl, record { completed = λ after tells. whole (disk mid.disk).told after _ untold tells (λ before was. completed before after was tells); written = written }, finished, failed)
+  drain_called now failed whole_disk sound false memory end.Done a b finished all completed written undamaged untold = (finished, inr (why, drained (length turned.made) (all_number (all (λ same. cc (same)))), refl))
+  drain_called now failed whole_disk sound is_said memory end.Sink a b finished all completed written undamaged untold =
+      (why, (whole_disk, (λ same. cc (finished.0, memory same)), sound), drained (length turned.made) (all_number (all (λ same. cc (same)))), refl, record { completed = λ after tells. whole (disk mid.disk).told after _ untold tells (λ before was. completed before after was tells); written = written }, finished.1, failed)
+  drain_called now failed whole_disk sound is_said memory end.Memory a b finished all completed written undamaged untold = (finished, inr (why, drained (length turned.made) (all_number (all (λ same. cc (same)))), refl))
+  drain_called now failed whole_disk sound is_said memory end.Disk a b finished all completed written undamaged untold = (finished, inr (why, drained made_durable refl))
+  drain_called now failed whole_disk sound is_said memory (end.Damaged file at) a b finished all completed written undamaged untold =
       let mid_told = (turned.run.others is.tells.0 is.tells.1).told is.tells.0 is.tells.1 in absurd (undamaged mid_told.0 file at mid_told.1 refl)
-  drain_called now failed whole_disk is_said memory (end.Store have) a b finished all completed written undamaged untold = absurd finished
-  drain_called now failed whole_disk is_said memory end.Refused a b finished all completed written undamaged untold = absurd finished
-  drain_called now failed whole_disk is_said memory (end.NoDump n) a b finished all completed written undamaged untold = absurd finished
-  drain_called now failed whole_disk is_said memory (end.Spent next) a b finished all completed written undamaged untold = absurd finished
-  drain_called now failed whole_disk is_said memory (end.Full bytes) a b finished all completed written undamaged untold = absurd finished
+  drain_called now failed whole_disk sound is_said memory (end.Store have) a b finished all completed written undamaged untold = absurd finished
+  drain_called now failed whole_disk sound is_said memory end.Refused a b finished all completed written undamaged untold = absurd finished
+  drain_called now failed whole_disk sound is_said memory (end.NoDump n) a b finished all completed written undamaged untold = absurd finished
+  drain_called now failed whole_disk sound is_said memory (end.Spent next) a b finished all completed written undamaged untold = absurd finished
+  drain_called now failed whole_disk sound is_said memory (end.Full bytes) a b finished all completed written undamaged untold = absurd finished
 
 -- a feed that failed ended the turns beyond these retries
 pub failed_beyond : (o : Outside) (now : ShelfView) (s : Base) (end_is : TurnsEnd) → ((name : List ℕ) → end_is ≡ last.Failed name → FailedBeyond (collectors o.meaning s) o.shelf now name) → IsFailedBeyond o now s end_is
@@ -169,6 +179,7 @@ failed_beyond o now s (last.LongFeed bot) each = tt
 failed_beyond o now s (last.Halted bot) each = tt
 failed_beyond o now s (last.Spent next) each = tt
 failed_beyond o now s (last.Full bytes) each = tt
+failed_beyond o now s (last.Damaged file at) each = tt
 failed_beyond o now s last.Disk each = tt
 failed_beyond o now s last.Memory each = tt
 

@@ -48,15 +48,15 @@ opens_so m s asked = (tt, reloads asked.opening.bundle (rounds_of m (with_bundle
 module _ {D : Type 0} (disk : D → DiskView) (o : Outside) (feeds : List (List ℕ × List ℕ)) (files : Image) (asked : Asked) (old new : DiskView)
     (is : IsUnhindered disk o feeds files asked old new) where
   -- wherever it comes to, nothing hinders it
-  free : (why : TurnsEnd) (d : Drained disk o files asked old new why) → IsFree o feeds (behind_all o.meaning (start o.meaning d.base d.read asked) d.made)
+  free : (why : TurnsEnd) (d : Drained disk o files asked old new why) → IsFree o feeds (behind_all o (start o.meaning d.generation d.root d.base d.read asked) d.made)
   free why d = record {
-    feeds = opened_feeds_are_readable o (start o.meaning d.base d.read asked) feeds d.made why is.shelf (opens_so o.meaning (replay o.meaning d.base d.read) asked)
+    feeds = opened_feeds_are_readable o (start o.meaning d.generation d.root d.base d.read asked) feeds d.made why is.shelf (opens_so o.meaning (replay o.meaning d.base d.read) asked)
         (is.sound d.generation d.base d.read d.opens.stored) (is.readable d.generation d.base d.read d.opens.stored) d.drains;
     room = is.room why d;
   }
 
   idle_of : (why : TurnsEnd) → Drained disk o files asked old new why → IsShown why → why ≡ last.Idle
-  idle_of why d shown = free_calls_end_idle o (start o.meaning d.base d.read asked) feeds d.made why is.shelf is.unbound (free why d) shown d.drains
+  idle_of why d shown = free_calls_end_idle o (start o.meaning d.generation d.root d.base d.read asked) feeds d.made why is.shelf is.unbound (free why d) shown d.drains
 
   turns_end : (why : TurnsEnd) → IsToldEnd why → Drained disk o files asked old new why → EndIdly why
   turns_end last.Idle told d = tt
@@ -69,6 +69,7 @@ module _ {D : Type 0} (disk : D → DiskView) (o : Outside) (feeds : List (List 
   turns_end (last.Halted bot) told d = absurd (cc (idle_of (last.Halted bot) d tt))
   turns_end (last.Spent next) told d = absurd (cc (idle_of (last.Spent next) d tt))
   turns_end (last.Full bytes) told d = absurd (cc (idle_of (last.Full bytes) d tt))
+  turns_end (last.Damaged file at) told d = absurd (told.2 file at refl)
   turns_end last.Disk told d = absurd (told.0 refl)
   turns_end last.Memory told d = absurd (told.1 refl)
 

@@ -1,5 +1,6 @@
 -- What `drain` makes of a store.
-use Rattle.std.specs.Prelude.{◌≡◌, ◌≢◌, ◌⊎◌, ◌<◌, ℕ, List, [], ◌++◌, length, take, Some, Result, Ok, Err}
+use Rattle.std.specs.Prelude.{◌≡◌, ◌≢◌, ◌⊎◌, ◌<◌, ℕ, List, [], ◌++◌, length, min, take, Some, Result, Ok, Err}
+use Rattle.base_types.specs.Number.{last_u64}
 use Rattle.edge_traits.specs.Disk.{DiskView, Image}
 use Rattle.edge_traits.specs.Output.{TookFront}
 use Rattle.edge_traits.specs.Shelf.{ShelfView}
@@ -14,7 +15,8 @@ use Rattle.store_image.specs.Damage.{IsDamagedStore}
 use Rattle.store_image.specs.Files.{root_file}
 use Rattle.store_image.specs.Opens.{Opens}
 use Rattle.store_image.specs.Stands.{IsSealOf, Origin}
-use Rattle.journal_book.specs.Opening.{StandsNow}
+use Rattle.store_image.specs.Stored.{codes_of}
+use Rattle.journal_book.specs.Opening.{IsRootLength, StandsNow}
 use Rattle.journal_book.specs.Outputs.{AreCompleted, AreWritten}
 use Rattle.store_calls.specs.Calls.{IsCall, StandsOn}
 use Rattle.store_commands.specs.declared.end.StoreEnd.{StoreEnd}
@@ -28,9 +30,18 @@ use Rattle.drain_loop.specs.Calls.{opening_of}
 use Rattle.drain_loop.specs.Feeds.{FailedBeyond}
 use Rattle.drain_command.specs.declared.draining.Asked.{Asked}
 
--- where a call begins on a store that opens with this state and with these steps behind it
-abbrev pub start : Meaning → Base → List Step → Asked → Place
-start m base read asked = record { opening = opening_of m (replay m base read) asked.opening.bundle asked.opening.rounds; left = asked.left; steps = read; state = replay m base read }
+-- where a call begins on a store that opens with this generation and this length of the root's file, and in it with this state and with
+-- these steps behind it
+abbrev pub start : Meaning → ℕ → ℕ → Base → List Step → Asked → Place
+start m generation root base read asked =
+    record {
+      opening = opening_of m (replay m base read) asked.opening.bundle asked.opening.rounds;
+      left = asked.left;
+      bytes = min (length (codes_of read)) last_u64;
+      generation = generation;
+      root = root;
+      state = replay m base read;
+    }
 
 -- a call on a disk that stood for these steps of the store of this origin, and a front of those behind them, read
 -- this state of it, up to lines that are sealed, and made these steps, of which so many are durable
@@ -38,17 +49,19 @@ pub record IsCallIn {D : Type 0} (disk : D → DiskView) (m : Meaning) (origin :
   pub call : IsCall disk m origin steps more old new made durable
   pub reads : IsSealOf (replay m origin.first (steps ++ take call.count more)) state
 
--- the store opens; the steps that were made, one by one as they were due, and why there are no more; the state behind them; and
--- what the disk stands for, at any moment of the call and behind it
+-- the store opens; the steps that were made, one by one as they were due, and why there are no more; the state behind them, with more
+-- lines of outputs sealed where generations were begun on the way; and what the disk stands for, at any moment of the call and behind it
 pub record Drained {D : Type 0} (disk : D → DiskView) (o : Outside) (files : Image) (asked : Asked) (old new : DiskView) (why : TurnsEnd) : Type 0 where
   pub generation : ℕ
+  pub root : ℕ
   pub base : Base
   pub read : List Step
   pub opens : Opens o.meaning files generation base read
+  pub root_is : IsRootLength files generation root
   pub made : List Step
-  pub drains : Drains o (start o.meaning base read asked) made why
+  pub drains : Drains o (start o.meaning generation root base read asked) made why
   pub state : Base
-  pub state_is : state ≡ replay o.meaning (replay o.meaning base read) made
+  pub state_is : IsSealOf (replay o.meaning (replay o.meaning base read) made) state
   pub durable : ℕ
   pub call : (origin : Origin) (steps more : List Step) → StandsNow o.meaning origin steps more old → IsCallIn disk o.meaning origin steps more old new (replay o.meaning base read) made durable
 
@@ -67,9 +80,9 @@ pub record HasOutputs (m : Meaning) (new : DiskView) (outs : List Output) : Type
 abbrev pub IsStill : Meaning → DiskView → DiskView → Type 0
 IsStill m old new = (origin : Origin) (steps more : List Step) → StandsNow m origin steps more old → StandsOn m origin steps more old new
 
--- an end that is told: neither the disk nor memory ended the turns
+-- an end that is told: neither the disk nor memory nor damage of an output's file ended the turns
 abbrev pub IsToldEnd : TurnsEnd → Type 0
-IsToldEnd why = (why ≢ last.Disk) × (why ≢ last.Memory)
+IsToldEnd why = (why ≢ last.Disk) × (why ≢ last.Memory) × ((file at : ℕ) → why ≢ last.Damaged file at)
 
 -- where the turns ended since a feed failed, it failed more often than a collector that reads it tries again, by the plan of the
 -- state where they ended

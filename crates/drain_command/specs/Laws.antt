@@ -6,7 +6,7 @@ use Rattle.edge_traits.specs.Sink.{SinkView}
 use Rattle.step_code.specs.declared.base.Base.{Base}
 use Rattle.step_code.specs.declared.rules.Facts.{Facts}
 use Rattle.step_code.specs.declared.step.Step.{Step}
-use Rattle.step_code.specs.History.{first, Legal}
+use Rattle.step_code.specs.History.{first, replay, Legal}
 use Rattle.step_code.specs.Rules.{AreSound, Meaning}
 use Rattle.step_code.specs.Spent.{NothingIsSpent}
 use Rattle.step_code.specs.State.{bots_in_force}
@@ -20,6 +20,7 @@ use Rattle.drain_turns.specs.Laws.{opened, HasFeeds, HasRoom}
 use Rattle.drain_turns.specs.Turn.{Outside}
 use Rattle.drain_turns.specs.declared.end.TurnsEnd.{TurnsEnd}
 use Rattle.drain_turns.specs.declared.end.TurnsEnd.TheVariants as last
+use Rattle.drain_loop.specs.Calls.{opening_of}
 use Rattle.drain_command.specs.Drained.{start, Drained, IsDrainCall}
 use Rattle.drain_command.specs.declared.draining.Asked.{Asked}
 
@@ -35,6 +36,7 @@ EndIdly (last.LongFeed bot) = ⊥
 EndIdly (last.Halted bot) = ⊥
 EndIdly (last.Spent next) = ⊥
 EndIdly (last.Full bytes) = ⊥
+EndIdly (last.Damaged file at) = ⊥
 EndIdly last.Disk = ⊥
 EndIdly last.Memory = ⊥
 
@@ -48,7 +50,7 @@ EndsIdly (Err other) = ⊥
 
 -- the state to which a drain's opening leads, as it is known ahead: another bundle may be in force, and rounds begun
 abbrev pub opened_state : Meaning → Base → List Step → Asked → Base
-opened_state m base read asked = opened m (start m base read asked).state (start m base read asked).opening
+opened_state m base read asked = opened m (replay m base read) (opening_of m (replay m base read) asked.opening.bundle asked.opening.rounds)
 
 -- nothing hinders a drain: it may make any number of steps, the shelf and the disk tell what they have, the store began with a
 -- bundle and stands for a legal history in which no number is spent; the shelf has the feeds of the collectors as they stand
@@ -68,7 +70,7 @@ pub record IsUnhindered {D : Type 0} (disk : D → DiskView) (o : Outside) (feed
   pub small : NothingIsSpent o.meaning (first bots bundle) (steps ++ more)
   pub sound : (generation : ℕ) (base : Base) (read : List Step) → IsStored files generation base read → AreSound (bots_in_force o.meaning (opened_state o.meaning base read asked))
   pub readable : (generation : ℕ) (base : Base) (read : List Step) → IsStored files generation base read → HasFeeds feeds o.meaning (opened_state o.meaning base read asked)
-  pub room : (why : TurnsEnd) (d : Drained disk o files asked old new why) → HasRoom o (behind_all o.meaning (start o.meaning d.base d.read asked) d.made)
+  pub room : (why : TurnsEnd) (d : Drained disk o files asked old new why) → HasRoom o (behind_all o (start o.meaning d.generation d.root d.base d.read asked) d.made)
 
 -- such a drain does all that there is to do
 abbrev pub FreeDrainsEndIdle : {D : Type 0} → (D → DiskView) → Meaning → Type 0

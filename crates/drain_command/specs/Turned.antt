@@ -3,7 +3,7 @@ use Rattle.std.specs.Prelude.{◌≡◌, Bool, true, false, List, Result, Ok, Er
 use Rattle.edge_traits.specs.Disk.{DiskView}
 use Rattle.step_code.specs.declared.step.Step.{Step}
 use Rattle.journal_book.specs.Book.{BookView}
-use Rattle.book_runs.specs.GoesOn.{longer, GoesOn}
+use Rattle.book_runs.specs.GoesOn.{GoesOn}
 use Rattle.store_commands.specs.declared.end.StoreEnd.{StoreEnd}
 use Rattle.store_commands.specs.declared.end.StoreEnd.TheVariants as end
 use Rattle.drain_turns.specs.Drained.{Drains}
@@ -17,7 +17,6 @@ pub record IsTurned {D R : Type 0} (disk : D → DiskView) (o : Outside) (asked 
   pub made : List Step
   pub drains : Drains o (place_with (opening_of o.meaning old.state asked.opening.bundle asked.opening.rounds) old asked.left) made why
   pub run : GoesOn disk o.meaning old new made
-  pub book : new ≡ longer o.meaning old made new
 
 -- how a drain ends whose book was finished so, with its summary or without, behind turns that ended so
 abbrev pub ended : StoreEnd → Bool → TurnsEnd → Result TurnsEnd StoreEnd

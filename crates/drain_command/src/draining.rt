@@ -33,13 +33,14 @@ pub struct Asked {
 }
 
 /// Opens a store, and makes the steps of turns on one thread until nothing is left to do, or another cause of `TurnsEnd`
-/// comes. The steps are made durable, the outputs are completed, and the summary of the state is printed. The disk comes back.
+/// comes. Where more than half of a generation is taken, the next one is begun ahead of the next step. The steps are made durable, the
+/// outputs are completed, and the summary of the state is printed. The disk comes back.
 ///
 /// # Errors
 ///
 /// `Memory` where there was none: nothing is printed, and where the store was opened its steps are durable. `Disk` where the disk
 /// failed. `Sink` where the output failed: the steps are durable, and the outputs are complete. `Store` with 0 bytes where there is
-/// no store. `Damaged` where it is damaged.
+/// no store. `Damaged` where it is damaged; that an output's file is too short may be found on the way too, ahead of a step.
 pub fn drain<D: Disk, R: Rules, H: Shelf, C: Clock, S: Sink>(
     alloc: Global,
     disk: D,
@@ -81,6 +82,9 @@ pub fn drain<D: Disk, R: Rules, H: Shelf, C: Clock, S: Sink>(
             let last = make_turns(alloc, &mut book, shelf, clock, asked);
             match last {
                 TurnsEnd::Disk => (Err(StoreEnd::Disk), book.into_disk()),
+                TurnsEnd::Damaged { file, at } => {
+                    (Err(StoreEnd::Damaged { file, at }), book.into_disk())
+                }
                 _ => {
                     let is_said = has_memory(&last);
                     let end = finish(alloc, &mut book, is_said, out);

@@ -1,8 +1,9 @@
 ghost use Rattle.std.specs.Prelude.{◌≡◌, ◌≤◌, ◌↔◌, ℕ, List, true, false, Some, None, IsSome};
 ghost use Rattle.edge_traits.specs.Count.{Rose};
+ghost use Rattle.edge_traits.specs.Disk.{Image};
 ghost use Rattle.edge_traits.specs.Shelf.{count_on};
 ghost use Rattle.turn_order.specs.Turn.{collectors};
-ghost use Rattle.drain_loop.specs.Calls.{outside};
+ghost use Rattle.drain_loop.specs.Calls.{outside, IsUndamaged};
 ghost use Rattle.drain_loop.specs.Feeds.{FailedBeyond};
 ghost use Rattle.drain_command.specs.Turned.{IsTurned};
 
@@ -26,6 +27,7 @@ pub(crate) fn make_turns<D: Disk, R: Rules, H: Shelf, C: Clock>(
     requires loads { (bundle : List ℕ) → asked.opening.bundle ≡ Some bundle → IsSome (R.meaning.facts bundle) }
     ensures turned { IsTurned D.disk (outside R.meaning (H.shelf shelf.old) (C.told clock.now) book.old.limit) asked book.old book.new result }
     ensures broken { (result ≡ TurnsEnd.Disk) ↔ (book.new.broken ≡ true) }
+    ensures undamaged { (files : Image) → (D.disk book.old.disk).told ≡ Some files → IsUndamaged result }
     ensures disk { result ≡ TurnsEnd.Disk → Rose (D.disk book.old.disk).faults (D.disk book.new.disk).faults }
     ensures failed { (name : List ℕ) → result ≡ TurnsEnd.Failed name → FailedBeyond (collectors R.meaning book.new.state) (H.shelf shelf.old) (H.shelf shelf.new) name }
     ensures told { (H.shelf shelf.new).told ≡ (H.shelf shelf.old).told }

@@ -19,11 +19,13 @@ use Rattle.history_laws.proofs.SoundNames.{bots_apart}
 use Rattle.step_code.specs.Rules.{AreSound, Meaning, collects, is_collector, last_moment, passes}
 use Rattle.step_code.specs.State.{bots_in_force, bots_of, has_finished, is_feed}
 use Rattle.turn_order.proofs.Actors.{IsNamed, all_named}
+use Rattle.store_image.specs.Stands.{IsSealOf}
 use Rattle.journal_book.specs.Book.{BookView}
 use Rattle.journal_book.specs.Staged.{screened, staged, stamp, IsMove}
 use Rattle.journal_book.proofs.OneMore.{may_stage}
-use Rattle.book_runs.specs.GoesOn.{longer, GoesOn, IsSameBook}
-use Rattle.book_runs.proofs.Going.{goes_further, goes_nowhere, longer_none, longer_on}
+use Rattle.book_runs.specs.Commit.{readied}
+use Rattle.book_runs.specs.GoesOn.{longer, GoesOn}
+use Rattle.book_runs.proofs.Going.{goes_further, goes_nowhere}
 use Rattle.drain_turns.specs.Drained.{Drains, Ends, IsDue, IsMade, IsNextKind, Place}
 use Rattle.drain_turns.specs.Turn.{Outside, MayShow}
 use Rattle.drain_turns.specs.declared.end.TurnsEnd.{TurnsEnd}
@@ -31,6 +33,7 @@ use Rattle.drain_turns.proofs.Opened.{reload_bundle, reload_feeds}
 use Rattle.drain_turns.proofs.Turning.{all_kept}
 use Rattle.drain_loop.specs.Calls.{place_with, round_of, rounds_of, with_bundle, IsOpened}
 use Rattle.drain_loop.specs.Opening.{HaveFinished, IsPlain}
+use Rattle.drain_loop.proofs.Turning.{behind_is}
 
 -- ---- a step that carries nothing
 
@@ -83,26 +86,25 @@ module _ {D R : Type 0} {disk : D → DiskView} where
   -- none is made
   pub opens_none : (o : Outside) (later : List StepKind) (left : Option ℕ) (book : BookView D R) → ((image : Image) → (disk book.disk).left_since (disk book.disk).moment image → IsImage (disk book.disk).may_leave image)
       → IsOpened disk o (place_with later book left) later book book (Ok left)
-  opens_none o later left book only = record { made = []; goes_on = goes_nowhere book only; book = longer_none o.meaning book book refl; opens = λ more last rest. rest }
+  opens_none o later left book only = record { made = []; goes_on = goes_nowhere book only; opens = λ more last rest. rest }
 
   -- the call ends at once
-  pub ends_opening : (o : Outside) (start : Place) (later : List StepKind) (old new : BookView D R) (last : TurnsEnd) → Ends o start last → GoesOn disk o.meaning old new [] → IsSameBook old new → IsOpened disk o start later old new (Err last)
-  ends_opening o start later old new last ends still same = record { made = []; goes_on = still; book = longer_none o.meaning old new same; opens = ends }
+  pub ends_opening : (o : Outside) (start : Place) (later : List StepKind) (old new : BookView D R) (last : TurnsEnd) → Ends o start last → GoesOn disk o.meaning old new [] → IsOpened disk o start later old new (Err last)
+  ends_opening o start later old new last ends still = record { made = []; goes_on = still; opens = ends }
 
   -- where it ends, no steps to come matter
   pub ends_anyhow : (o : Outside) (start : Place) (later other : List StepKind) (old new : BookView D R) (last : TurnsEnd) → IsOpened disk o start later old new (Err last) → IsOpened disk o start other old new (Err last)
-  ends_anyhow o start later other old new last is = record { made = is.made; goes_on = is.goes_on; book = is.book; opens = is.opens }
+  ends_anyhow o start later other old new last is = record { made = is.made; goes_on = is.goes_on; opens = is.opens }
 
   -- one is made
-  pub opens_one : (o : Outside) (what : StepKind) (later : List StepKind) (left fewer : Option ℕ) (old new : BookView D R) (step : Step) → IsMade o (place_with (what ∷ later) old left) step → GoesOn disk o.meaning old new (step ∷ [])
-      → new ≡ longer o.meaning old (step ∷ []) new → fewer ≡ option_map (λ n. n - 1) left → IsOpened disk o (place_with (what ∷ later) old left) later old new (Ok fewer)
-  opens_one o what later left fewer old new step made goes_on book is = record {
+  pub opens_one : (o : Outside) (what : StepKind) (later : List StepKind) (left fewer : Option ℕ) (old new : BookView D R) (step : Step) → o.limit ≡ old.limit → IsMade o (place_with (what ∷ later) old left) step → GoesOn disk o.meaning old new (step ∷ [])
+      → new ≡ longer o.meaning (readied old) (step ∷ []) new → fewer ≡ option_map (λ n. n - 1) left → IsOpened disk o (place_with (what ∷ later) old left) later old new (Ok fewer)
+  opens_one o what later left fewer old new step limit made goes_on book is = record {
     made = step ∷ [];
     goes_on = goes_on;
-    book = book;
     opens = λ more last rest. (
       made,
-      subst (λ (b : BookView D R). Drains o (place_with later b (option_map (λ n. n - 1) left)) more last) book (subst (λ (l : Option ℕ). Drains o (place_with later new l) more last) is rest),
+      subst (λ (p : Place). Drains o p more last) (sym (behind_is o (what ∷ later) left old new step limit book)) (subst (λ (l : Option ℕ). Drains o (place_with later new l) more last) is rest),
     );
   }
 
@@ -112,13 +114,11 @@ module _ {D R : Type 0} {disk : D → DiskView} where
   opens_more o start between later left old mid new (Ok fewer) front rest = record {
     made = front.made ++ rest.made;
     goes_on = goes_further old mid new front.made rest.made front.goes_on rest.goes_on;
-    book = longer_on o.meaning old mid new front.made rest.made front.book rest.book;
     opens = λ more last drains. subst (λ (ss : List Step). Drains o start ss last) (sym (append_assoc front.made rest.made more)) (front.opens (rest.made ++ more) last (rest.opens more last drains));
   }
   opens_more o start between later left old mid new (Err last) front rest = record {
     made = front.made ++ rest.made;
     goes_on = goes_further old mid new front.made rest.made front.goes_on rest.goes_on;
-    book = longer_on o.meaning old mid new front.made rest.made front.book rest.book;
     opens = front.opens rest.made last rest.opens;
   }
 
@@ -199,23 +199,23 @@ on_ok : {T E : Type 0} (P Q : Type 0) (r : Result T E) → (P → Q) → OnOk r 
 on_ok P Q (Ok x) gives is = gives is
 on_ok P Q (Err e) gives is = tt
 
-reload_rounds : (m : Meaning) (s t : Base) (step : Step) (code : List ℕ) (asked : Bool) → step.what ≡ kind.Reload code → t ≡ after m s step → rounds_of m t asked ≡ rounds_of m (with_bundle m s (Some code)) asked
+reload_rounds : (m : Meaning) (s t : Base) (step : Step) (code : List ℕ) (asked : Bool) → step.what ≡ kind.Reload code → IsSealOf (after m s step) t → rounds_of m t asked ≡ rounds_of m (with_bundle m s (Some code)) asked
 reload_rounds m s t step code asked what is =
     let now : Base = record s { steps = s.steps + 1; latest = step.moment } in
-    let state : t ≡ with_bundle m now (Some code) = is ∙ ap (acted m step.moment now) what in
-    ap (λ (b : Base). rounds_of m b asked) state ∙ same_rounds_with m now s (Some code) asked refl refl
+    let state : after m s step ≡ with_bundle m now (Some code) = ap (acted m step.moment now) what in
+    same_rounds m t (after m s step) asked (ap (λ (b : Base). b.bundle) is.same) (ap (λ (b : Base). b.feeds) is.same) ∙ ap (λ (b : Base). rounds_of m b asked) state ∙ same_rounds_with m now s (Some code) asked refl refl
 
 pub rounds_behind : (m : Meaning) (s t : Base) (bundle : Option (List ℕ)) (code : List ℕ) (asked : Bool) (r : Result (Option ℕ) TurnsEnd) → bundle ≡ Some code
-    → OnOk r ((step : Step) × (step.what ≡ kind.Reload code) × (t ≡ after m s step)) → OnOk r (rounds_of m t asked ≡ rounds_of m (with_bundle m s bundle) asked)
+    → OnOk r ((step : Step) × (step.what ≡ kind.Reload code) × IsSealOf (after m s step) t) → OnOk r (rounds_of m t asked ≡ rounds_of m (with_bundle m s bundle) asked)
 rounds_behind m s t bundle code asked r named is =
     on_ok _ _ r (λ made. reload_rounds m s t made.0 code asked made.1 made.2 ∙ ap (λ (b : Option (List ℕ)). rounds_of m (with_bundle m s b) asked) (sym named)) is
 
 -- a start changes neither the bundle nor the feeds
-pub rounds_started : (m : Meaning) (s t : Base) (step : Step) (bundle : Option (List ℕ)) (asked : Bool) → step.what ≡ kind.Start → t ≡ after m s step → rounds_of m (with_bundle m t bundle) asked ≡ rounds_of m (with_bundle m s bundle) asked
+pub rounds_started : (m : Meaning) (s t : Base) (step : Step) (bundle : Option (List ℕ)) (asked : Bool) → step.what ≡ kind.Start → IsSealOf (after m s step) t → rounds_of m (with_bundle m t bundle) asked ≡ rounds_of m (with_bundle m s bundle) asked
 rounds_started m s t step bundle asked what is =
     let now : Base = record s { steps = s.steps + 1; latest = step.moment } in
-    let state : t ≡ acted m step.moment now kind.Start = is ∙ ap (acted m step.moment now) what in
-    same_rounds_with m t s bundle asked (ap (λ (b : Base). b.bundle) state) (ap (λ (b : Base). b.feeds) state)
+    let state : after m s step ≡ acted m step.moment now kind.Start = ap (acted m step.moment now) what in
+    same_rounds_with m t s bundle asked (ap (λ (b : Base). b.bundle) is.same ∙ ap (λ (b : Base). b.bundle) state) (ap (λ (b : Base). b.feeds) is.same ∙ ap (λ (b : Base). b.feeds) state)
 
 -- ---- rounds one behind the other
 
@@ -223,14 +223,24 @@ pub no_names : {A : Type 0} (xs : List A) → length xs ≡ 0 → xs ≡ []
 no_names [] none = refl
 no_names (x ∷ xs) none = absurd (cc (none))
 
-pub later_finished : (m : Meaning) (s t : Base) (step : Step) (bot : List ℕ) (names others : List (List ℕ)) → names ≡ bot ∷ others → step.what ≡ kind.Round bot → t ≡ after m s step → IsDistinct bytes_eq names → HaveFinished m s names
+-- sealing changes neither the bots nor the feeds
+finished_sealed : (m : Meaning) (s t : Base) (others : List (List ℕ)) → IsSealOf s t → HaveFinished m s others → HaveFinished m t others
+finished_sealed m s t others is finished =
+    subst (λ (fs : List Feed). HaveFinished m (record t { feeds = fs }) others) (sym (ap (λ (b : Base). b.feeds) is.same))
+    (subst (λ (x : List ℕ). HaveFinished m (record t { bundle = x; feeds = s.feeds }) others) (sym (ap (λ (b : Base). b.bundle) is.same)) (only_those m s t others finished))
+  where
+    only_those : (m : Meaning) (s t : Base) (others : List (List ℕ)) → HaveFinished m s others → HaveFinished m (record t { bundle = s.bundle; feeds = s.feeds }) others
+    only_those m s t [] finished = tt
+    only_those m s t (other ∷ others) finished = (finished.0, only_those m s t others finished.1)
+
+pub later_finished : (m : Meaning) (s t : Base) (step : Step) (bot : List ℕ) (names others : List (List ℕ)) → names ≡ bot ∷ others → step.what ≡ kind.Round bot → IsSealOf (after m s step) t → IsDistinct bytes_eq names → HaveFinished m s names
     → HaveFinished m t others
 unfolding IsDistinct
 later_finished m s t step bot names others are what is distinct finished =
     let apart : IsDistinct bytes_eq (bot ∷ others) = subst (IsDistinct bytes_eq) are distinct in
     let each : HaveFinished m s (bot ∷ others) = subst (HaveFinished m s) are finished in
     let step_is : step ≡ record { moment = step.moment; what = kind.Round bot } = ap (λ (w : StepKind). let it : Step = record { moment = step.moment; what = w } in it) what in
-    subst (λ (b : Base). HaveFinished m b others) (sym (is ∙ ap (after m s) step_is)) (still_finished m s bot step.moment others apart.0 each.1)
+    finished_sealed m (after m s step) t others is (subst (λ (it : Step). HaveFinished m (after m s it) others) (sym step_is) (still_finished m s bot step.moment others apart.0 each.1))
 
 pub later_distinct : (bot : List ℕ) (names others : List (List ℕ)) → names ≡ bot ∷ others → IsDistinct bytes_eq names → IsDistinct bytes_eq others
 unfolding IsDistinct

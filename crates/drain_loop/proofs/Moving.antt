@@ -84,6 +84,7 @@ find_end o s bot at f (end.LongFeed other) turn is = (at, subst (Î» (b : List â„
 find_end o s bot at f (end.Halted other) turn is = absurd is
 find_end o s bot at f (end.Spent next) turn is = absurd is
 find_end o s bot at f (end.Full bytes) turn is = absurd is
+find_end o s bot at f (end.Damaged file place) turn is = absurd is
 find_end o s bot at f end.Disk turn is = absurd is
 find_end o s bot at f end.Memory turn is = tt
 
@@ -110,6 +111,7 @@ failed_ends feeds last failed o s = go last failed.2
     go (end.Halted bot) is = absurd is
     go (end.Spent next) is = absurd is
     go (end.Full bytes) is = absurd is
+    go (end.Damaged file place) is = absurd is
     go end.Disk is = absurd is
     go end.Memory is = tt
 
@@ -124,6 +126,7 @@ failed_one feeds (end.LongFeed bot) failed = tt
 failed_one feeds (end.Halted bot) failed = tt
 failed_one feeds (end.Spent next) failed = tt
 failed_one feeds (end.Full bytes) failed = tt
+failed_one feeds (end.Damaged file place) failed = tt
 failed_one feeds end.Disk failed = tt
 failed_one feeds end.Memory failed = tt
 
@@ -143,5 +146,6 @@ halted_ends o s (end.LongFeed bot) turn is = absurd is
 halted_ends o s (end.Halted bot) turn is = (turn, is)
 halted_ends o s (end.Spent next) turn is = absurd is
 halted_ends o s (end.Full bytes) turn is = absurd is
+halted_ends o s (end.Damaged file place) turn is = absurd is
 halted_ends o s end.Disk turn is = absurd is
 halted_ends o s end.Memory turn is = absurd is

@@ -1,5 +1,6 @@
 -- What a call that drains a book makes of it.
-use Rattle.std.specs.Prelude.{◌≡◌, ℕ, Bool, List, [], ◌∷◌, ◌++◌, map, filter, Option, Some, None, Result, MatchResult, if◌then◌else◌}
+use Rattle.std.specs.Prelude.{◌≡◌, ℕ, Bool, List, [], ◌∷◌, ◌++◌, length, map, min, filter, Option, Some, None, Result, MatchResult, if◌then◌else◌}
+use Rattle.base_types.specs.Number.{last_u64}
 use Rattle.edge_traits.specs.Disk.{DiskView}
 use Rattle.edge_traits.specs.Shelf.{ShelfView}
 use Rattle.step_code.specs.declared.base.Base.{Base}
@@ -9,9 +10,10 @@ use Rattle.step_code.specs.declared.step.StepKind.TheVariants as kind
 use Rattle.step_code.specs.After.{reloaded}
 use Rattle.step_code.specs.Rules.{Meaning}
 use Rattle.step_code.specs.State.{bots_in_force, bots_of, has_finished}
+use Rattle.store_image.specs.Stored.{codes_of}
 use Rattle.turn_order.specs.Turn.{collectors}
 use Rattle.journal_book.specs.Book.{BookView}
-use Rattle.book_runs.specs.GoesOn.{longer, GoesOn}
+use Rattle.book_runs.specs.GoesOn.{GoesOn}
 use Rattle.drain_turns.specs.Drained.{Drains, Place}
 use Rattle.drain_turns.specs.Turn.{Outside}
 use Rattle.drain_turns.specs.declared.end.TurnsEnd.{TurnsEnd}
@@ -23,7 +25,8 @@ outside m shelf clock limit = record { meaning = m; shelf = shelf; clock = clock
 
 -- a call that stands at a book's end, and still has these steps to open with
 abbrev pub place_with : {D R : Type 0} → List StepKind → BookView D R → Option ℕ → Place
-place_with opening book left = record { opening = opening; left = left; steps = book.steps; state = book.state }
+place_with opening book left =
+    record { opening = opening; left = left; bytes = min (length (codes_of book.steps)) last_u64; generation = book.generation; root = book.root; state = book.state }
 
 -- one that has nothing to open with
 abbrev pub place_of : {D R : Type 0} → BookView D R → Option ℕ → Place
@@ -34,7 +37,6 @@ pub record IsDrained {D R : Type 0} (disk : D → DiskView) (o : Outside) (left 
   pub made : List Step
   pub drains : Drains o (place_of old left) made last
   pub goes_on : GoesOn disk o.meaning old new made
-  pub book : new ≡ longer o.meaning old made new
 
 -- ---- what a call opens with
 
@@ -63,7 +65,6 @@ opening_of m s bundle asked = kind.Start ∷ (reload_of bundle ++ rounds_of m (w
 pub record IsOpened {D R : Type 0} (disk : D → DiskView) (o : Outside) (start : Place) (later : List StepKind) (old new : BookView D R) (result : Result (Option ℕ) TurnsEnd) : Type 0 where
   pub made : List Step
   pub goes_on : GoesOn disk o.meaning old new made
-  pub book : new ≡ longer o.meaning old made new
   pub opens : MatchResult result (λ left. (more : List Step) (last : TurnsEnd) → Drains o (place_with later new left) more last → Drains o start (made ++ more) last) (λ last. Drains o start made last)
 
 -- an end ahead of the turns, at which no feed was looked at
@@ -78,5 +79,22 @@ IsEarlyEnd (end.LongFeed bot) = ⊥
 IsEarlyEnd (end.Halted bot) = ⊥
 IsEarlyEnd (end.Spent next) = Unit {0}
 IsEarlyEnd (end.Full bytes) = Unit {0}
+IsEarlyEnd (end.Damaged file at) = Unit {0}
 IsEarlyEnd end.Disk = Unit {0}
 IsEarlyEnd end.Memory = Unit {0}
+
+-- another end than damage of an output's file
+abbrev pub IsUndamaged : TurnsEnd → Type 0
+IsUndamaged end.Idle = Unit {0}
+IsUndamaged end.Left = Unit {0}
+IsUndamaged (end.Absent name) = Unit {0}
+IsUndamaged (end.Failed name) = Unit {0}
+IsUndamaged (end.Short have need) = Unit {0}
+IsUndamaged (end.LongLine bot line) = Unit {0}
+IsUndamaged (end.LongFeed bot) = Unit {0}
+IsUndamaged (end.Halted bot) = Unit {0}
+IsUndamaged (end.Spent next) = Unit {0}
+IsUndamaged (end.Full bytes) = Unit {0}
+IsUndamaged (end.Damaged file at) = ⊥
+IsUndamaged end.Disk = Unit {0}
+IsUndamaged end.Memory = Unit {0}

@@ -7,6 +7,7 @@ use Rattle.step_code.specs.declared.step.StepKind.{StepKind}
 use Rattle.step_code.specs.After.{file_of}
 use Rattle.step_code.specs.State.{bots_in_force}
 use Rattle.journal_book.specs.Book.{BookView}
+use Rattle.book_runs.specs.Commit.{readied}
 use Rattle.book_runs.specs.GoesOn.{longer, GoesOn}
 use Rattle.book_runs.specs.declared.committing.CommitFault.{CommitFault}
 use Rattle.book_runs.specs.declared.committing.CommitFault.TheVariants as fault
@@ -37,6 +38,7 @@ EndsTurn o s (end.LongFeed bot) = (at : ℕ) × IsTurn o s (Finds bot at found.L
 EndsTurn o s (end.Halted bot) = IsTurn o s Nobody × (slice_get s.halted 0 ≡ Some bot)
 EndsTurn o s (end.Spent next) = ⊥
 EndsTurn o s (end.Full bytes) = ⊥
+EndsTurn o s (end.Damaged file at) = ⊥
 EndsTurn o s end.Disk = ⊥
 EndsTurn o s end.Memory = Unit {0}
 
@@ -45,9 +47,11 @@ abbrev pub IsHalted : List (List ℕ) → TurnsEnd → Type 0
 IsHalted halted (end.Halted bot) = slice_get halted 0 ≡ Some bot
 IsHalted halted other = ⊥
 
--- a step that fits, over a book that isn't broken, is refused for a number, for the limit, or for want of memory
+-- a step that fits, over a book that isn't broken, is refused for a number, for a length, or for want of memory; or the disk fails, or an
+-- output is found to be damaged
 abbrev pub IsLateFault : CommitFault → Type 0
 IsLateFault fault.Disk = Unit {0}
+IsLateFault (fault.Damaged file at) = Unit {0}
 IsLateFault (fault.Refused (refusal.Spent next)) = Unit {0}
 IsLateFault (fault.Refused (refusal.Full bytes)) = Unit {0}
 IsLateFault (fault.Refused refusal.OutOfMemory) = Unit {0}
@@ -56,6 +60,7 @@ IsLateFault (fault.Refused other) = ⊥
 -- how the turns end where a step isn't committed for this
 abbrev pub end_of : CommitFault → TurnsEnd
 end_of fault.Disk = end.Disk
+end_of (fault.Damaged file at) = end.Damaged file at
 end_of (fault.Refused (refusal.Spent next)) = end.Spent next
 end_of (fault.Refused (refusal.Full bytes)) = end.Full bytes
 end_of (fault.Refused other) = end.Memory
@@ -65,11 +70,10 @@ pub record OneStep {D R : Type 0} (disk : D → DiskView) (o : Outside) (left : 
   pub step : Step
   pub is_made : IsMade o (place_of old left) step
   pub goes_on : GoesOn disk o.meaning old new (step ∷ [])
-  pub book : new ≡ longer o.meaning old (step ∷ []) new
+  pub book : new ≡ longer o.meaning (readied old) (step ∷ []) new
 
 -- the steps so far: whatever is drained from here on is drained from the start, behind them
 pub record Running {D R : Type 0} (disk : D → DiskView) (o : Outside) (start here : Place) (old now : BookView D R) : Type 0 where
   pub made : List Step
   pub goes_on : GoesOn disk o.meaning old now made
-  pub book : now ≡ longer o.meaning old made now
   pub leads : (more : List Step) (last : TurnsEnd) → Drains o here more last → Drains o start (made ++ more) last

@@ -3,6 +3,7 @@ ghost use Rattle.std.specs.Prelude.{◌≡◌, ◌≤◌, ◌↔◌, ◌++◌, �
 ghost use Rattle.std.specs.List.{IsDistinct};
 ghost use Rattle.std.specs.Str.{bytes_eq};
 ghost use Rattle.edge_traits.specs.Count.{Rose};
+ghost use Rattle.edge_traits.specs.Disk.{Image};
 ghost use Rattle.edge_traits.specs.Shelf.{ShelfView};
 ghost use Rattle.step_code.specs.declared.step.Step.{Step};
 ghost use Rattle.step_code.specs.declared.step.StepKind.{StepKind as Kind};
@@ -10,8 +11,9 @@ ghost use Rattle.step_code.specs.After.{after};
 ghost use Rattle.step_code.specs.Fits.{first_failing, parts};
 ghost use Rattle.step_code.specs.Rules.{collects};
 ghost use Rattle.step_code.specs.State.{has_finished};
+ghost use Rattle.store_image.specs.Stands.{IsSealOf};
 ghost use Rattle.turn_order.specs.Turn.{collectors};
-ghost use Rattle.drain_loop.specs.Calls.{opening_of, outside, place_with, reload_of, round_of, rounds_of, with_bundle, IsEarlyEnd, IsOpened};
+ghost use Rattle.drain_loop.specs.Calls.{opening_of, outside, place_with, reload_of, round_of, rounds_of, with_bundle, IsEarlyEnd, IsOpened, IsUndamaged};
 ghost use Rattle.drain_loop.specs.Opening.{HaveFinished, IsPlain};
 
 use crate::drain::{end_of, is_none_left, one_less};
@@ -56,6 +58,7 @@ pub fn open_turns<D: Disk, R: Rules, C: Clock>(
     ensures early { IfErr result IsEarlyEnd }
     ensures whole { OnOk result (book.new.broken ≡ false) }
     ensures broken { IsErrOf result TurnsEnd.Disk ↔ (book.new.broken ≡ true) }
+    ensures undamaged { (files : Image) → (D.disk book.old.disk).told ≡ Some files → IfErr result IsUndamaged }
     ensures disk { IsErrOf result TurnsEnd.Disk → Rose (D.disk book.old.disk).faults (D.disk book.new.disk).faults }
     ensures untold { (D.disk book.old.disk).told ≡ None → (D.disk book.new.disk).told ≡ None }
     ensures disk_count { (D.disk book.old.disk).faults ≤ (D.disk book.new.disk).faults }
@@ -92,6 +95,7 @@ fn reload<D: Disk, R: Rules, C: Clock>(
     ensures early { IfErr result IsEarlyEnd }
     ensures whole { OnOk result (book.new.broken ≡ false) }
     ensures broken { IsErrOf result TurnsEnd.Disk ↔ (book.new.broken ≡ true) }
+    ensures undamaged { (files : Image) → (D.disk book.old.disk).told ≡ Some files → IfErr result IsUndamaged }
     ensures disk { IsErrOf result TurnsEnd.Disk → Rose (D.disk book.old.disk).faults (D.disk book.new.disk).faults }
     ensures untold { (D.disk book.old.disk).told ≡ None → (D.disk book.new.disk).told ≡ None }
     ensures disk_count { (D.disk book.old.disk).faults ≤ (D.disk book.new.disk).faults }
@@ -115,6 +119,7 @@ fn open_rounds<D: Disk, R: Rules, C: Clock>(
     ensures early { IfErr result IsEarlyEnd }
     ensures whole { OnOk result (book.new.broken ≡ false) }
     ensures broken { IsErrOf result TurnsEnd.Disk ↔ (book.new.broken ≡ true) }
+    ensures undamaged { (files : Image) → (D.disk book.old.disk).told ≡ Some files → IfErr result IsUndamaged }
     ensures disk { IsErrOf result TurnsEnd.Disk → Rose (D.disk book.old.disk).faults (D.disk book.new.disk).faults }
     ensures untold { (D.disk book.old.disk).told ≡ None → (D.disk book.new.disk).told ≡ None }
     ensures disk_count { (D.disk book.old.disk).faults ≤ (D.disk book.new.disk).faults }
@@ -171,6 +176,7 @@ fn open_each<D: Disk, R: Rules, C: Clock>(
     ensures early { IfErr result IsEarlyEnd }
     ensures whole { OnOk result (book.new.broken ≡ false) }
     ensures broken { IsErrOf result TurnsEnd.Disk ↔ (book.new.broken ≡ true) }
+    ensures undamaged { (files : Image) → (D.disk book.old.disk).told ≡ Some files → IfErr result IsUndamaged }
     ensures disk { IsErrOf result TurnsEnd.Disk → Rose (D.disk book.old.disk).faults (D.disk book.new.disk).faults }
     ensures untold { (D.disk book.old.disk).told ≡ None → (D.disk book.new.disk).told ≡ None }
     ensures disk_count { (D.disk book.old.disk).faults ≤ (D.disk book.new.disk).faults }
@@ -198,11 +204,12 @@ fn open_by<D: Disk, R: Rules, C: Clock>(
     requires fits { first_failing (parts R.meaning book.old.state what) ≡ None }
     ensures opened { (first : ShelfView) (later : List Kind) → IsOpened D.disk (outside R.meaning first (C.told clock.now) book.old.limit)
         (place_with (what ∷ later) book.old left) later book.old book.new result }
-    ensures step { OnOk result ((step : Step) × (step.what ≡ what) × (book.new.state ≡ after R.meaning book.old.state step)) }
+    ensures step { OnOk result ((step : Step) × (step.what ≡ what) × IsSealOf (after R.meaning book.old.state step) book.new.state) }
     ensures limit { book.new.limit ≡ book.old.limit }
     ensures early { IfErr result IsEarlyEnd }
     ensures whole { OnOk result (book.new.broken ≡ false) }
     ensures broken { IsErrOf result TurnsEnd.Disk ↔ (book.new.broken ≡ true) }
+    ensures undamaged { (files : Image) → (D.disk book.old.disk).told ≡ Some files → IfErr result IsUndamaged }
     ensures disk { IsErrOf result TurnsEnd.Disk → Rose (D.disk book.old.disk).faults (D.disk book.new.disk).faults }
     ensures untold { (D.disk book.old.disk).told ≡ None → (D.disk book.new.disk).told ≡ None }
     ensures disk_count { (D.disk book.old.disk).faults ≤ (D.disk book.new.disk).faults }

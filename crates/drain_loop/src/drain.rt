@@ -2,14 +2,15 @@
 ghost use Rattle.std.specs.Prelude.{◌≡◌, ◌≢◌, ◌≤◌, ◌<◌, ◌-◌, ◌↔◌, ℕ, List, [], true, false, length, option_map, Some, None, OnOk, IfErr, OnErr, IsErrOf};
 ghost use Rattle.std.specs.List.{AllByRecursion};
 ghost use Rattle.edge_traits.specs.Count.{Rose};
+ghost use Rattle.edge_traits.specs.Disk.{Image};
 ghost use Rattle.edge_traits.specs.Shelf.{count_on, ShelfView};
 ghost use Rattle.step_code.specs.Spent.{last_given};
-ghost use Rattle.book_runs.specs.GoesOn.{GoesOn, IsSameBook};
+ghost use Rattle.book_runs.specs.GoesOn.{GoesOn};
 ghost use Rattle.collector_feeds.specs.Standing.{IsReady};
 ghost use Rattle.turn_order.specs.Turn.{collectors};
 ghost use Rattle.drain_turns.specs.Drained.{Ends};
 ghost use Rattle.drain_turns.specs.Works.{AreReady};
-ghost use Rattle.drain_loop.specs.Calls.{outside, place_of, IsDrained};
+ghost use Rattle.drain_loop.specs.Calls.{outside, place_of, IsDrained, IsUndamaged};
 ghost use Rattle.drain_loop.specs.Feeds.{AreLookedAt, AreOf, FailedBeyond, IsClosed, IsFailedByOne, IsNoFeed};
 ghost use Rattle.drain_loop.specs.Turning.{end_of, IsLateFault, OneStep};
 
@@ -44,6 +45,7 @@ pub fn drain_book<D: Disk, R: Rules, H: Shelf, C: Clock>(
     // All of them are durable, unless the disk failed.
     ensures durable { result ≢ TurnsEnd.Disk → book.new.kept ≡ length book.new.steps }
     ensures broken { (result ≡ TurnsEnd.Disk) ↔ (book.new.broken ≡ true) }
+    ensures undamaged { (files : Image) → (D.disk book.old.disk).told ≡ Some files → IsUndamaged result }
     ensures disk { result ≡ TurnsEnd.Disk → Rose (D.disk book.old.disk).faults (D.disk book.new.disk).faults }
     ensures failed { (name : List ℕ) → result ≡ TurnsEnd.Failed name → FailedBeyond (collectors R.meaning book.new.state) (H.shelf shelf.old) (H.shelf shelf.new) name }
     ensures told { (H.shelf shelf.new).told ≡ (H.shelf shelf.old).told }
@@ -77,6 +79,7 @@ fn drain_feeds<D: Disk, R: Rules, H: Shelf, C: Clock>(
     ensures looked { AreLookedAt feeds.old feeds.new (H.shelf shelf.old) (H.shelf shelf.new) }
     ensures bundle { book.new.state.bundle ≡ book.old.state.bundle }
     ensures broken { (result ≡ TurnsEnd.Disk) ↔ (book.new.broken ≡ true) }
+    ensures undamaged { (files : Image) → (D.disk book.old.disk).told ≡ Some files → IsUndamaged result }
     ensures disk { result ≡ TurnsEnd.Disk → Rose (D.disk book.old.disk).faults (D.disk book.new.disk).faults }
     ensures untold { (D.disk book.old.disk).told ≡ None → (D.disk book.new.disk).told ≡ None }
     ensures disk_count { (D.disk book.old.disk).faults ≤ (D.disk book.new.disk).faults }
@@ -105,6 +108,7 @@ fn turns<D: Disk, R: Rules, H: Shelf, C: Clock>(
     ensures looked { AreLookedAt feeds.old feeds.new (H.shelf shelf.old) (H.shelf shelf.new) }
     ensures bundle { book.new.state.bundle ≡ book.old.state.bundle }
     ensures broken { (result ≡ TurnsEnd.Disk) ↔ (book.new.broken ≡ true) }
+    ensures undamaged { (files : Image) → (D.disk book.old.disk).told ≡ Some files → IsUndamaged result }
     ensures disk { result ≡ TurnsEnd.Disk → Rose (D.disk book.old.disk).faults (D.disk book.new.disk).faults }
     ensures untold { (D.disk book.old.disk).told ≡ None → (D.disk book.new.disk).told ≡ None }
     ensures disk_count { (D.disk book.old.disk).faults ≤ (D.disk book.new.disk).faults }
@@ -138,7 +142,6 @@ fn turn<D: Disk, R: Rules, H: Shelf, C: Clock>(
     ensures ends { (first : ShelfView) → first.told ≡ (H.shelf shelf.old).told
         → IfErr result (Ends (outside R.meaning first (C.told clock.now) book.old.limit) (place_of book.old left)) }
     ensures still { OnErr result (GoesOn D.disk R.meaning book.old book.new []) }
-    ensures same { OnErr result (IsSameBook book.old book.new) }
     ensures end { IfErr result (IsFailedByOne feeds.new) }
     ensures looked { AreLookedAt feeds.old feeds.new (H.shelf shelf.old) (H.shelf shelf.new) }
     ensures works { AreReady R.task_of book.old.state.bundle works.new.items }
@@ -146,6 +149,7 @@ fn turn<D: Disk, R: Rules, H: Shelf, C: Clock>(
     ensures fewer { OnOk result (last_given - book.new.state.steps < last_given - book.old.state.steps) }
     ensures whole { OnOk result (book.new.broken ≡ false) }
     ensures broken { IfErr result (λ end. (end ≡ TurnsEnd.Disk) ↔ (book.new.broken ≡ true)) }
+    ensures undamaged { (files : Image) → (D.disk book.old.disk).told ≡ Some files → IfErr result IsUndamaged }
     ensures disk { IsErrOf result TurnsEnd.Disk → Rose (D.disk book.old.disk).faults (D.disk book.new.disk).faults }
     ensures untold { (D.disk book.old.disk).told ≡ None → (D.disk book.new.disk).told ≡ None }
     ensures disk_count { (D.disk book.old.disk).faults ≤ (D.disk book.new.disk).faults }
@@ -188,6 +192,7 @@ pub(crate) fn end_of(fault: CommitFault) -> TurnsEnd
 {
     match fault {
         CommitFault::Disk => TurnsEnd::Disk,
+        CommitFault::Damaged { file, at } => TurnsEnd::Damaged { file, at },
         CommitFault::Refused(StageRefusal::Spent { next }) => TurnsEnd::Spent { next },
         CommitFault::Refused(StageRefusal::Full { bytes }) => TurnsEnd::Full { bytes },
         CommitFault::Refused(StageRefusal::OutOfMemory) => TurnsEnd::Memory,

@@ -1,9 +1,10 @@
 -- A call that ends by the number of its steps.
-use Rattle.std.proofs.Common.{◌≡◌, ◌≢◌, ◌-◌, ℕ, zero, suc, List, [], ◌∷◌, length, Option, Some, None, option_map, refl, ap, arith}
+use Rattle.std.proofs.Common.{◌≡◌, ◌≢◌, ◌-◌, ℕ, zero, suc, List, [], ◌∷◌, length, Option, Some, None, option_map, refl, sym, ap, ◌∙◌, arith}
 use Rattle.step_code.specs.declared.step.Step.{Step}
 use Rattle.drain_turns.specs.Drained.{behind, Drains, Place}
 use Rattle.drain_turns.specs.Turn.{Outside}
 use Rattle.drain_turns.specs.declared.end.TurnsEnd.TheVariants as end
+use Rattle.drain_turns.proofs.Readied.{behind_left}
 
 one_less : (left : Option ℕ) (n : ℕ) → left ≢ Some 0 → option_map (λ k. k - 1) left ≡ Some n → left ≡ Some (suc n)
 one_less None n some same = absurd (cc (same))
@@ -15,4 +16,4 @@ one_less (Some (suc k)) n some same =
 
 pub all_asked : (o : Outside) (p : Place) (made : List Step) → Drains o p made end.Left → p.left ≡ Some (length made)
 all_asked o p [] drains = drains.1
-all_asked o p (step ∷ steps) drains = one_less p.left (length steps) drains.0.due.left (all_asked o (behind o.meaning p step) steps drains.1)
+all_asked o p (step ∷ steps) drains = one_less p.left (length steps) drains.0.due.left (sym (behind_left o p step) ∙ all_asked o (behind o p step) steps drains.1)

@@ -1,12 +1,12 @@
 -- A call that nothing hinders ends idle.
-use Rattle.std.proofs.Common.{◌≡◌, ◌≤◌, ◌<◌, ◌+◌, ◌-◌, ◌==◌, ◌&&◌, ⊎_elim, inl, inr, ◌⊎◌, ℕ, Bool, true, false, not, cond, nat_le, nat_lt, List, [], ◌∷◌, length, drop, Option, Some, None, option_map, slice_get, MatchBool, MatchOption, refl, sym, ap, subst, ◌∙◌, arith, length-append, if◌then◌else◌}
+use Rattle.std.proofs.Common.{◌≡◌, ◌≤◌, ◌-◌, ◌==◌, ◌&&◌, ⊎_elim, inl, inr, ◌⊎◌, ℕ, Bool, true, false, not, cond, nat_le, List, [], ◌∷◌, length, drop, Option, Some, None, option_map, slice_get, MatchBool, MatchOption, refl, sym, ap, subst, ◌∙◌, arith, length-append, if◌then◌else◌}
 use Rattle.std.specs.List.{concat, AllByRecursion}
 use Rattle.std.specs.Option.{IsSomeAnd}
 use Rattle.std.proofs.lemmas.Bool.{le-ltb}
 use Rattle.std.proofs.lemmas.Option.{none-some}
 use Rattle.base_types.specs.Lines.{first_line, first_of, lines_of}
 use Rattle.edge_traits.specs.Named.{find_named}
-use Rattle.report_cut.specs.Pieces.{Next, Piece, End, Long, header_of, longest_line, next, next_under, piece_of, start_of}
+use Rattle.report_cut.specs.Pieces.{Next, Piece, End, Long, header_of, longest_line, next, piece_of, start_of}
 use Rattle.report_cut.specs.declared.piece.Cut.{Cut}
 use Rattle.report_cut.specs.declared.piece.CutRule.{CutRule}
 use Rattle.report_cut.proofs.Joined.{next_piece, upto_within}
@@ -16,16 +16,17 @@ use Rattle.step_code.specs.declared.rules.FeedFacts.{FeedFacts}
 use Rattle.step_code.specs.declared.rules.Facts.{Facts}
 use Rattle.step_code.specs.declared.step.Step.{Step}
 use Rattle.step_code.specs.Content.{longest_feed}
-use Rattle.step_code.specs.Rules.{Meaning}
 use Rattle.step_code.specs.State.{has_finished, position_of}
 use Rattle.turn_order.specs.Turn.{collectors, first_actor}
 use Rattle.turn_order.specs.declared.actor.Actor.{Actor}
+use Rattle.journal_book.specs.declared.stage_refusal.StageRefusal.TheVariants as refusal
 use Rattle.collector_feeds.specs.Found.{found_at, rule_of, within_limit, MayFind}
 use Rattle.collector_feeds.specs.declared.found.Found.{Found}
 use Rattle.collector_feeds.specs.declared.found.Found.TheVariants as found
 use Rattle.drain_turns.specs.Drained.{behind, behind_all, Drains, Ends, Place, Turns}
 use Rattle.drain_turns.specs.Laws.{GivesStep, HasFeed, HasFeeds, HasStep, IsFree, IsReadable, IsShown, ReadsOn}
 use Rattle.drain_turns.specs.Turn.{going, is_backed_up, is_piece, Outside, IsCollectorsTurn, IsTurn, MayFindNow}
+use Rattle.drain_turns.proofs.Readied.{behind_left}
 use Rattle.drain_turns.proofs.Turning.{all_kept, not_true}
 use Rattle.drain_turns.specs.declared.end.TurnsEnd.{TurnsEnd}
 use Rattle.drain_turns.specs.declared.end.TurnsEnd.TheVariants as end
@@ -146,19 +147,20 @@ module _ (o : Outside) (files : List (List ℕ × List ℕ)) (told : o.shelf.tol
   ends_idle (end.LongLine bot line) none shown (at, turns) = absurd (finds_step bot at (found.LongLine line) turns)
   ends_idle (end.LongFeed bot) none shown (at, turns) = absurd (finds_step bot at found.LongFeed turns)
   ends_idle (end.Halted bot) none shown ends = absurd (none-some bot (subst (λ (names : List (List ℕ)). slice_get names 0 ≡ Some bot) free.room.halted ends.1))
-  ends_idle (end.Spent next) none shown (step, due, spends) = absurd (none-some next (sym (free.room.small step due) ∙ spends))
-  ends_idle (end.Full bytes) none shown (step, due, small, is, over) = absurd (omega (arith, free.room.fits step due, is, over))
+  ends_idle (end.Spent number) none shown (step, due, refuses) = absurd (none-some (refusal.Spent number) (sym (free.room.free step due) ∙ refuses))
+  ends_idle (end.Full bytes) none shown (step, due, refuses) = absurd (none-some (refusal.Full bytes) (sym (free.room.free step due) ∙ refuses))
+  ends_idle (end.Damaged file at) none shown ends = absurd shown
   ends_idle end.Disk none shown ends = absurd shown
   ends_idle end.Memory none shown ends = absurd shown
 
-ends_there : (o : Outside) (p : Place) (made : List Step) (last : TurnsEnd) → Drains o p made last → Ends o (behind_all o.meaning p made) last
+ends_there : (o : Outside) (p : Place) (made : List Step) (last : TurnsEnd) → Drains o p made last → Ends o (behind_all o p made) last
 ends_there o p [] last drains = drains
-ends_there o p (step ∷ made) last drains = ends_there o (behind o.meaning p step) made last drains.1
+ends_there o p (step ∷ made) last drains = ends_there o (behind o p step) made last drains.1
 
-still_unbound : (m : Meaning) (p : Place) (made : List Step) → p.left ≡ None → (behind_all m p made).left ≡ None
-still_unbound m p [] none = none
-still_unbound m p (step ∷ made) none = still_unbound m (behind m p step) made (ap (option_map (λ n. n - 1)) none)
+still_unbound : (o : Outside) (p : Place) (made : List Step) → p.left ≡ None → (behind_all o p made).left ≡ None
+still_unbound o p [] none = none
+still_unbound o p (step ∷ made) none = still_unbound o (behind o p step) made (behind_left o p step ∙ ap (option_map (λ n. n - 1)) none)
 
-pub free_calls_end_idle : (o : Outside) (p : Place) (files : List (List ℕ × List ℕ)) (made : List Step) (last : TurnsEnd) → o.shelf.told ≡ Some files → p.left ≡ None → IsFree o files (behind_all o.meaning p made) → IsShown last → Drains o p made last → last ≡ end.Idle
+pub free_calls_end_idle : (o : Outside) (p : Place) (files : List (List ℕ × List ℕ)) (made : List Step) (last : TurnsEnd) → o.shelf.told ≡ Some files → p.left ≡ None → IsFree o files (behind_all o p made) → IsShown last → Drains o p made last → last ≡ end.Idle
 free_calls_end_idle o p files made last told none free shown drains =
-    ends_idle o files told (behind_all o.meaning p made) free last (still_unbound o.meaning p made none) shown (ends_there o p made last drains)
+    ends_idle o files told (behind_all o p made) free last (still_unbound o p made none) shown (ends_there o p made last drains)

@@ -6,5 +6,6 @@ pub mod Nobody
 mod One
 mod OneDrain
 pub mod Opened
+mod Readied
 pub mod Turning
 pub mod Working

@@ -1,17 +1,19 @@
 -- A call that nothing fails goes one way.
-use Rattle.std.proofs.Common.{◌≡◌, ◌<◌, ◌≤◌, ℕ, true, List, [], ◌∷◌, Option, Some, None, option_map, slice_get, refl, sym, ap, subst, ◌∙◌, arith}
+use Rattle.std.proofs.Common.{◌≡◌, ℕ, true, List, [], ◌∷◌, Option, Some, None, option_map, slice_get, refl, sym, ap, subst, ◌∙◌}
+use Rattle.std.proofs.lemmas.Option.{none-some}
 use Rattle.base_types.specs.declared.message.Moment.{Moment}
 use Rattle.step_code.specs.declared.base.Base.{Base}
 use Rattle.step_code.specs.declared.step.Step.{Step}
 use Rattle.step_code.specs.declared.step.StepKind.{StepKind}
 use Rattle.step_code.specs.After.{file_of}
 use Rattle.step_code.specs.Rules.{Meaning}
-use Rattle.step_code.specs.Spent.{spent, StaysSmall}
 use Rattle.step_code.specs.State.{bots_in_force}
 use Rattle.turn_order.specs.Turn.{is_idle}
-use Rattle.journal_book.specs.Staged.{bytes_with, stamp}
+use Rattle.journal_book.specs.Staged.{stamp}
+use Rattle.journal_book.specs.declared.stage_refusal.StageRefusal.{StageRefusal}
+use Rattle.journal_book.specs.declared.stage_refusal.StageRefusal.TheVariants as refusal
 use Rattle.collector_feeds.specs.declared.found.Found.TheVariants as found
-use Rattle.drain_turns.specs.Drained.{behind, Drains, Ends, IsBusy, IsDue, IsMade, IsNextKind, Place, Turns}
+use Rattle.drain_turns.specs.Drained.{behind, refused, Drains, Ends, IsBusy, IsDue, IsMade, IsNextKind, Place, Turns}
 use Rattle.drain_turns.specs.Laws.{IsShown}
 use Rattle.drain_turns.specs.Turn.{Outside, IsStamped, IsStepOf}
 use Rattle.drain_turns.specs.declared.end.TurnsEnd.{TurnsEnd}
@@ -69,29 +71,23 @@ ends_no_step m s (Finds bot at (found.LongLine line)) x what is step = step
 ends_no_step m s (Finds bot at found.LongFeed) x what is step = step
 ends_no_step m s Nobody x what is step = step
 
--- a step that is due ends the call
-StopsBy : Outside → Place → Step → TurnsEnd → Type 0
-StopsBy o p step end.Idle = ⊥
-StopsBy o p step end.Left = ⊥
-StopsBy o p step (end.Absent name) = ⊥
-StopsBy o p step (end.Failed name) = ⊥
-StopsBy o p step (end.Short have need) = ⊥
-StopsBy o p step (end.LongLine bot line) = ⊥
-StopsBy o p step (end.LongFeed bot) = ⊥
-StopsBy o p step (end.Halted bot) = ⊥
-StopsBy o p step (end.Spent next) = spent o.meaning p.state step ≡ Some next
-StopsBy o p step (end.Full bytes) = StaysSmall o.meaning p.state step × (bytes ≡ bytes_with p.steps step) × (o.limit < bytes)
-StopsBy o p step end.Disk = ⊥
-StopsBy o p step end.Memory = ⊥
+-- the end that a refusal makes, if it makes one
+stop_by : Option StageRefusal → Option TurnsEnd
+stop_by None = None
+stop_by (Some refusal.Broken) = None
+stop_by (Some (refusal.Step step)) = None
+stop_by (Some (refusal.Spent next)) = Some (end.Spent next)
+stop_by (Some (refusal.Full bytes)) = Some (end.Full bytes)
+stop_by (Some refusal.OutOfMemory) = None
 
 data Cause (o : Outside) (p : Place) (x : TurnsEnd) : Type 0 where
   idle : p.opening ≡ [] → is_idle o.meaning p.state ≡ true → x ≡ end.Idle → Cause o p x
   left : IsBusy o.meaning p → p.left ≡ Some 0 → x ≡ end.Left → Cause o p x
   turn : (t : Turn) → Turns o p t → end_by o.meaning p.state t ≡ Some x → Cause o p x
-  step : (s : Step) → IsDue o p s → StopsBy o p s x → Cause o p x
+  step : (s : Step) → IsDue o p s → stop_by (refused o p s) ≡ Some x → Cause o p x
 
 cause_of : (o : Outside) (p : Place) (x : TurnsEnd) → IsShown x → Ends o p x → Cause o p x
-unfolding end_by StopsBy
+unfolding end_by stop_by
 cause_of o p end.Idle shown e = idle e.0 e.1 refl
 cause_of o p end.Left shown e = left e.0 e.1 refl
 cause_of o p (end.Absent name) shown e = turn (Finds e.0 e.1 found.Absent) e.2 (ap (option_map end.Absent) e.3)
@@ -100,50 +96,14 @@ cause_of o p (end.Short have need) shown e = turn (Finds e.0 need (found.Short h
 cause_of o p (end.LongLine bot line) shown e = turn (Finds bot e.0 (found.LongLine line)) e.1 refl
 cause_of o p (end.LongFeed bot) shown e = turn (Finds bot e.0 found.LongFeed) e.1 refl
 cause_of o p (end.Halted bot) shown e = turn Nobody e.0 (ap (option_map end.Halted) e.1)
-cause_of o p (end.Spent next) shown e = step e.0 e.1 e.2
-cause_of o p (end.Full bytes) shown e = step e.0 e.1 (e.2, e.3, e.4)
+cause_of o p (end.Spent next) shown e = step e.0 e.1 (ap stop_by e.2)
+cause_of o p (end.Full bytes) shown e = step e.0 e.1 (ap stop_by e.2)
+cause_of o p (end.Damaged file at) shown e = absurd shown
 cause_of o p end.Disk shown e = absurd shown
 cause_of o p end.Memory shown e = absurd shown
 
 some_same : {A : Type 0} {a b : A} {o : Option A} → o ≡ Some a → o ≡ Some b → a ≡ b
 some_same x y = cc (x, y)
-
-one_stop : (o : Outside) (p : Place) (s : Step) (x y : TurnsEnd) → StopsBy o p s x → StopsBy o p s y → x ≡ y
-unfolding StopsBy
-one_stop o p s end.Idle y i j = absurd i
-one_stop o p s end.Left y i j = absurd i
-one_stop o p s (end.Absent name) y i j = absurd i
-one_stop o p s (end.Failed name) y i j = absurd i
-one_stop o p s (end.Short have need) y i j = absurd i
-one_stop o p s (end.LongLine bot line) y i j = absurd i
-one_stop o p s (end.LongFeed bot) y i j = absurd i
-one_stop o p s (end.Halted bot) y i j = absurd i
-one_stop o p s end.Disk y i j = absurd i
-one_stop o p s end.Memory y i j = absurd i
-one_stop o p s (end.Spent next) (end.Spent other) i j = ap end.Spent (some_same i j)
-one_stop o p s (end.Spent next) (end.Full bytes) i j = absurd (cc (i, j.0))
-one_stop o p s (end.Full bytes) (end.Spent next) i j = absurd (cc (j, i.0))
-one_stop o p s (end.Full bytes) (end.Full other) i j = ap end.Full (i.1 ∙ sym j.1)
-one_stop o p s (end.Spent next) end.Idle i j = absurd j
-one_stop o p s (end.Spent next) end.Left i j = absurd j
-one_stop o p s (end.Spent next) (end.Absent name) i j = absurd j
-one_stop o p s (end.Spent next) (end.Failed name) i j = absurd j
-one_stop o p s (end.Spent next) (end.Short have need) i j = absurd j
-one_stop o p s (end.Spent next) (end.LongLine bot line) i j = absurd j
-one_stop o p s (end.Spent next) (end.LongFeed bot) i j = absurd j
-one_stop o p s (end.Spent next) (end.Halted bot) i j = absurd j
-one_stop o p s (end.Spent next) end.Disk i j = absurd j
-one_stop o p s (end.Spent next) end.Memory i j = absurd j
-one_stop o p s (end.Full bytes) end.Idle i j = absurd j
-one_stop o p s (end.Full bytes) end.Left i j = absurd j
-one_stop o p s (end.Full bytes) (end.Absent name) i j = absurd j
-one_stop o p s (end.Full bytes) (end.Failed name) i j = absurd j
-one_stop o p s (end.Full bytes) (end.Short have need) i j = absurd j
-one_stop o p s (end.Full bytes) (end.LongLine bot line) i j = absurd j
-one_stop o p s (end.Full bytes) (end.LongFeed bot) i j = absurd j
-one_stop o p s (end.Full bytes) (end.Halted bot) i j = absurd j
-one_stop o p s (end.Full bytes) end.Disk i j = absurd j
-one_stop o p s (end.Full bytes) end.Memory i j = absurd j
 
 -- ---- one end
 
@@ -174,35 +134,17 @@ one_end o p x y tells (turn t a b) (step s d e) = absurd (turn_not_due o p t s x
 one_end o p x y tells (step s a b) (idle d e f) = absurd (not_busy o p d e a.busy)
 one_end o p x y tells (step s a b) (left d e f) = absurd (a.left e)
 one_end o p x y tells (step s a b) (turn t d e) = absurd (turn_not_due o p t s y tells d e a)
-one_end o p x y tells (step s a b) (step t d e) = one_stop o p s x y b (subst (λ (u : Step). StopsBy o p u y) (sym (one_due o p s t tells a d)) e)
+one_end o p x y tells (step s a b) (step t d e) = some_same (sym (ap (λ (u : Step). stop_by (refused o p u)) (one_due o p s t tells a d)) ∙ b) e
 
 -- ---- one drain
 
--- a step that is made doesn't end the call, by itself
-stops : (o : Outside) (p : Place) (s : Step) (x : TurnsEnd) → IsMade o p s → StopsBy o p s x → ⊥
-unfolding StopsBy
-stops o p s end.Idle made i = i
-stops o p s end.Left made i = i
-stops o p s (end.Absent name) made i = i
-stops o p s (end.Failed name) made i = i
-stops o p s (end.Short have need) made i = i
-stops o p s (end.LongLine bot line) made i = i
-stops o p s (end.LongFeed bot) made i = i
-stops o p s (end.Halted bot) made i = i
-stops o p s (end.Spent next) made i = cc (i, made.small)
-stops o p s (end.Full bytes) made i = absurd (past bytes i.1 i.2 made.fits)
-  where
-    past : (n : ℕ) → n ≡ bytes_with p.steps s → o.limit < n → bytes_with p.steps s ≤ o.limit → ⊥
-    past n is over within = omega (arith, over, within, is)
-stops o p s end.Disk made i = i
-stops o p s end.Memory made i = i
-
 -- a step that is made doesn't end the call
 goes_on : (o : Outside) (p : Place) (s : Step) (x : TurnsEnd) → Tells o → IsMade o p s → Cause o p x → ⊥
+unfolding stop_by
 goes_on o p s x tells made (idle a b c) = not_busy o p a b made.due.busy
 goes_on o p s x tells made (left a b c) = made.due.left b
 goes_on o p s x tells made (turn t a b) = turn_not_due o p t s x tells a b made.due
-goes_on o p s x tells made (step t a b) = stops o p s x made (subst (λ (u : Step). StopsBy o p u x) (one_due o p t s tells a made.due) b)
+goes_on o p s x tells made (step t a b) = none-some x (sym (ap (λ (u : Step). stop_by (refused o p u)) (one_due o p t s tells a made.due) ∙ ap stop_by made.free) ∙ b)
 
 drain_one : (o : Outside) (p : Place) (a b : List Step) (x y : TurnsEnd) → Tells o → IsShown x → IsShown y → Drains o p a x → Drains o p b y → (a ≡ b) × (x ≡ y)
 drain_one o p [] [] x y tells shown_x shown_y i j = (refl, one_end o p x y tells (cause_of o p x shown_x i) (cause_of o p y shown_y j))
@@ -210,7 +152,7 @@ drain_one o p [] (s ∷ b) x y tells shown_x shown_y i j = absurd (goes_on o p s
 drain_one o p (s ∷ a) [] x y tells shown_x shown_y i j = absurd (goes_on o p s y tells i.0 (cause_of o p y shown_y j))
 drain_one o p (s ∷ a) (t ∷ b) x y tells shown_x shown_y i j =
     let same = one_due o p t s tells j.0.due i.0.due in
-    let rest = drain_one o (behind o.meaning p s) a b x y tells shown_x shown_y i.1 (subst (λ (u : Step). Drains o (behind o.meaning p u) b y) same j.1) in
+    let rest = drain_one o (behind o p s) a b x y tells shown_x shown_y i.1 (subst (λ (u : Step). Drains o (behind o p u) b y) same j.1) in
     (ap (λ (u : Step). u ∷ a) (sym same) ∙ ap (λ (us : List Step). t ∷ us) rest.0, rest.1)
 
 pub one_drain : (o : Outside) (p : Place) (files : List (List ℕ × List ℕ)) (now : ℕ) (a b : List Step) (x y : TurnsEnd) → o.shelf.told ≡ Some files → o.clock ≡ Some now → IsShown x → IsShown y → Drains o p a x → Drains o p b y → (a ≡ b) × (x ≡ y)

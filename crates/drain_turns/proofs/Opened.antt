@@ -17,11 +17,7 @@ use Rattle.drain_turns.specs.Laws.{opened, HasFeeds, MayOpen}
 use Rattle.drain_turns.specs.Turn.{Outside}
 use Rattle.drain_turns.specs.declared.end.TurnsEnd.{TurnsEnd}
 use Rattle.drain_turns.proofs.ReadOn.{feeds_stay_readable}
-
--- two states have the same bundle in force, and the same feeds
-record AreAlike (s t : Base) : Type 0 where
-  pub bundle : s.bundle ≡ t.bundle
-  pub feeds : s.feeds ≡ t.feeds
+use Rattle.drain_turns.proofs.Readied.{behind_alike, behind_opening, feeds_too, sound_too, AreAlike}
 
 -- a reload's feeds and bundle depend on those of the state before
 pub reload_feeds : (m : Meaning) (s : Base) (bundle : List ℕ) → (reloaded (bots_in_force m s) (bots_of m bundle) bundle s).feeds ≡ with_feeds (bots_of m bundle) (map (renewed (bots_in_force m s) (bots_of m bundle)) s.feeds)
@@ -30,7 +26,10 @@ reload_feeds m s bundle = kept-all_given_back (λ (t : Base). t.feeds) (λ t que
 pub reload_bundle : (m : Meaning) (s : Base) (bundle : List ℕ) → (reloaded (bots_in_force m s) (bots_of m bundle) bundle s).bundle ≡ bundle
 reload_bundle m s bundle = kept-all_given_back (λ (t : Base). t.bundle) (λ t queues hands. refl) (bots_of m bundle) (instances_of (bots_in_force m s)) _
 
--- behind a step of an opening they have them too, whatever its moments
+alike_on : (s t u : Base) → AreAlike s t → AreAlike t u → AreAlike s u
+alike_on s t u x y = record { bundle = x.bundle ∙ y.bundle; feeds = x.feeds ∙ y.feeds }
+
+-- behind a step of an opening states that are alike are so too, whatever its moments
 alike_behind : (m : Meaning) (s t : Base) (now then : Moment) (what : StepKind) → MayOpen what → AreAlike s t → AreAlike (after m s (record { moment = now; what = what })) (after m t (record { moment = then; what = what }))
 alike_behind m s t now then kind.Start may alike = record { bundle = alike.bundle; feeds = alike.feeds }
 alike_behind m s t now then (kind.Reload bundle) may alike =
@@ -55,35 +54,28 @@ opened_alike : (m : Meaning) (s t : Base) (opening : List StepKind) → AllByRec
 opened_alike m s t [] may alike = alike
 opened_alike m s t (what ∷ later) may alike = opened_alike m (after m s (record { moment = s.latest; what = what })) (after m t (record { moment = t.latest; what = what })) later may.1 (alike_behind m s t s.latest t.latest what may.0 alike)
 
--- what is asked of a state asks for its bundle and its feeds alone
-module _ (files : List (List ℕ × List ℕ)) (m : Meaning) (s t : Base) (alike : AreAlike s t) where
-  sound_too : AreSound (bots_in_force m s) → AreSound (bots_in_force m t)
-  sound_too sound = subst (λ (b : List ℕ). AreSound (bots_of m b)) alike.bundle sound
-
-  feeds_too : HasFeeds files m s → HasFeeds files m t
-  feeds_too have = subst (λ (feeds : List Feed). HasFeeds files m (record t { feeds = feeds })) alike.feeds (subst (λ (b : List ℕ). HasFeeds files m (record t { bundle = b; feeds = s.feeds })) alike.bundle have)
-
 pub opened_feeds_are_readable : (o : Outside) (p : Place) (files : List (List ℕ × List ℕ)) (made : List Step) (last : TurnsEnd) → o.shelf.told ≡ Some files → AllByRecursion MayOpen p.opening
     → AreSound (bots_in_force o.meaning (opened o.meaning p.state p.opening)) → HasFeeds files o.meaning (opened o.meaning p.state p.opening) → Drains o p made last
-    → (behind_all o.meaning p made).opening ≡ [] → HasFeeds files o.meaning (behind_all o.meaning p made).state
+    → (behind_all o p made).opening ≡ [] → HasFeeds files o.meaning (behind_all o p made).state
 opened_feeds_are_readable o p files [] last told may sound have drains none = subst (λ (ks : List StepKind). HasFeeds files o.meaning (opened o.meaning p.state ks)) none have
 opened_feeds_are_readable o p files (step ∷ made) last told may sound have drains none =
-    go p.opening refl (λ may sound have. opened_feeds_are_readable o (behind o.meaning p step) files made last told may sound have drains.1 none)
+    go p.opening refl (λ may sound have. opened_feeds_are_readable o (behind o p step) files made last told may sound have drains.1 none)
   where
     go : (opening : List StepKind) → p.opening ≡ opening
-        → (AllByRecursion MayOpen (drop 1 p.opening) → AreSound (bots_in_force o.meaning (opened o.meaning (after o.meaning p.state step) (drop 1 p.opening)))
-        → HasFeeds files o.meaning (opened o.meaning (after o.meaning p.state step) (drop 1 p.opening)) → HasFeeds files o.meaning (behind_all o.meaning (behind o.meaning p step) made).state)
-        → HasFeeds files o.meaning (behind_all o.meaning (behind o.meaning p step) made).state
+        → (AllByRecursion MayOpen (behind o p step).opening → AreSound (bots_in_force o.meaning (opened o.meaning (behind o p step).state (behind o p step).opening))
+        → HasFeeds files o.meaning (opened o.meaning (behind o p step).state (behind o p step).opening) → HasFeeds files o.meaning (behind_all o (behind o p step) made).state)
+        → HasFeeds files o.meaning (behind_all o (behind o p step) made).state
     go [] is later =
         feeds_stay_readable o p files (step ∷ made) last told is (subst (λ (ks : List StepKind). AreSound (bots_in_force o.meaning (opened o.meaning p.state ks))) is sound)
         (subst (λ (ks : List StepKind). HasFeeds files o.meaning (opened o.meaning p.state ks)) is have) drains
     go (what ∷ others) is later =
         let next = subst (λ (ks : List StepKind). IsNextKind o p.state ks step.what) is drains.0.due.next in
         let each = subst (AllByRecursion MayOpen) is may in
-        let rest : drop 1 p.opening ≡ others = ap (drop 1) is in
+        let rest : (behind o p step).opening ≡ others = behind_opening o p step ∙ ap (drop 1) is in
         let at = subst (λ (k : StepKind). AreAlike (after o.meaning p.state (record { moment = p.state.latest; what = what })) (after o.meaning p.state (record { moment = step.moment; what = k }))) (sym next)
         (alike_behind o.meaning p.state p.state p.state.latest step.moment what each.0 (record { bundle = refl; feeds = refl })) in
-        let alike = subst (λ (ks : List StepKind). AreAlike (opened o.meaning p.state (what ∷ others)) (opened o.meaning (after o.meaning p.state step) ks)) (sym rest) (opened_alike o.meaning _ _ others each.1 at) in
+        let made_there = alike_on _ _ _ at (behind_alike o p step) in
+        let alike = subst (λ (ks : List StepKind). AreAlike (opened o.meaning p.state (what ∷ others)) (opened o.meaning (behind o p step).state ks)) (sym rest) (opened_alike o.meaning _ _ others each.1 made_there) in
         later (subst (AllByRecursion MayOpen) (sym rest) each.1)
         (sound_too files o.meaning _ _ alike (subst (λ (ks : List StepKind). AreSound (bots_in_force o.meaning (opened o.meaning p.state ks))) is sound))
         (feeds_too files o.meaning _ _ alike (subst (λ (ks : List StepKind). HasFeeds files o.meaning (opened o.meaning p.state ks)) is have))

@@ -1,10 +1,9 @@
 -- Along turns the feeds of collectors stay readable.
-use Rattle.std.proofs.Common.{◌≡◌, ◌≤◌, ◌+◌, ◌⊎◌, ⊎_elim, inl, inr, ℕ, Bool, true, false, not, List, [], ◌∷◌, length, drop, filter, find, Option, Some, None, option_map, refl, sym, ap, subst, ◌∙◌, arith, if◌then◌else◌}
+use Rattle.std.proofs.Common.{◌≡◌, ◌+◌, ◌⊎◌, ⊎_elim, inl, inr, ℕ, Bool, true, false, not, List, [], ◌∷◌, drop, find, Option, Some, None, option_map, refl, sym, ap, subst, ◌∙◌}
 use Rattle.std.specs.Prelude.{unwrap_or}
 use Rattle.std.specs.List.{AllByRecursion}
 use Rattle.std.specs.Option.{IsSomeAnd}
 use Rattle.std.specs.Str.{bytes_eq}
-use Rattle.std.proofs.lemmas.Option.{none-some}
 use Rattle.std.proofs.lemmas.Slice.Eq.{bytes_eq-Decides}
 use Rattle.base_types.specs.declared.message.Moment.{Moment}
 use Rattle.base_types.specs.declared.message.Msg.{Msg}
@@ -21,7 +20,7 @@ use Rattle.step_code.specs.declared.step.Step.{Step}
 use Rattle.step_code.specs.declared.step.StepKind.{StepKind}
 use Rattle.step_code.specs.declared.step.StepKind.TheVariants as kind
 use Rattle.step_code.specs.After.{after, taken_first}
-use Rattle.step_code.specs.Rules.{bot_named, collects, passes, AreSound, Meaning}
+use Rattle.step_code.specs.Rules.{bot_named, collects, passes, AreSound}
 use Rattle.step_code.specs.State.{bots_in_force, has_finished, is_feed, position_of, waiting}
 use Rattle.turn_order.specs.Turn.{collectors}
 use Rattle.turn_order.specs.declared.actor.Actor.TheVariants.{Full, Take}
@@ -36,6 +35,7 @@ use Rattle.drain_turns.specs.declared.end.TurnsEnd.{TurnsEnd}
 use Rattle.drain_turns.specs.declared.turn.Turn.{Turn}
 use Rattle.drain_turns.specs.declared.turn.Turn.TheVariants.{Acts, Finds, Nobody}
 use Rattle.drain_turns.proofs.Free.{piece_inside}
+use Rattle.drain_turns.proofs.Readied.{behind_alike, behind_opening, feeds_too, sound_too}
 use Rattle.drain_turns.proofs.Turning.{all_kept, finds, has_feed, not_true, turn_of, IsFoundBy}
 
 abbrev Files : Type 0
@@ -212,9 +212,12 @@ module _ (o : Outside) (files : Files) (told : o.shelf.told ≡ Some files) (s :
 -- ---- all steps
 
 pub feeds_stay_readable : (o : Outside) (p : Place) (files : Files) (made : List Step) (last : TurnsEnd) → o.shelf.told ≡ Some files → p.opening ≡ [] → AreSound (bots_in_force o.meaning p.state) → HasFeeds files o.meaning p.state
-    → Drains o p made last → HasFeeds files o.meaning (behind_all o.meaning p made).state
+    → Drains o p made last → HasFeeds files o.meaning (behind_all o p made).state
 feeds_stay_readable o p files [] last told opened sound have drains = have
 feeds_stay_readable o p files (step ∷ made) last told opened sound have drains =
     let next = subst (λ (ks : List StepKind). IsNextKind o p.state ks step.what) opened drains.0.due.next in
     let on = turn_goes_on o files told p.state sound have next.0 step.moment step.what next.1 next.2 in
-    feeds_stay_readable o (behind o.meaning p step) files made last told (ap (drop 1) opened) (subst (λ (b : List ℕ). AreSound (bots_in_force o.meaning (record p.state { bundle = b }))) (sym on.bundle) sound) on.feeds drains.1
+    let alike = behind_alike o p step in
+    let sound_on = subst (λ (b : List ℕ). AreSound (bots_in_force o.meaning (record p.state { bundle = b }))) (sym on.bundle) sound in
+    feeds_stay_readable o (behind o p step) files made last told (behind_opening o p step ∙ ap (drop 1) opened) (sound_too files o.meaning (after o.meaning p.state step) (behind o p step).state alike sound_on)
+    (feeds_too files o.meaning (after o.meaning p.state step) (behind o p step).state alike on.feeds) drains.1

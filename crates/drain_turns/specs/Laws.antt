@@ -12,14 +12,13 @@ use Rattle.step_code.specs.declared.step.StepKind.TheVariants as kind
 use Rattle.step_code.specs.After.{after}
 use Rattle.step_code.specs.Content.{longest_feed, May}
 use Rattle.step_code.specs.Rules.{AreSound, Meaning, last_moment}
-use Rattle.step_code.specs.Spent.{StaysSmall}
 use Rattle.step_code.specs.State.{bots_in_force, has_finished, position_of}
 use Rattle.ack_steps.specs.Core.{HasSoundHands}
 use Rattle.turn_order.specs.Turn.{collectors, is_idle}
-use Rattle.journal_book.specs.Staged.{bytes_with, stamp}
+use Rattle.journal_book.specs.Staged.{stamp}
 use Rattle.collector_feeds.specs.declared.found.Found.{Found}
 use Rattle.collector_feeds.specs.declared.found.Found.TheVariants as found
-use Rattle.drain_turns.specs.Drained.{behind_all, Drains, IsDue, Place}
+use Rattle.drain_turns.specs.Drained.{behind_all, refused, Drains, IsDue, Place}
 use Rattle.drain_turns.specs.Turn.{Outside, IsStepOf, IsTurn}
 use Rattle.drain_turns.specs.declared.end.TurnsEnd.{TurnsEnd}
 use Rattle.drain_turns.specs.declared.end.TurnsEnd.TheVariants as end
@@ -64,7 +63,7 @@ OneTurn = (o : Outside) (s : Base) (files : List (List ℕ × List ℕ)) (a b : 
 abbrev pub NobodyOnlyIfHalted : Type 0
 NobodyOnlyIfHalted = (o : Outside) (s : Base) → HasSoundHands o.meaning s → AreSound (bots_in_force o.meaning s) → IsTurn o s Nobody → is_idle o.meaning s ≡ false → s.halted ≢ []
 
--- a call ends so by a cause that its place shows: no feed and no disk failed, and memory didn't run out
+-- a call ends so by a cause that its place shows: no feed and no disk failed, no output was found damaged, and memory didn't run out
 abbrev pub IsShown : TurnsEnd → Type 0
 IsShown end.Idle = Unit {0}
 IsShown end.Left = Unit {0}
@@ -76,6 +75,7 @@ IsShown (end.LongFeed bot) = Unit {0}
 IsShown (end.Halted bot) = Unit {0}
 IsShown (end.Spent next) = Unit {0}
 IsShown (end.Full bytes) = Unit {0}
+IsShown (end.Damaged file at) = ⊥
 IsShown end.Disk = ⊥
 IsShown end.Memory = ⊥
 
@@ -109,11 +109,10 @@ HasFeed files s f = has_finished f.bot s ≡ false → ReadsOn files s f
 abbrev pub HasFeeds : List (List ℕ × List ℕ) → Meaning → Base → Type 0
 HasFeeds files m s = AllByRecursion (HasFeed files s) (collectors m s)
 
--- at this place there is room for what is due: no bot is halted, and a step that is due spends no number and fits in the generation
+-- at this place there is room for what is due: no bot is halted, and nothing refuses a step that is due
 pub record HasRoom (o : Outside) (p : Place) : Type 0 where
   pub halted : p.state.halted ≡ []
-  pub small : (step : Step) → IsDue o p step → StaysSmall o.meaning p.state step
-  pub fits : (step : Step) → IsDue o p step → bytes_with p.steps step ≤ o.limit
+  pub free : (step : Step) → IsDue o p step → refused o p step ≡ None
 
 -- nothing hinders a call at this place: there is room, and where its opening is made, the shelf has the feeds
 pub record IsFree (o : Outside) (files : List (List ℕ × List ℕ)) (p : Place) : Type 0 where
@@ -122,13 +121,13 @@ pub record IsFree (o : Outside) (files : List (List ℕ × List ℕ)) (p : Place
 
 -- a call that may make any number of steps ends only where nothing is left to do, if nothing hinders it there
 abbrev pub FreeCallsEndIdle : Type 0
-FreeCallsEndIdle = (o : Outside) (p : Place) (files : List (List ℕ × List ℕ)) (made : List Step) (last : TurnsEnd) → o.shelf.told ≡ Some files → p.left ≡ None → IsFree o files (behind_all o.meaning p made) →
+FreeCallsEndIdle = (o : Outside) (p : Place) (files : List (List ℕ × List ℕ)) (made : List Step) (last : TurnsEnd) → o.shelf.told ≡ Some files → p.left ≡ None → IsFree o files (behind_all o p made) →
     IsShown last → Drains o p made last → last ≡ end.Idle
 
 -- along turns the feeds stay readable
 abbrev pub FeedsStayReadable : Type 0
 FeedsStayReadable = (o : Outside) (p : Place) (files : List (List ℕ × List ℕ)) (made : List Step) (last : TurnsEnd) → o.shelf.told ≡ Some files → p.opening ≡ [] → AreSound (bots_in_force o.meaning p.state) →
-    HasFeeds files o.meaning p.state → Drains o p made last → HasFeeds files o.meaning (behind_all o.meaning p made).state
+    HasFeeds files o.meaning p.state → Drains o p made last → HasFeeds files o.meaning (behind_all o p made).state
 
 -- ---- what is known of feeds ahead of a call
 
@@ -148,4 +147,4 @@ opened m s (what ∷ later) = opened m (after m s (record { moment = s.latest; w
 abbrev pub OpenedFeedsAreReadable : Type 0
 OpenedFeedsAreReadable = (o : Outside) (p : Place) (files : List (List ℕ × List ℕ)) (made : List Step) (last : TurnsEnd) → o.shelf.told ≡ Some files → AllByRecursion MayOpen p.opening →
     AreSound (bots_in_force o.meaning (opened o.meaning p.state p.opening)) → HasFeeds files o.meaning (opened o.meaning p.state p.opening) → Drains o p made last →
-    (behind_all o.meaning p made).opening ≡ [] → HasFeeds files o.meaning (behind_all o.meaning p made).state
+    (behind_all o p made).opening ≡ [] → HasFeeds files o.meaning (behind_all o p made).state

@@ -44,5 +44,6 @@ IsEndOf bots bot at what (end.LongFeed other) = (what ≡ found.LongFeed) × (ot
 IsEndOf bots bot at what (end.Halted other) = ⊥
 IsEndOf bots bot at what (end.Spent next) = ⊥
 IsEndOf bots bot at what (end.Full bytes) = ⊥
+IsEndOf bots bot at what (end.Damaged file place) = ⊥
 IsEndOf bots bot at what end.Disk = ⊥
 IsEndOf bots bot at what end.Memory = Unit {0}

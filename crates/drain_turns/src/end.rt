@@ -19,10 +19,13 @@ pub enum TurnsEnd {
     LongFeed { bot: BotName },
     /// No bot may step, and this is the first that was halted.
     Halted { bot: BotName },
-    /// The next step would bring this number past the last one that may be given.
+    /// The next step, or the generation that it begins, would bring this number past the last one that may be given.
     Spent { next: u64 },
-    /// The codes of the generation's steps would have so many bytes together, more than the limit.
+    /// The codes of the generation's steps would have so many bytes together, more than the limit; or that of the state with which the next
+    /// generation would begin, more than a store may hold.
     Full { bytes: u64 },
+    /// The file of an output has this length in bytes, less than what is sealed of it.
+    Damaged { file: u64, at: u64 },
     /// The disk failed, and the book is broken.
     Disk,
     Memory,

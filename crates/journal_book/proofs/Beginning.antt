@@ -26,7 +26,7 @@ use Rattle.store_image.specs.Files.{generation_file, root_file}
 use Rattle.store_image.specs.Stands.{origin_of, AreSealedFrom, FrontsStand, IsArchive, IsSealOf, Stands, WhereWhole}
 use Rattle.store_image.specs.Stored.{codes_of, HoldsSteps}
 use Rattle.store_image.proofs.Standing.{stands_by, IsPast}
-use Rattle.journal_book.specs.Book.{created, BookView, IsKept}
+use Rattle.journal_book.specs.Book.{created, first_root, BookView, IsKept}
 use Rattle.journal_book.specs.Keeping.{longest_output, longest_waiting, AreAtRest, AreShort, AreStoreFiles, IsPending, IsReplayed}
 use Rattle.journal_book.specs.Staged.{greatest_limit}
 use Rattle.journal_book.specs.Alone.{IsBesideNew}
@@ -171,6 +171,6 @@ pub rest_created : (old now : DiskView) (root journal : JournalView) (base : Bas
 rest_created old now root journal base after None was told untold rests = absurd (none-some after (sym (untold was) ∙ told))
 rest_created old now root journal base after (Some files) was told untold rests = rests files after was told
 
-pub view_created : {D R : Type 0} (rules other : R) (base state : Base) (steps : List Step) (limit : ℕ) (now : D) → other ≡ rules → state ≡ base → steps ≡ []
-    → (let book : BookView D R = record { disk = now; rules = other; generation = 0; base = base; steps = steps; kept = 0; state = state; limit = limit; broken = false } in book ≡ created rules base limit now)
-view_created rules other base state steps limit now same_rules same_state none = λ i. record { disk = now; rules = same_rules i; generation = 0; base = base; steps = none i; kept = 0; state = same_state i; limit = limit; broken = false }
+pub view_created : {D R : Type 0} (rules other : R) (base state : Base) (steps : List Step) (limit root : ℕ) (now : D) → other ≡ rules → state ≡ base → steps ≡ [] → root ≡ first_root
+    → (let book : BookView D R = record { disk = now; rules = other; generation = 0; root = root; base = base; steps = steps; kept = 0; state = state; limit = limit; broken = false } in book ≡ created rules base limit now)
+view_created rules other base state steps limit root now same_rules same_state none same_root = λ i. record { disk = now; rules = same_rules i; generation = 0; root = same_root i; base = base; steps = none i; kept = 0; state = same_state i; limit = limit; broken = false }

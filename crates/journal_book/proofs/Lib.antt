@@ -10,6 +10,7 @@ pub mod OneMore
 pub mod Sealing
 pub mod Opened
 pub mod Recovering
+pub mod Renewed
 pub mod Reopened
 pub mod Sends
 pub mod Small

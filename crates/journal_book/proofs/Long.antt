@@ -3,6 +3,7 @@ use Rattle.std.proofs.Common.{◌≡◌, ◌≤◌, ◌<◌, ◌+◌, ℕ, zero,
 use Rattle.std.specs.List.{slice_get}
 use Rattle.std.proofs.lemmas.Bool.{ltb-false, ltb-true}
 use Rattle.std.proofs.lemmas.List.{length-take-le}
+use Rattle.core_state.specs.Sealing.{sealed_out}
 use Rattle.edge_traits.specs.Disk.{ChangesOnly, Image}
 use Rattle.out_files.specs.Output.{completed, lines_text}
 use Rattle.step_code.specs.declared.base.Base.{Base}
@@ -12,7 +13,9 @@ use Rattle.step_code.specs.declared.step.Step.{Step}
 use Rattle.step_code.specs.After.{after}
 use Rattle.step_code.specs.History.{replay}
 use Rattle.step_code.specs.Rules.{Meaning}
+use Rattle.step_code.specs.Spent.{out_length}
 use Rattle.step_code.specs.State.{new_out}
+use Rattle.seal_laws.proofs.Sealed.{text_length}
 use Rattle.store_image.specs.Files.{generation_file, out_file}
 use Rattle.store_image.specs.Opens.{AreLong}
 use Rattle.journal_book.specs.Opening.{TellsLong}
@@ -41,7 +44,7 @@ long_each n [] files each = tt
 long_each n (out ∷ outs) files each = (each 0 out n refl (omega arith), long_each (suc n) outs files (λ k o at is same. each (suc k) o at is (omega (arith, same))))
 
 -- where as much is sealed, files that are as long are long enough
-long_again : (outs others : List Output) (files after : Image) → ((k : ℕ) → sealed_of others k ≡ sealed_of outs k) → ((k : ℕ) → length (files (out_file k)) ≤ length (after (out_file k))) → AreLong 0 outs files → AreLong 0 others after
+pub long_again : (outs others : List Output) (files after : Image) → ((k : ℕ) → sealed_of others k ≡ sealed_of outs k) → ((k : ℕ) → length (files (out_file k)) ≤ length (after (out_file k))) → AreLong 0 outs files → AreLong 0 others after
 long_again outs others files after same no_shorter long = long_of 0 others after (λ k at is. omega (arith, same k, no_shorter at, long_at 0 outs files long k at is))
 
 -- ---- what a book keeps
@@ -116,3 +119,22 @@ no_damage outs told files (fault.Damaged file at) tells long bad = not_short out
 no_damage outs told files (fault.Store have) tells long bad = tt
 no_damage outs told files fault.Refused tells long bad = tt
 no_damage outs told files fault.OutOfMemory tells long bad = tt
+
+-- ---- outputs whose lines are all sealed, once they are completed
+
+sealed_each : (n : ℕ) (outs : List Output) (files : Image) → ((k : ℕ) (out : Output) (at : ℕ) → slice_get outs k ≡ Some out → at ≡ n + k → out_length out ≤ length (files (out_file at))) → AreLong n (map sealed_out outs) files
+sealed_each n [] files each = tt
+sealed_each n (out ∷ outs) files each = (each 0 out n refl (omega arith), sealed_each (suc n) outs files (λ k o at is same. each (suc k) o at is (omega (arith, same))))
+
+completed_length : (file : List ℕ) (out : Output) → out.sealed_bytes ≤ length file → out_length out ≤ length (completed file out.sealed_bytes out.lines)
+completed_length file out long = omega (arith, length-append (take out.sealed_bytes file) (lines_text out.lines), length-take-le out.sealed_bytes file long, text_length out.lines)
+
+pub long_sealed : (told now : Option Image) (may_leave : ℕ → List ℕ → Type 0) (outs : List Output) (after : Image) → (told ≡ None → now ≡ None) → now ≡ Some after
+    → ((files after : Image) → told ≡ Some files → now ≡ Some after → AreCompleted may_leave outs files after) → AreLong 0 (map sealed_out outs) after
+long_sealed told now may_leave outs after untold tells done =
+    let before = before_told told now after untold tells in
+    sealed_each 0 outs after
+    (λ k out at is same.
+    let finished = done before.0 after before.1 tells k out is in
+    let long : out_length out ≤ length (after (out_file k)) = omega (arith, completed_length (before.0 (out_file k)) out finished.long, ap length finished.content) in
+    subst (λ (j : ℕ). out_length out ≤ length (after (out_file j))) (omega (arith, same)) long)

@@ -1,19 +1,21 @@
 -- The book, as contracts see it.
 use Rattle.std.specs.Prelude.{◌≡◌, ◌≤◌, ◌+◌, ℕ, Bool, false, List, [], ◌++◌, length, take, drop, Some}
 use Rattle.edge_traits.specs.Disk.{DiskView, Image, IsImage}
+use Rattle.disk_journal.specs.GateFile.{frame_length, header_length}
 use Rattle.step_code.specs.declared.base.Base.{Base}
 use Rattle.step_code.specs.declared.step.Step.{Step}
 use Rattle.step_code.specs.Rules.{Meaning}
 use Rattle.step_code.specs.History.{replay}
 use Rattle.store_image.specs.Stands.{IsSealOf, Origin, StandsFor}
 
--- the disk and the rules that it owns; its generation, the state with which that begins, and the steps behind that state,
--- of which so many are durable; the state behind all of them; the limit of their codes together; and whether the disk
--- has failed it
+-- the disk and the rules that it owns; its generation, the length of the root's file, the state with which the generation begins,
+-- and the steps behind that state, of which so many are durable; the state behind all of them; the limit of their codes together;
+-- and whether the disk has failed it
 pub record BookView (D R : Type 0) : Type 0 where
   pub disk : D
   pub rules : R
   pub generation : ℕ
+  pub root : ℕ
   pub base : Base
   pub steps : List Step
   pub kept : ℕ
@@ -21,9 +23,17 @@ pub record BookView (D R : Type 0) : Type 0 where
   pub limit : ℕ
   pub broken : Bool
 
+-- how many bytes of the root name one generation
+abbrev pub root_entry : ℕ
+root_entry = frame_length + 8
+
+-- the length of a root that names the first generation alone
+abbrev pub first_root : ℕ
+first_root = header_length + 1 + root_entry
+
 -- the book of a store that begins with this state
 abbrev pub created : {D R : Type 0} → R → Base → ℕ → D → BookView D R
-created rules base limit disk = record { disk = disk; rules = rules; generation = 0; base = base; steps = []; kept = 0; state = base; limit = limit; broken = false }
+created rules base limit disk = record { disk = disk; rules = rules; generation = 0; root = first_root; base = base; steps = []; kept = 0; state = base; limit = limit; broken = false }
 
 -- the steps that are durable, and those that wait for a flush
 abbrev pub durable_steps : {D R : Type 0} → BookView D R → List Step

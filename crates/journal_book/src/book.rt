@@ -1,34 +1,41 @@
-ghost use Rattle.std.specs.Prelude.{◌≡◌, ◌≢◌, ◌↔◌, ◌⊎◌, ◌≤◌, ◌<◌, ◌+◌, ◌++◌, [], ◌∷◌, ℕ, Bool, List, true, false, length, take, drop, Option, Some, None, Err, IfOk, IfErr, OnOk, OnErr, IsErrOf};
+ghost use Rattle.std.specs.Prelude.{min, suc, ◌≡◌, ◌≢◌, ◌↔◌, ◌⊎◌, ◌≤◌, ◌<◌, ◌+◌, ◌++◌, [], ◌∷◌, ℕ, Bool, List, true, false, length, take, drop, Option, Some, None, Err, IfOk, IfErr, OnOk, OnErr, IsErrOf};
 ghost use Rattle.ack_steps.specs.Core.{HasNearFeeds, HasSoundHands};
+ghost use Rattle.base_types.specs.Number.{last_u64};
+ghost use Rattle.core_state.specs.Sealing.{sealed_whole, HaveSmallOutputs};
+ghost use Rattle.disk_journal.specs.GateFile.{longest_journal};
 ghost use Rattle.edge_traits.specs.Count.{Rose};
 ghost use Rattle.edge_traits.specs.Disk.{Image, Leaves};
 ghost use Rattle.step_code.specs.declared.base.Base.{Base};
 ghost use Rattle.step_code.specs.declared.step.Step.{Step};
 ghost use Rattle.step_code.specs.After.{after};
+ghost use Rattle.step_code.specs.Code.{code_of_base, first_format, IsWritableBase};
 ghost use Rattle.step_code.specs.Content.{May};
 ghost use Rattle.step_code.specs.Fits.{Fits};
 ghost use Rattle.step_code.specs.Rules.{last_moment};
 ghost use Rattle.step_code.specs.declared.rules.Facts.{Facts};
 ghost use Rattle.step_code.specs.History.{first, replay};
 ghost use Rattle.step_code.specs.Sound.{IsSound};
+ghost use Rattle.step_code.specs.Spent.{last_given};
 ghost use Rattle.store_image.specs.Files.{generation_file, root_file};
 ghost use Rattle.store_image.specs.Stands.{origin_of, Origin, StandsFor};
 ghost use Rattle.store_image.specs.Stored.{codes_of};
 ghost use Rattle.journal_book.specs.Alone.{IsApart, IsBeside, IsBesideNew, IsNoOut, LeavesAlone};
-ghost use Rattle.journal_book.specs.Book.{created, durable_steps, waiting_steps, IsKept};
+ghost use Rattle.journal_book.specs.Book.{created, durable_steps, root_entry, waiting_steps, IsKept};
 ghost use Rattle.journal_book.specs.Faults.{IsCreateFault};
 ghost use Rattle.journal_book.specs.NewStore.{HasOldRootOrFirst};
 ghost use Rattle.journal_book.specs.Outputs.{AreCompleted, AreWritten, IsBringUpFault, IsNoDamage, LeavesOuts};
-ghost use Rattle.store_image.specs.Opens.{Opens};
-ghost use Rattle.journal_book.specs.Opening.{opened, IsReopened, IsReopenFault, StandsNow, TellsLong};
+ghost use Rattle.store_image.specs.Opens.{AreLong, Opens};
+ghost use Rattle.journal_book.specs.Opening.{opened, IsReopened, IsReopenFault, IsRootLength, StandsNow, TellsLong};
+ghost use Rattle.journal_book.specs.Renewing.{renew_cause, renewed, IsBeginFault, IsBesideNext, IsRefused, IsRenewFault, IsUndamaged};
 ghost use Rattle.journal_book.specs.Staged.{cause_of, greatest_limit, most_waiting, most_waiting_bytes, staged, stamp, step_cause, IsMove, IsStageRefusal};
 
 use crate::create::{Opened, make_store};
 use crate::entering::enter;
 use crate::opening::{Reopened, open_store};
 use crate::outputs::complete_all;
+use crate::renewing::{begin_generation, is_disk_fault, next_base, next_number, renew_fault};
 use crate::staging::{Move, next_step};
-use crate::{BookFault, StageRefusal};
+use crate::{BookFault, RenewFault, StageRefusal};
 use ack_steps::Core;
 use base_types::{Blob, OutOfMemory};
 use disk_journal::Journal;
@@ -78,7 +85,7 @@ impl<D: Disk, R: Rules> Model for Book<D, R> {
 
     ghost Value = { BookView D R };
 
-    ghost view = { λ b. record { disk = b.disk; rules = b.core.rules; generation = b.generation; base = b.base.value; steps = b.steps; kept = b.durable; state = b.core.state; limit = b.limit; broken = b.broken } };
+    ghost view = { λ b. record { disk = b.disk; rules = b.core.rules; generation = b.generation; root = b.root.length; base = b.base.value; steps = b.steps; kept = b.durable; state = b.core.state; limit = b.limit; broken = b.broken } };
 
     ghost invariant = { λ b. AreStoreFiles b.root b.journal b.generation
         × IsReplayed R.meaning b.base.value b.steps b.durable b.core.state
@@ -86,7 +93,8 @@ impl<D: Disk, R: Rules> Model for Book<D, R> {
         × AreShort b.core.state.outs
         × (b.broken ≡ false → b.journal.broken ≡ false)
         × (b.broken ≡ false → (files : Image) → (D.disk b.disk).told ≡ Some files → AreAtRest b.root b.journal (D.disk b.disk).may_leave b.generation b.base.value (take b.durable b.steps) files)
-        × (b.broken ≡ false → (files : Image) → (D.disk b.disk).told ≡ Some files → AreLong 0 b.core.state.outs files) };
+        × (b.broken ≡ false → (files : Image) → (D.disk b.disk).told ≡ Some files → AreLong 0 b.core.state.outs files)
+        × (b.broken ≡ false → b.root.broken ≡ false) };
 }
 
 impl<D: Disk, R: Rules> Book<D, R> {
@@ -179,10 +187,11 @@ impl<D: Disk, R: Rules> Book<D, R> {
         limit: u64,
     ) -> Result<Book<D, R>, (BookFault, D)>
         requires { limit ≤ greatest_limit }
-        ensures book { IfOk result (λ book. book ≡ opened R.meaning rules book.generation book.base book.steps limit book.disk) }
+        ensures book { IfOk result (λ book. book ≡ opened R.meaning rules book.generation book.root book.base book.steps limit book.disk) }
         ensures opens { (files : Image) → (D.disk disk).told ≡ Some files → IfOk result (λ book. Opens R.meaning files book.generation book.base book.steps) }
         ensures sound { IfOk result (λ book. IsSound R.meaning book.base) }
         ensures long { (files : Image) → (D.disk disk).told ≡ Some files → IfOk result (λ book. TellsLong (D.disk book.disk).told book.state.outs) }
+        ensures root { (files : Image) → (D.disk disk).told ≡ Some files → IfOk result (λ book. IsRootLength files book.generation book.root) }
 
         // The book goes on from all steps that whatever a crash left stood for.
         ensures kept { (origin : Origin) (steps more : List Step) → StandsNow R.meaning origin steps more (D.disk disk) → IfOk result (λ book. IsReopened D.disk R.meaning origin steps more book) }
@@ -256,6 +265,28 @@ impl<D: Disk, R: Rules> Book<D, R> {
         ensures { result ≡ self.now.base.steps + self.now.kept }
     {
         self.core.steps() - (self.steps.len() - self.durable) as u64
+    }
+
+    /// The number of the generation in force, from 0.
+    pub fn generation(&self) -> u64
+        ensures { result ≡ self.now.generation }
+    {
+        self.generation
+    }
+
+    /// How many bytes the codes of the generation's steps have together. Where it passes the greatest number, that number stands
+    /// for it.
+    pub fn step_bytes(&self) -> u64
+        ensures { result ≡ min (length (codes_of self.now.steps)) last_u64 }
+    {
+        self.steps.code_len()
+    }
+
+    /// How many bytes they may have.
+    pub fn limit(&self) -> u64
+        ensures { result ≡ self.now.limit }
+    {
+        self.limit
     }
 
     /// How many steps wait for a flush, and how many bytes their codes have together.
@@ -486,6 +517,123 @@ impl<D: Disk, R: Rules> Book<D, R> {
             Ok(()) => Ok(()),
             Err(fault) => {
                 self.broken = is_disk(fault);
+                Err(fault)
+            }
+        }
+    }
+
+    /// Begins the next generation: completes the files of all outputs, makes the generation's file with a state in which all of their
+    /// lines are sealed, and then names the generation in the root. Answers its number. The book has no steps then; its state is the
+    /// sealed one.
+    ///
+    /// # Errors
+    ///
+    /// `Broken`. `Spent`. `Full`. The disk isn't touched then. `Damaged` where an output's file is shorter than what is sealed of it.
+    /// `Disk`, and the book is broken from then on. `OutOfMemory`; also where no store may hold the sealed state, whose numbers are
+    /// too large.
+    pub fn renew(&mut self) -> Result<u64, RenewFault>
+        requires durable { self.old.kept ≡ length self.old.steps }
+        ensures ok { OnOk result (self.new ≡ record (renewed self.old) { disk = self.new.disk }) }
+        ensures number { IfOk result (λ number. number ≡ self.new.generation) }
+        ensures disk { IsErrOf result RenewFault.Disk → self.new ≡ record self.old { disk = self.new.disk; broken = true } }
+        ensures still { IfErr result (λ fault. fault ≢ RenewFault.Disk → self.new ≡ record self.old { disk = self.new.disk }) }
+        ensures untouched { IfErr result (λ fault. IsRefused fault → self.new ≡ self.old) }
+        ensures causes { OnOk result (renew_cause self.old ≡ None) }
+        ensures fault { IfErr result (IsRenewFault (renew_cause self.old) self.old.state.outs (D.disk self.old.disk).told) }
+
+        // No file is too short where the disk tells what it holds.
+        ensures undamaged { (files : Image) → (D.disk self.old.disk).told ≡ Some files → IfErr result IsUndamaged }
+
+        // Each output's file is all lines of the history that the disk stands for.
+        ensures written { (origin : Origin) (past : List Step) → IsKept D.disk R.meaning origin past self.old
+            → OnOk result (AreWritten R.meaning origin.first (past ++ self.old.steps) (D.disk self.new.disk)) }
+        ensures untold { (D.disk self.old.disk).told ≡ None → (D.disk self.new.disk).told ≡ None }
+
+        // Whatever a crash leaves now stands for the same steps as before: those of the generation are behind the new one.
+        ensures kept { (origin : Origin) (past : List Step) → IsKept D.disk R.meaning origin past self.old → OnOk result (IsKept D.disk R.meaning origin (past ++ self.old.steps) self.new) }
+        ensures kept_err { (origin : Origin) (past : List Step) → IsKept D.disk R.meaning origin past self.old → OnErr result (IsKept D.disk R.meaning origin past self.new) }
+
+        // So does what a crash at any moment of the call leaves.
+        ensures any_moment { (origin : Origin) (past : List Step) → IsKept D.disk R.meaning origin past self.old
+            → Leaves (D.disk self.old.disk) (D.disk self.new.disk) (StandsFor R.meaning origin (past ++ self.old.steps) []) }
+
+        // No file is changed but the root, the next generation's, and those of outputs.
+        ensures others { (files : Image) → (D.disk self.old.disk).told ≡ Some files → LeavesAlone (D.disk self.old.disk) (D.disk self.new.disk) (IsBesideNext (suc self.old.generation)) }
+        ensures failed { IsErrOf result RenewFault.Disk → Rose (D.disk self.old.disk).faults (D.disk self.new.disk).faults }
+        ensures count { (D.disk self.old.disk).faults ≤ (D.disk self.new.disk).faults }
+    {
+        if self.broken {
+            return Err(RenewFault::Broken);
+        }
+        let number = match next_number(self.generation, self.root.len()) {
+            Ok(number) => number,
+            Err(fault) => return Err(fault),
+        };
+        let (base, code) = match next_base(self.alloc, &self.core) {
+            Ok(next) => next,
+            Err(fault) => return Err(fault),
+        };
+        match self.complete_outputs() {
+            Ok(()) => self.begin_next(number, base, &code),
+            Err(fault) => Err(renew_fault(fault)),
+        }
+    }
+
+    // Makes the file of the next generation, which begins with this state of this code, and names it in the root.
+    fn begin_next(
+        &mut self,
+        number: u64,
+        base: Snapshot<Base>,
+        code: &Blob,
+    ) -> Result<u64, RenewFault>
+        requires whole { self.old.broken ≡ false }
+        requires durable { self.old.kept ≡ length self.old.steps }
+        requires number { number ≡ suc self.old.generation }
+        requires given { number ≤ last_given }
+        requires short { self.old.root + root_entry ≤ longest_journal }
+        requires base { base.value ≡ sealed_whole self.old.state }
+        requires code { code.now ≡ code_of_base first_format (sealed_whole self.old.state) }
+        requires small { HaveSmallOutputs self.old.state.outs }
+        requires writable { IsWritableBase first_format (sealed_whole self.old.state) }
+        requires sound { IsSound R.meaning (sealed_whole self.old.state) }
+        requires long { (files : Image) → (D.disk self.old.disk).told ≡ Some files → AreLong 0 (sealed_whole self.old.state).outs files }
+        ensures ok { OnOk result (self.new ≡ record (renewed self.old) { disk = self.new.disk }) }
+        ensures answer { IfOk result (λ answer. answer ≡ number) }
+        ensures disk { IsErrOf result RenewFault.Disk → self.new ≡ record self.old { disk = self.new.disk; broken = true } }
+        ensures still { IfErr result (λ fault. fault ≢ RenewFault.Disk → self.new ≡ self.old) }
+        ensures fault { IfErr result IsBeginFault }
+        ensures untold { (D.disk self.old.disk).told ≡ None → (D.disk self.new.disk).told ≡ None }
+
+        // Where the files of outputs are complete.
+        ensures kept { (origin : Origin) (past : List Step) → IsKept D.disk R.meaning origin past self.old → AreWritten R.meaning origin.first (past ++ self.old.steps) (D.disk self.old.disk)
+            → OnOk result (IsKept D.disk R.meaning origin (past ++ self.old.steps) self.new) }
+        ensures kept_err { (origin : Origin) (past : List Step) → IsKept D.disk R.meaning origin past self.old → AreWritten R.meaning origin.first (past ++ self.old.steps) (D.disk self.old.disk)
+            → OnErr result (IsKept D.disk R.meaning origin past self.new) }
+        ensures any_moment { (origin : Origin) (past : List Step) → IsKept D.disk R.meaning origin past self.old → AreWritten R.meaning origin.first (past ++ self.old.steps) (D.disk self.old.disk)
+            → Leaves (D.disk self.old.disk) (D.disk self.new.disk) (StandsFor R.meaning origin (past ++ self.old.steps) []) }
+        ensures alone { (files : Image) → (D.disk self.old.disk).told ≡ Some files → LeavesAlone (D.disk self.old.disk) (D.disk self.new.disk) (λ file. (file ≢ root_file) × (file ≢ generation_file (suc self.old.generation))) }
+        ensures failed { IsErrOf result RenewFault.Disk → Rose (D.disk self.old.disk).faults (D.disk self.new.disk).faults }
+        ensures count { (D.disk self.old.disk).faults ≤ (D.disk self.new.disk).faults }
+    {
+        match begin_generation(
+            self.alloc,
+            &mut self.disk,
+            &mut self.root,
+            number,
+            code.bytes(),
+        ) {
+            Ok(journal) => {
+                self.core.seal();
+                self.journal = journal;
+                self.generation = number;
+                self.base = base;
+                self.steps = StepLog::new();
+                self.durable = 0;
+                self.used = 0;
+                Ok(number)
+            }
+            Err(fault) => {
+                self.broken = is_disk_fault(fault);
                 Err(fault)
             }
         }

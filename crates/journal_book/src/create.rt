@@ -12,6 +12,7 @@ ghost use Rattle.step_code.specs.Rules.{Meaning};
 ghost use Rattle.step_code.specs.Sound.{longest_base, IsSound};
 ghost use Rattle.store_image.specs.Files.{generation_file, root_file};
 ghost use Rattle.journal_book.specs.Alone.{IsBesideNew, LeavesAlone};
+ghost use Rattle.journal_book.specs.Book.{first_root};
 ghost use Rattle.journal_book.specs.Faults.{HasNoFirst, IsCreateFault, Tells};
 ghost use Rattle.journal_book.specs.Keeping.{AreAtRest, AreStoreFiles, longest_waiting};
 ghost use Rattle.journal_book.specs.NewStore.{HasOldRootOrFirst};
@@ -102,7 +103,8 @@ fn make_files<D: Disk>(
 ) -> Result<(Journal, Journal), BookFault>
     requires small { length code.now ≤ longest_base }
     ensures files { IfOk result (λ made. AreStoreFiles made.0 made.1 0) }
-    ensures whole { IfOk result (λ made. made.1.broken ≡ false) }
+    ensures whole { IfOk result (λ made. (made.0.broken ≡ false) × (made.1.broken ≡ false)) }
+    ensures root_length { IfOk result (λ made. made.0.length ≡ first_root) }
     ensures length { IfOk result (λ made. made.1.length ≤ longest_waiting) }
     ensures root { (files after : Image) → (D.disk disk.old).told ≡ Some files → (D.disk disk.new).told ≡ Some after
         → IfOk result (λ made. IsAtRest made.0 (D.disk disk.new).may_leave (number 0 ∷ []) after) }
@@ -146,7 +148,8 @@ pub fn make_store<D: Disk, R: Rules>(
     ensures sound { IfOk result (λ made. IsSound R.meaning made.base.value) }
     ensures writable { IfOk result (λ made. IsWritableBase first_format made.base.value) }
     ensures files { IfOk result (λ made. AreStoreFiles made.root made.journal 0) }
-    ensures whole { IfOk result (λ made. made.journal.broken ≡ false) }
+    ensures whole { IfOk result (λ made. (made.root.broken ≡ false) × (made.journal.broken ≡ false)) }
+    ensures root_length { IfOk result (λ made. made.root.length ≡ first_root) }
     ensures length { IfOk result (λ made. made.journal.length ≤ longest_waiting) }
     ensures at_rest { (files after : Image) → (D.disk disk.old).told ≡ Some files → (D.disk disk.new).told ≡ Some after
         → IfOk result (λ made. AreAtRest made.root made.journal (D.disk disk.new).may_leave 0 made.base.value [] after) }

@@ -10,11 +10,14 @@ mod files;
 mod laws;
 mod opening;
 mod outputs;
+mod renew_fault;
+mod renewing;
 mod stage_refusal;
 mod staging;
 
 pub use book::{Book, FlushFault};
 pub use book_fault::BookFault;
 pub use laws::what_stands_opens;
+pub use renew_fault::RenewFault;
 pub use stage_refusal::StageRefusal;
 pub use staging::Move;

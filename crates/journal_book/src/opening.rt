@@ -15,7 +15,7 @@ ghost use Rattle.store_image.specs.Opens.{AreLong, Opens};
 ghost use Rattle.store_image.specs.Stored.{codes_of, NamesLast};
 ghost use Rattle.journal_book.specs.Alone.{IsBeside, LeavesAlone};
 ghost use Rattle.journal_book.specs.Keeping.{longest_waiting, AreAtRest, AreStoreFiles};
-ghost use Rattle.journal_book.specs.Opening.{in_file, IsFileFault, IsReopenFault, IsShortFault, KeepsHistories, Recovers, TellsLong};
+ghost use Rattle.journal_book.specs.Opening.{in_file, IsFileFault, IsReopenFault, IsRootLength, IsShortFault, KeepsHistories, Recovers, TellsLong};
 ghost use Rattle.generation_reading.specs.Reading.{AreGenerations, AreHistory, IsHistory};
 
 use crate::BookFault;
@@ -67,9 +67,10 @@ fn open_journal<D: Disk>(
 
 /// The root, and the generation that it names last.
 fn open_root<D: Disk>(alloc: Global, disk: &mut D) -> Result<(Journal, u64), JournalFault>
-    ensures journal { IfOk result (λ found. (found.0.file ≡ root_file) × (found.0.heading ≡ heading_of 0)) }
+    ensures journal { IfOk result (λ found. (found.0.file ≡ root_file) × (found.0.heading ≡ heading_of 0) × (found.0.broken ≡ false)) }
     ensures given { IfOk result (λ found. found.1 ≤ last_given) }
     ensures named { (files : Image) → (D.disk disk.old).told ≡ Some files → IfOk result (λ found. NamesLast (files root_file) found.1) }
+    ensures root { (files : Image) → (D.disk disk.old).told ≡ Some files → IfOk result (λ found. IsRootLength files found.1 found.0.length) }
     ensures at_rest { (files after : Image) → (D.disk disk.old).told ≡ Some files → (D.disk disk.new).told ≡ Some after
         → IfOk result (λ found. (before : List ℕ) × AllByRecursion (λ n. n ≤ last_given) (before ++ found.1 ∷ []) × IsAtRest found.0 (D.disk disk.new).may_leave (map number (before ++ found.1 ∷ [])) after) }
     ensures fault { (files : Image) → (D.disk disk.old).told ≡ Some files → IfErr result (IsFileFault (IsDamagedFile (heading_of 0) NameNone (files root_file))) }
@@ -167,11 +168,12 @@ pub fn open_store<D: Disk, R: Rules>(
     rules: R,
 ) -> Result<Reopened<R>, BookFault>
     ensures files { IfOk result (λ found. AreStoreFiles found.root found.journal found.generation) }
-    ensures whole { IfOk result (λ found. found.journal.broken ≡ false) }
+    ensures whole { IfOk result (λ found. (found.root.broken ≡ false) × (found.journal.broken ≡ false)) }
     ensures core { IfOk result (λ found. found.history.core ≡ record { rules = rules; state = replay R.meaning found.history.base.value found.history.steps }) }
     ensures history { IfOk result (λ found. IsHistory R.meaning found.history.base.value found.history.steps) }
     ensures length { IfOk result (λ found. found.journal.length ≤ longest_waiting + 2 * length (codes_of found.history.steps)) }
     ensures opens { (files : Image) → (D.disk disk.old).told ≡ Some files → IfOk result (λ found. Opens R.meaning files found.generation found.history.base.value found.history.steps) }
+    ensures root { (files : Image) → (D.disk disk.old).told ≡ Some files → IfOk result (λ found. IsRootLength files found.generation found.root.length) }
     ensures long { (files : Image) → (D.disk disk.old).told ≡ Some files → IfOk result (λ found. TellsLong (D.disk disk.new).told found.history.core.state.outs) }
     ensures at_rest { (files after : Image) → (D.disk disk.old).told ≡ Some files → (D.disk disk.new).told ≡ Some after
         → IfOk result (λ found. AreAtRest found.root found.journal (D.disk disk.new).may_leave found.generation found.history.base.value found.history.steps after) }

@@ -35,6 +35,7 @@ turns_status steps (turns.LongFeed bot) = status.LongFeed bot
 turns_status steps (turns.Halted bot) = status.Halted bot
 turns_status steps (turns.Spent next) = status.Spent next
 turns_status steps (turns.Full bytes) = status.Full bytes
+turns_status steps (turns.Damaged file at) = status.Damaged file at
 turns_status steps turns.Disk = status.Disk
 turns_status steps turns.Memory = status.Memory
 

@@ -48,6 +48,7 @@ fn turns_status(steps: Option<u64>, last: TurnsEnd) -> Status
         TurnsEnd::Halted { bot } => Status::Halted { bot },
         TurnsEnd::Spent { next } => Status::Spent { next },
         TurnsEnd::Full { bytes } => Status::Full { bytes },
+        TurnsEnd::Damaged { file, at } => Status::Damaged { file, at },
         TurnsEnd::Disk => Status::Disk,
         TurnsEnd::Memory => Status::Memory,
     }

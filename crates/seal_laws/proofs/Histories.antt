@@ -122,7 +122,7 @@ pub seals : (m : Meaning) (whole sealed : Base) (steps : List Step) → IsSealOf
 seals m whole sealed [] seal = seal
 seals m whole sealed (step ∷ steps) seal = seals m (after m whole step) (after m sealed step) steps (seal_kept m whole sealed step seal)
 
-legal_sealed : (m : Meaning) (whole sealed : Base) (steps : List Step) → IsSealOf whole sealed → Legal m whole steps → Legal m sealed steps
+pub legal_sealed : (m : Meaning) (whole sealed : Base) (steps : List Step) → IsSealOf whole sealed → Legal m whole steps → Legal m sealed steps
 legal_sealed m whole sealed [] seal legal = legal
 legal_sealed m whole sealed (step ∷ steps) seal legal =
     ((same_steps m whole sealed step seal).0 legal.0, legal_sealed m (after m whole step) (after m sealed step) steps (seal_kept m whole sealed step seal) legal.1)
@@ -132,7 +132,7 @@ legal_whole m whole sealed [] seal legal = legal
 legal_whole m whole sealed (step ∷ steps) seal legal =
     ((same_steps m whole sealed step seal).1 legal.0, legal_whole m (after m whole step) (after m sealed step) steps (seal_kept m whole sealed step seal) legal.1)
 
-small_sealed : (m : Meaning) (whole sealed : Base) (steps : List Step) → IsSealOf whole sealed → NothingIsSpent m whole steps → NothingIsSpent m sealed steps
+pub small_sealed : (m : Meaning) (whole sealed : Base) (steps : List Step) → IsSealOf whole sealed → NothingIsSpent m whole steps → NothingIsSpent m sealed steps
 small_sealed m whole sealed [] seal small = small
 small_sealed m whole sealed (step ∷ steps) seal small =
     (sym (same_spent m whole sealed step seal) ∙ small.0, small_sealed m (after m whole step) (after m sealed step) steps (seal_kept m whole sealed step seal) small.1)

@@ -1,4 +1,5 @@
 mod Acted
 pub mod Histories
+pub mod Renewed
 pub mod Sealed
 pub mod Unsealed

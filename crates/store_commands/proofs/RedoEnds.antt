@@ -1,12 +1,17 @@
 -- How the step that redoes a dump goes, and what is told of it.
-use Rattle.std.proofs.Common.{◌≡◌, ◌≢◌, inl, inr, ⊎_elim, ℕ, Bool, true, false, List, [], ◌∷◌, Option, Some, None, refl, subst, nat_lt, if◌then◌else◌}
+use Rattle.std.proofs.Common.{◌≡◌, ◌≢◌, inl, inr, ⊎_elim, ℕ, Bool, true, false, List, [], ◌∷◌, ◌++◌, Option, Some, None, refl, ap, subst, ◌∙◌, arith, codes, length, length-append, nat_lt, sum_by, if◌then◌else◌}
+use Rattle.std.proofs.lemmas.List.Sums.{sum_by-cons}
 use Rattle.std.specs.List.{list_any}
 use Rattle.edge_traits.specs.Disk.{Image}
 use Rattle.edge_traits.specs.Output.{TookFront}
 use Rattle.edge_traits.specs.Sink.{SinkView, Took}
 use Rattle.edge_traits.proofs.Outputs.{Took-nothing}
+use Rattle.core_state.specs.Sealing.{sealed_whole}
+use Rattle.base_types.specs.declared.message.Moment.{Moment}
 use Rattle.step_code.specs.declared.base.Base.{Base}
+use Rattle.step_code.specs.declared.output.Output.{Output}
 use Rattle.step_code.specs.declared.step.Step.{Step}
+use Rattle.step_code.specs.declared.step.StepKind.TheVariants as kind
 use Rattle.step_code.specs.declared.step.StepRefusal.{StepRefusal}
 use Rattle.step_code.specs.declared.step.StepRefusal.TheVariants as part
 use Rattle.step_code.specs.After.{after}
@@ -14,16 +19,23 @@ use Rattle.step_code.specs.Fits.{first_failing}
 use Rattle.step_code.specs.Rules.{Meaning}
 use Rattle.step_code.specs.Spent.{spent}
 use Rattle.step_code.specs.State.{is_dump}
-use Rattle.state_texts.specs.Texts.{summary}
+use Rattle.queue_broker.specs.Broker.{total}
+use Rattle.state_texts.specs.Texts.{count_line, lines_of, messages_in, processed_in, summary}
+use Rattle.store_image.specs.Stands.{AreSealedFrom, IsSealOf}
+use Rattle.journal_book.specs.Book.{BookView}
 use Rattle.journal_book.specs.Opening.{IsReopenFault}
+use Rattle.journal_book.specs.Renewing.{renewal_cause, renewed}
 use Rattle.journal_book.specs.Staged.{bytes_with, cause_of, first_cause, step_cause, IsStageRefusal}
 use Rattle.journal_book.specs.declared.book_fault.BookFault.{BookFault}
 use Rattle.journal_book.specs.declared.book_fault.BookFault.TheVariants as fault
+use Rattle.journal_book.specs.declared.renew_fault.RenewFault.{RenewFault}
+use Rattle.journal_book.specs.declared.renew_fault.RenewFault.TheVariants as renewal
 use Rattle.journal_book.specs.declared.stage_refusal.StageRefusal.{StageRefusal}
 use Rattle.journal_book.specs.declared.stage_refusal.StageRefusal.TheVariants as refusal
+use Rattle.book_runs.specs.Commit.{as_refusal, commit_cause, first_of, is_to_renew, readied, way_cause}
 use Rattle.store_commands.specs.Completed.{IsFinished}
 use Rattle.store_commands.specs.Ends.{end_of, refusal_end}
-use Rattle.store_commands.specs.Redone.{redo_step, AreMadeAt, IsAsked, IsRedoCall, IsRedoEnd, IsRedone, LacksDump}
+use Rattle.store_commands.specs.Redone.{cause_in, redo_step, AreMadeAt, IsAsked, IsRedoCall, IsRedoEnd, IsRedone, LacksDump}
 use Rattle.store_commands.specs.declared.end.StoreEnd.{StoreEnd}
 use Rattle.store_commands.specs.declared.end.StoreEnd.TheVariants as end
 
@@ -42,34 +54,99 @@ dump_lacks true next bytes limit r is = absurd (number_is_no_part next bytes lim
 dump_lacks false next bytes limit r is = refl
 
 -- the state alone refuses the step only where it has no such dump
-lacks : (m : Meaning) (s : Base) (steps : List Step) (limit dump now : ℕ) (r : StepRefusal) → step_cause m s steps limit (redo_step s dump now) ≡ Some (refusal.Step r) → LacksDump s dump
-lacks m s steps limit dump now r is =
-    let step = redo_step s dump now in
+lacks : (m : Meaning) (s : Base) (steps : List Step) (limit dump : ℕ) (moment : Moment) (r : StepRefusal) → step_cause m s steps limit (record { moment = moment; what = kind.Redo dump }) ≡ Some (refusal.Step r) → LacksDump s dump
+lacks m s steps limit dump moment r is =
+    let step : Step = record { moment = moment; what = kind.Redo dump } in
     dump_lacks (list_any (is_dump dump) s.dumps) (spent m s step) (bytes_with steps step) limit r is
+
+-- what refuses a generation is no part of a step
+way_is_no_part : (cause : Option RenewFault) (later : Option StageRefusal) (r : StepRefusal) → first_of (as_refusal cause) later ≡ Some (refusal.Step r) → later ≡ Some (refusal.Step r)
+way_is_no_part None later r is = is
+way_is_no_part (Some renewal.Broken) later r is = absurd (cc)
+way_is_no_part (Some (renewal.Spent next)) later r is = absurd (cc)
+way_is_no_part (Some (renewal.Full bytes)) later r is = absurd (cc)
+way_is_no_part (Some renewal.Disk) later r is = is
+way_is_no_part (Some (renewal.Damaged file at)) later r is = is
+way_is_no_part (Some renewal.OutOfMemory) later r is = is
+
+-- so it is for a step that may begin a generation
+book_lacks : {D R : Type 0} (m : Meaning) (book : BookView D R) (dump : ℕ) (moment : Moment) (r : StepRefusal)
+    → first_of (way_cause book) (step_cause m (readied book).state (readied book).steps book.limit (record { moment = moment; what = kind.Redo dump })) ≡ Some (refusal.Step r) → LacksDump book.state dump
+book_lacks m book dump moment r = go (is_to_renew book)
+  where
+    go : (next : Bool)
+        → first_of (if next then as_refusal (renewal_cause book.generation book.root book.state) else None)
+        (step_cause m (if next then renewed book else book).state (if next then renewed book else book).steps book.limit (record { moment = moment; what = kind.Redo dump })) ≡ Some (refusal.Step r)
+        → LacksDump book.state dump
+    go true is = lacks m (sealed_whole book.state) [] book.limit dump moment r (way_is_no_part (renewal_cause book.generation book.root book.state) _ r is)
+    go false is = lacks m book.state book.steps book.limit dump moment r is
+
+-- what refuses a step in a book that is whole
+pub cause_whole : {D R : Type 0} (m : Meaning) (book : BookView D R) (step : Step) → book.broken ≡ false → commit_cause m book step ≡ cause_in m book.limit book.generation book.root book.state book.steps step
+cause_whole m book step whole =
+    ap (λ (b : Bool). cause_of b (first_of (way_cause book) (step_cause m (readied book).state (readied book).steps book.limit step))) whole
+    ∙ go (is_to_renew book)
+  where
+    go : (next : Bool)
+        → first_of (if next then as_refusal (renewal_cause book.generation book.root book.state) else None)
+        (step_cause m (if next then renewed book else book).state (if next then renewed book else book).steps book.limit step)
+        ≡ (if next then first_of (as_refusal (renewal_cause book.generation book.root book.state)) (step_cause m (sealed_whole book.state) [] book.limit step) else step_cause m book.state book.steps book.limit step)
+    go true = refl
+    go false = refl
+
+-- ---- the summary counts the lines that are sealed
+
+sealed_lines : (wholes sealed : List Output) → AreSealedFrom wholes sealed → sum_by lines_of sealed ≡ sum_by lines_of wholes
+sealed_lines [] sealed are = ap (sum_by lines_of) are
+sealed_lines (whole ∷ wholes) [] are = absurd are
+sealed_lines (whole ∷ wholes) (sealed ∷ more) are =
+    let one : lines_of sealed ≡ lines_of whole = omega (arith, are.0.count, ap length are.0.lines, length-append are.0.front sealed.lines) in
+    omega (arith, one, sealed_lines wholes more are.1, sum_by-cons lines_of sealed more, sum_by-cons lines_of whole wholes)
+
+pub same_summary : (s sealed : Base) → IsSealOf s sealed → summary sealed ≡ summary s
+same_summary s sealed is =
+    ap summary is.same
+    ∙ ap (λ (lines : ℕ). summary_with lines) (sealed_lines s.outs sealed.outs is.outs)
+  where
+    summary_with : ℕ → List ℕ
+    summary_with lines =
+        count_line (codes "steps") s.steps
+        ++ count_line (codes "bundle") s.bundle_no
+        ++ count_line (codes "messages") (messages_in s)
+        ++ count_line (codes "waiting") (total s.queues)
+        ++ count_line (codes "in hand") (length s.hands)
+        ++ count_line (codes "dumped") (length s.dumps)
+        ++ count_line (codes "processed") (processed_in s)
+        ++ count_line (codes "lines") lines
 
 module _ (m : Meaning) (s : Base) (dump now : ℕ) (old new : SinkView) where
   -- how the step went where it was made
-  pub made_end : (cause : Option StageRefusal) (t : Base) (e : StoreEnd) → cause ≡ None → t ≡ after m s (redo_step s dump now) → IsFinished true t e old new → IsRedoEnd m s cause dump now e old new
-  made_end cause t end.Done none same finished = (none, subst (λ (b : Base). Took old new (summary b)) same finished)
-  made_end cause t end.Sink none same finished = (none, subst (λ (b : Base). TookFront old new (summary b)) same finished.1)
-  made_end cause t end.Memory none same finished = finished
-  made_end cause t end.Disk none same finished = finished
-  made_end cause t (end.Damaged file at) none same finished = finished
-  made_end cause t (end.Store have) none same finished = absurd finished
-  made_end cause t end.Refused none same finished = absurd finished
-  made_end cause t (end.NoDump n) none same finished = absurd finished
-  made_end cause t (end.Spent next) none same finished = absurd finished
-  made_end cause t (end.Full bytes) none same finished = absurd finished
+  pub made_end : (cause : Option StageRefusal) (t : Base) (e : StoreEnd) → cause ≡ None → IsSealOf (after m s (redo_step s dump now)) t → IsFinished true t e old new → IsRedoEnd m s cause dump now e old new
+  made_end cause t end.Done none seals finished = (none, subst (λ (text : List ℕ). Took old new text) (same_summary (after m s (redo_step s dump now)) t seals) finished)
+  made_end cause t end.Sink none seals finished = (none, subst (λ (text : List ℕ). TookFront old new text) (same_summary (after m s (redo_step s dump now)) t seals) finished.1)
+  made_end cause t end.Memory none seals finished = finished
+  made_end cause t end.Disk none seals finished = finished
+  made_end cause t (end.Damaged file at) none seals finished = finished
+  made_end cause t (end.Store have) none seals finished = absurd finished
+  made_end cause t end.Refused none seals finished = absurd finished
+  made_end cause t (end.NoDump n) none seals finished = absurd finished
+  made_end cause t (end.Spent next) none seals finished = absurd finished
+  made_end cause t (end.Full bytes) none seals finished = absurd finished
 
   -- where it was refused
-  pub refused_end : (steps : List Step) (limit : ℕ) (broken : Bool) (r : StageRefusal) → broken ≡ false → IsStageRefusal (cause_of broken (step_cause m s steps limit (redo_step s dump now))) r → Took old new []
-      → IsRedoEnd m s (step_cause m s steps limit (redo_step s dump now)) dump now (refusal_end dump r) old new
-  refused_end steps limit true r whole is took = absurd (cc)
-  refused_end steps limit false refusal.Broken whole is took = took
-  refused_end steps limit false (refusal.Step r) whole is took = (refl, lacks m s steps limit dump now r is, took)
-  refused_end steps limit false (refusal.Spent next) whole is took = (is, took)
-  refused_end steps limit false (refusal.Full bytes) whole is took = (is, took)
-  refused_end steps limit false refusal.OutOfMemory whole is took = took
+  pub refused_end : {D R : Type 0} (book : BookView D R) (r : StageRefusal) → book.broken ≡ false → book.state ≡ s → IsStageRefusal (commit_cause m book (redo_step s dump now)) r → Took old new []
+      → IsRedoEnd m s (commit_cause m book (redo_step s dump now)) dump now (refusal_end dump r) old new
+  refused_end book refusal.Broken whole same is took = took
+  refused_end book (refusal.Step r) whole same is took = (
+    refl,
+    subst (λ (b : Base). LacksDump b dump) same
+        (book_lacks m book dump (redo_step s dump now).moment r
+        (subst (λ (b : Bool). cause_of b (first_of (way_cause book) (step_cause m (readied book).state (readied book).steps book.limit (redo_step s dump now))) ≡ Some (refusal.Step r)) whole is)),
+    took,
+  )
+  refused_end book (refusal.Spent next) whole same is took = (is, took)
+  refused_end book (refusal.Full bytes) whole same is took = (is, took)
+  refused_end book refusal.OutOfMemory whole same is took = took
 
   -- and where its refusal isn't told, since the book could not be finished
   pub other_end : (cause : Option StageRefusal) (t : Base) (e : StoreEnd) → e ≢ end.Done → IsFinished false t e old new → IsRedoEnd m s cause dump now e old new

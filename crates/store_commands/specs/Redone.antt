@@ -1,6 +1,8 @@
 -- What `redo` makes of a store.
-use Rattle.std.specs.Prelude.{◌≡◌, ◌⊎◌, ◌<◌, ℕ, false, List, [], ◌∷◌, ◌++◌, length, take, Option, Some, None}
+use Rattle.std.specs.Prelude.{◌≡◌, ◌⊎◌, ◌<◌, ℕ, false, List, [], ◌∷◌, ◌++◌, length, min, take, Option, Some, None, if◌then◌else◌}
 use Rattle.std.specs.List.{list_any}
+use Rattle.base_types.specs.Number.{last_u64}
+use Rattle.core_state.specs.Sealing.{sealed_whole}
 use Rattle.edge_traits.specs.Disk.{DiskView, Image}
 use Rattle.edge_traits.specs.Output.{TookFront}
 use Rattle.edge_traits.specs.Sink.{SinkView, Took}
@@ -16,11 +18,15 @@ use Rattle.store_image.specs.Damage.{IsDamagedStore}
 use Rattle.store_image.specs.Files.{root_file}
 use Rattle.store_image.specs.Opens.{Opens}
 use Rattle.store_image.specs.Stands.{Origin}
+use Rattle.store_image.specs.Stored.{codes_of}
 use Rattle.journal_book.specs.Book.{BookView}
+use Rattle.journal_book.specs.Opening.{IsRootLength}
+use Rattle.journal_book.specs.Renewing.{renewal_cause}
 use Rattle.journal_book.specs.Staged.{step_cause, stamp}
 use Rattle.journal_book.specs.declared.stage_refusal.StageRefusal.{StageRefusal}
 use Rattle.journal_book.specs.declared.stage_refusal.StageRefusal.TheVariants as refusal
-use Rattle.book_runs.specs.GoesOn.{longer, GoesOn}
+use Rattle.book_runs.specs.Commit.{as_refusal, first_of, is_half_full}
+use Rattle.book_runs.specs.GoesOn.{GoesOn}
 use Rattle.store_calls.specs.Calls.{IsCall}
 use Rattle.store_commands.specs.Ends.{most_step_bytes, IsOpenIn}
 use Rattle.store_commands.specs.declared.end.StoreEnd.{StoreEnd}
@@ -34,14 +40,24 @@ redo_step s dump now = record { moment = stamp s now; what = kind.Redo dump }
 abbrev pub LacksDump : Base → ℕ → Type 0
 LacksDump s dump = list_any (is_dump dump) s.dumps ≡ false
 
+-- what refuses a step behind these of a generation, whose codes have so many bytes at most: where they have more than half of that, the
+-- generation that the step begins, in which all lines of outputs are sealed, and then what refuses the step there
+abbrev pub cause_in : Meaning → ℕ → ℕ → ℕ → Base → List Step → Step → Option StageRefusal
+cause_in m limit generation root s steps step =
+    if is_half_full limit (min (length (codes_of steps)) last_u64)
+    then first_of (as_refusal (renewal_cause generation root s)) (step_cause m (sealed_whole s) [] limit step)
+    else step_cause m s steps limit step
+
 -- a store opens in a state in which this refuses the step, or nothing does
 pub record IsAsked (m : Meaning) (files : Image) (dump now : ℕ) (s : Base) (cause : Option StageRefusal) : Type 0 where
   pub generation : ℕ
+  pub root : ℕ
   pub base : Base
   pub steps : List Step
   pub opens : Opens m files generation base steps
+  pub root_is : IsRootLength files generation root
   pub state : s ≡ replay m base steps
-  pub cause_is : step_cause m s steps most_step_bytes (redo_step s dump now) ≡ cause
+  pub cause_is : cause_in m most_step_bytes generation root s steps (redo_step s dump now) ≡ cause
 
 -- the step was made and the summary of the state behind it was printed, or a front of that where the sink failed; or the store
 -- has no such dump, or no room for the step; or there is no store, or it is damaged; the other ends say nothing of the store,
@@ -111,5 +127,4 @@ AreMadeAt end.Refused step made = made ≡ []
 pub record Redid {D R : Type 0} (disk : D → DiskView) (m : Meaning) (old new : BookView D R) (step : Step) (end : StoreEnd) : Type 0 where
   pub made : List Step
   pub run : GoesOn disk m old new made
-  pub book : new ≡ longer m old made new
   pub made_is : AreMadeAt end step made

@@ -6,7 +6,7 @@ ghost use Rattle.store_image.specs.Stands.{Origin};
 ghost use Rattle.journal_book.specs.Alone.{LeavesAlone};
 ghost use Rattle.journal_book.specs.Opening.{StandsNow};
 ghost use Rattle.journal_book.specs.Outputs.{AreWritten};
-ghost use Rattle.journal_book.specs.Staged.{step_cause};
+ghost use Rattle.book_runs.specs.Commit.{commit_cause};
 ghost use Rattle.store_calls.specs.Calls.{IsEarlierIn, StandsOn};
 ghost use Rattle.store_commands.specs.Ends.{AreWrittenAt};
 ghost use Rattle.store_commands.specs.Redone.{redo_step, IsRedoCall, IsRedoEnd, IsRedone, RedoesStep, Redid};
@@ -14,6 +14,7 @@ ghost use Rattle.store_commands.specs.Redone.{redo_step, IsRedoCall, IsRedoEnd, 
 use crate::completing::finish;
 use crate::end::{end_of, refusal_end};
 use crate::{STEP_BYTES, StoreEnd};
+use book_runs::{CommitFault, commit};
 use edge_traits::{Disk, Sink};
 use history_laws::each_message_stands_in_one_place;
 use journal_book::{Book, Move};
@@ -21,8 +22,8 @@ use std::alloc::Global;
 use step_code::Rules;
 
 /// Opens a store, and puts the message of the dump of this number at the end of its bot's queue again, as one step, when the
-/// clock shows this moment in seconds since 1970. The step is made durable, the outputs are completed, and the summary of
-/// the state behind the step is printed. The disk comes back.
+/// clock shows this moment in seconds since 1970. Where more than half of the generation is taken, the next one is begun first. The step
+/// is made durable, the outputs are completed, and the summary of the state behind the step is printed. The disk comes back.
 pub fn redo<D: Disk, R: Rules, S: Sink>(
     alloc: Global,
     disk: D,
@@ -74,10 +75,9 @@ fn redo_dump<D: Disk, R: Rules, S: Sink>(
     out: &mut S,
 ) -> StoreEnd
     requires whole { book.old.broken ≡ false }
-    requires durable { book.old.kept ≡ length book.old.steps }
-    ensures end { IsRedoEnd R.meaning book.old.state (step_cause R.meaning book.old.state book.old.steps book.old.limit (redo_step book.old.state dump now)) dump now result (S.sink out.old) (S.sink out.new) }
+    ensures end { IsRedoEnd R.meaning book.old.state (commit_cause R.meaning book.old (redo_step book.old.state dump now)) dump now result (S.sink out.old) (S.sink out.new) }
     ensures run { Redid D.disk R.meaning book.old book.new (redo_step book.old.state dump now) result }
-    ensures durable { result ≢ StoreEnd.Disk → book.new.kept ≡ length book.new.steps }
+    ensures durable { result ≢ StoreEnd.Disk → ((file at : ℕ) → result ≢ StoreEnd.Damaged file at) → book.new.kept ≡ length book.new.steps }
     ensures written { (origin : Origin) (history : List Step) → StandsNow R.meaning origin history [] (D.disk book.new.disk)
         → AreWrittenAt result (AreWritten R.meaning origin.first history (D.disk book.new.disk)) }
     ensures undamaged { (files : Image) (file at : ℕ) → (D.disk book.old.disk).told ≡ Some files → result ≢ StoreEnd.Damaged file at }
@@ -86,9 +86,11 @@ fn redo_dump<D: Disk, R: Rules, S: Sink>(
     ensures disk_count { (D.disk book.old.disk).faults ≤ (D.disk book.new.disk).faults }
     ensures sink_count { (S.sink out.old).faults ≤ (S.sink out.new).faults }
 {
-    match book.stage(now, Move::Redo { dump }) {
+    match commit(book, now, Move::Redo { dump }) {
         Ok(_) => finish(alloc, book, true, out),
-        Err(refusal) => match finish(alloc, book, false, out) {
+        Err(CommitFault::Disk) => StoreEnd::Disk,
+        Err(CommitFault::Damaged { file, at }) => StoreEnd::Damaged { file, at },
+        Err(CommitFault::Refused(refusal)) => match finish(alloc, book, false, out) {
             StoreEnd::Done => refusal_end(dump, refusal),
             other => other,
         },

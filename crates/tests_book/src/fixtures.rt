@@ -14,19 +14,19 @@ use tests_book_fixtures::{Answer, created, flush, latest, start, waiting_codes};
 pub const NOW: u64 = 1_700_000_000;
 
 // Stages so many steps, which get the next numbers.
-fn start_all<D: Disk, R: Rules>(rt: &impl Abort, book: &mut Book<D, R>, steps: u8) {
+pub fn start_all<D: Disk, R: Rules>(rt: &impl Abort, book: &mut Book<D, R>, steps: u8) {
     'steps: for number in 1..=steps {
         same(rt, start(book, NOW), Answer::Number(u64::from(number)));
     }
 }
 
-fn check_waiting<D: Disk, R: Rules>(rt: &impl Abort, book: &Book<D, R>, want: (u64, u64)) {
+pub fn check_waiting<D: Disk, R: Rules>(rt: &impl Abort, book: &Book<D, R>, want: (u64, u64)) {
     let (steps, bytes) = book.unflushed();
     same(rt, steps, want.0);
     same(rt, bytes, want.1);
 }
 
-fn check_flush<D: Disk, R: Rules>(rt: &impl Abort, book: &mut Book<D, R>, number: u64) {
+pub fn check_flush<D: Disk, R: Rules>(rt: &impl Abort, book: &mut Book<D, R>, number: u64) {
     same(rt, flush(book), Answer::Number(number));
     same(rt, book.durable(), number);
 }

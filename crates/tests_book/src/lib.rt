@@ -6,6 +6,8 @@ mod books;
 #[cfg(test)]
 mod fixtures;
 #[cfg(test)]
+mod renewed;
+#[cfg(test)]
 mod same;
 #[cfg(test)]
 mod sealed;

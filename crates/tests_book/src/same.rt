@@ -16,3 +16,8 @@ pub fn same_in<T: PartialEq + Debug + Drop>(
 ) {
     assert_eq!(rt; found, want, "{row}");
 }
+
+/// What is to hold in a row of a table.
+pub fn holds_in(rt: &impl Abort, row: impl Display + Drop, holds: bool) {
+    assert!(rt; holds, "{row}");
+}

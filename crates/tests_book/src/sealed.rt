@@ -22,7 +22,7 @@ const SEALED: &[u8] = b"aaa\nbb\n";
 
 const WHOLE: &[u8] = b"aaa\nbb\ncc\ndd\n";
 
-fn make_file<D: Disk>(alloc: Global, disk: &mut D, file: u64, body: &[u8]) -> Result<(), Fail> {
+pub fn make_file<D: Disk>(alloc: Global, disk: &mut D, file: u64, body: &[u8]) -> Result<(), Fail> {
     if body.len() > 1_000_000 {
         return Err(Fail::from("a long state"));
     }

@@ -33,6 +33,22 @@ pub fn state_text<R: Rules>(core: &Core<R>, alloc: Global) -> Result<String, Fai
     text_of(alloc, &base)
 }
 
+/// The state with all lines of its outputs sealed, which a store may hold too, as a line of text.
+pub fn sealed_text<R: Rules>(core: &Core<R>, alloc: Global) -> Result<String, Fail> {
+    let base = core.sealed_base()?;
+    if !core.may_hold(&base)? {
+        return Err(Fail::from("a sealed state that no store may hold"));
+    }
+    text_of(alloc, &base)
+}
+
+/// Seals all lines of the outputs, where 64 bits hold what is sealed then.
+pub fn seal<R: Rules>(core: &mut Core<R>) -> Result<(), Fail> {
+    core.sealed_base()?;
+    core.seal();
+    Ok(())
+}
+
 fn is_worker<R: Rules>(core: &Core<R>, bot: &BotName) -> bool
     ensures { result ≡ is_worker (bots_in_force R.meaning core.now.state) bot.now }
 {

@@ -55,6 +55,16 @@ impl TinyCore {
         attempt::state_text(&self.core, self.alloc)
     }
 
+    /// The state with all lines of its outputs sealed, as a line of text. The core keeps its own.
+    pub fn sealed_text(&self) -> Result<String, Fail> {
+        attempt::sealed_text(&self.core, self.alloc)
+    }
+
+    /// Seals all lines of the outputs.
+    pub fn seal(&mut self) -> Result<(), Fail> {
+        attempt::seal(&mut self.core)
+    }
+
     /// The bots of the plan.
     pub fn bots(&self) -> &[Facts] {
         self.core.rules().facts(self.core.plan()).as_slice()

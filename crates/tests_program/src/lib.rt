@@ -1,8 +1,10 @@
 //! Tests of the program over a system in memory, also with a feed that comes in short reads and is longer than memory; of the order in
-//! which it makes files durable; of the drill's shelf; and of bytes, numbers and names. Sessions of commands are lines of
-//! `table_pipelines`.
+//! which it makes files durable; of the calls of its disk; of the drill's shelf; and of bytes, numbers and names. Sessions of commands are
+//! lines of `table_pipelines`.
 #![tactic(auto)]
 
+#[cfg(test)]
+mod calls;
 #[cfg(test)]
 mod drills;
 #[cfg(test)]

@@ -52,3 +52,17 @@ fn a_state_has_a_line_for_each_part(rt: HostRuntime) -> Result<(), Fail> {
     );
     Ok(())
 }
+
+// Sealed lines count as those behind them do.
+#[test]
+fn sealing_changes_nothing_that_is_printed(rt: HostRuntime) -> Result<(), Fail> {
+    let alloc = rt.alloc();
+    let mut core = core_of(alloc, FULL)?;
+    let summary = summary_text(alloc, &core)?;
+    let whole = state_text(alloc, &core)?;
+    core.sealed_base()?;
+    core.seal();
+    assert_eq!(rt; summary_text(alloc, &core)?.bytes(), summary.bytes());
+    assert_eq!(rt; state_text(alloc, &core)?.bytes(), whole.bytes());
+    Ok(())
+}

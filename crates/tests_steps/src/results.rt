@@ -144,3 +144,30 @@ fn reloads() -> &'static str {
 fn each_bundle_leaves_its_state(rt: HostRuntime) -> Result<(), Fail> {
     play(&rt, rt.alloc(), reloads())
 }
+
+// One output with lines, and one with none.
+const SEALED: &'static str = "
+@ 9 steps, next 10 1, at 100, 1 tiny; write-queue:; hand write 1: 9=z, 0 tries, since 100; out write 4 1: one two; out gone 0 0:; feed collect 1 8
+seal
+= 9 steps, next 10 1, at 100, 1 tiny; write-queue:; hand write 1: 9=z, 0 tries, since 100; out write 12 3:; out gone 0 0:; feed collect 1 8
+
+# What is sealed stays, and a line comes behind it.
+at 101
+done write 1 9 1 line -> ok
+= 10 steps, next 10 1, at 101, 1 tiny; write-queue:; out write 12 3: z; out gone 0 0:; feed collect 1 8
+seal
+= 10 steps, next 10 1, at 101, 1 tiny; write-queue:; out write 14 4:; out gone 0 0:; feed collect 1 8
+
+# Nothing is left to seal.
+seal
+= 10 steps, next 10 1, at 101, 1 tiny; write-queue:; out write 14 4:; out gone 0 0:; feed collect 1 8
+";
+
+fn sealed() -> &'static str {
+    SEALED
+}
+
+#[test]
+fn lines_are_sealed_and_steps_go_on(rt: HostRuntime) -> Result<(), Fail> {
+    play(&rt, rt.alloc(), sealed())
+}

@@ -23,6 +23,8 @@ enum Line<'s> {
     State(&'s str),
     // `at 5`: the moment of the steps that follow.
     Moment(u64),
+    // `seal`: all lines of the outputs are sealed.
+    Seal,
     // `STEP -> ANSWER`: `ok`, or what refuses it; `fits` or `unfit`, whether a stored step may be replayed.
     Step(&'s str, &'s str),
 }
@@ -45,6 +47,9 @@ fn line_of(text: &str) -> Result<Line<'_>, Fail> {
     }
     if text == "@" {
         return Ok(Line::Anew);
+    }
+    if text == "seal" {
+        return Ok(Line::Seal);
     }
     if let Some((step, answer)) = text.split_once(" -> ") {
         return Ok(Line::Step(step, answer));
@@ -100,6 +105,16 @@ impl<'s> Stage<'s> {
         Ok(())
     }
 
+    // The sealed copy leaves the state as it is, and the core is that copy once it is sealed.
+    fn seal(&mut self, rt: &impl Abort) -> Result<(), Fail> {
+        let before = self.core.text()?;
+        let sealed = self.core.sealed_text()?;
+        assert_eq!(rt; self.core.text()?.as_str(), before.as_str());
+        self.core.seal()?;
+        assert_eq!(rt; self.core.text()?.as_str(), sealed.as_str());
+        Ok(())
+    }
+
     fn play(&mut self, rt: &impl Abort, line: Line<'s>) -> Result<(), Fail> {
         match line {
             Line::Remark => {}
@@ -114,6 +129,7 @@ impl<'s> Stage<'s> {
             }
             Line::State(state) => assert_eq!(rt; self.core.text()?.as_str(), state),
             Line::Moment(moment) => self.moment = moment,
+            Line::Seal => self.seal(rt)?,
             Line::Step(row, answer) => self.step(rt, row, answer)?,
         }
         Ok(())

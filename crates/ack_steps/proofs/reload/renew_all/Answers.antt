@@ -1,8 +1,9 @@
 use Rattle.std.proofs.Common.{◌≡◌, ◌+◌, ◌<◌, suc, length, get_or, set, sym, ◌∙◌, ap, subst, arith}
+use Rattle.std.proofs.lemmas.List.{length-map}
 use Rattle.base_types.specs.Number.{last_u64}
 use Rattle.step_code.specs.declared.feed.Feed.{Feed}
 use Rattle.step_code.specs.After.{renewed}
-use Rattle.ack_steps.proofs.Lists.{all_at, half, half_all, half_at, half_back, half_set}
+use Rattle.core_state.proofs.Halves.{all_at, half, half_all, half_at, half_set, whole_back}
 use Rattle.ack_steps.proofs.reload.renew_all.Goals as goal
 
 pub feeds-init : goal.feeds-init
@@ -32,4 +33,5 @@ returns-clause-feeds c =
     let xs = c.args.feeds.now.items in
     let f = renewed c.args.old.now c.args.new.now in
     let whole = ap length c.deref_mut-feed-items.ensures.value in
-    half_back f xs c.feeds.feed-items c.args.feeds.now.len (c.feeds.invariant ∙ half_all f xs c.feeds.feed-index (omega (arith, c.feeds-test.false, whole))) c.args.feeds.now.ok.0
+    let is = c.feeds.invariant ∙ half_all f xs c.feeds.feed-index (omega (arith, c.feeds-test.false, whole)) in
+    whole_back xs c.feeds.feed-items c.args.feeds.now.len (ap length is ∙ length-map xs f) c.args.feeds.now.ok.0 ∙ is

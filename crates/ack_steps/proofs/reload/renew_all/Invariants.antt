@@ -1,6 +1,6 @@
 use Rattle.std.proofs.Common.{◌≡◌}
 use Rattle.step_code.specs.After.{renewed}
-use Rattle.ack_steps.proofs.Lists.{half}
+use Rattle.core_state.proofs.Halves.{half}
 use Rattle.ack_steps.proofs.reload.renew_all.Given as goal
 
 abbrev pub invariant-feeds : goal.invariant-feeds

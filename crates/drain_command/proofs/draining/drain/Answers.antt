@@ -23,7 +23,7 @@ returns-in_default-clause-drained g c = λ files told.
     let o = outside m shelf clock 67_108_864 in
     let opened = c.in-Ok.book in let mid = c.make_turns-last.new.book in let later = c.finish-end.new.book in
     let is : Reopened g.D.Disk.disk m files c.args.disk opened =
-    reopened_so files c.args.disk c.args.rules 67_108_864 opened c.in-Ok.ensures.book (c.in-Ok.ensures.opens files told) (c.in-Ok.ensures.long files told) c.in-Ok.ensures.kept c.in-Ok.ensures.any_moment in
+    reopened_so files c.args.disk c.args.rules 67_108_864 opened c.in-Ok.ensures.book (c.in-Ok.ensures.opens files told) (c.in-Ok.ensures.root files told) (c.in-Ok.ensures.long files told) c.in-Ok.ensures.kept c.in-Ok.ensures.any_moment in
     let why = c.make_turns-last.result in
     let turned = subst (λ (n : ℕ). IsTurned g.D.Disk.disk (outside m shelf clock n) c.args.asked opened mid why) (ap (λ (b : BookView _ _). b.limit) c.in-Ok.ensures.book) c.make_turns-last.ensures.turned in
     let now = g.H.Shelf.shelf c.make_turns-last.new.shelf in
@@ -31,7 +31,7 @@ returns-in_default-clause-drained g c = λ files told.
     subst (λ d. IsDrainCall g.D.Disk.disk o now files c.args.asked (g.D.Disk.disk c.args.disk) (g.D.Disk.disk d) c.ended.result before after) (sym c.into_disk-in_default.ensures)
     (subst (λ (r : Result TurnsEnd StoreEnd). IsDrainCall g.D.Disk.disk o now files c.args.asked (g.D.Disk.disk c.args.disk) (g.D.Disk.disk later.disk) r before after) (sym c.ended.ensures)
     (drain_called o c.each_message_stands_in_one_place.ensures files c.args.asked c.args.disk opened mid later is why turned c.finish-end.ensures.goes_on now (failed_beyond o now mid.state why c.make_turns-last.ensures.failed)
-    c.in_default.not-Disk c.has_memory-is_said.result c.has_memory-is_said.ensures.1 c.finish-end.result before after
+    c.in_default.not-Disk c.in_default.not-Damaged c.has_memory-is_said.result c.has_memory-is_said.ensures.1 c.finish-end.result before after
     c.finish-end.ensures.finished c.finish-end.ensures.durable c.finish-end.ensures.completed c.finish-end.ensures.written c.finish-end.ensures.undamaged c.finish-end.ensures.untold))
 
 pub returns-in_default-clause-others : goal.returns-in_default-clause-others
@@ -45,7 +45,7 @@ returns-in_default-clause-others g c = λ files told.
 pub returns-in_default-clause-plain : goal.returns-in_default-clause-plain
 returns-in_default-clause-plain g c = λ why is.
     let told = told_turns c.finish-end.result c.has_memory-is_said.result c.make_turns-last.result why (sym c.ended.ensures ∙ is) in
-    subst IsToldEnd (sym told.0) (c.in_default.not-Disk, λ memory. cc (told.1, c.has_memory-is_said.ensures.1 memory))
+    subst IsToldEnd (sym told.0) (c.in_default.not-Disk, (λ memory. cc (told.1, c.has_memory-is_said.ensures.1 memory)), c.in_default.not-Damaged)
 
 pub returns-in_default-clause-ends : goal.returns-in_default-clause-ends
 returns-in_default-clause-ends g c =
@@ -67,7 +67,7 @@ returns-in-Disk-clause-drained g c = λ files told.
     let now = g.H.Shelf.shelf c.make_turns-last.new.shelf in let sink = g.S.Sink.sink c.args.out.now in
     let opened = c.in-Ok.book in let mid = c.make_turns-last.new.book in
     let is : Reopened g.D.Disk.disk m files c.args.disk opened =
-    reopened_so files c.args.disk c.args.rules 67_108_864 opened c.in-Ok.ensures.book (c.in-Ok.ensures.opens files told) (c.in-Ok.ensures.long files told) c.in-Ok.ensures.kept c.in-Ok.ensures.any_moment in
+    reopened_so files c.args.disk c.args.rules 67_108_864 opened c.in-Ok.ensures.book (c.in-Ok.ensures.opens files told) (c.in-Ok.ensures.root files told) (c.in-Ok.ensures.long files told) c.in-Ok.ensures.kept c.in-Ok.ensures.any_moment in
     let why = c.make_turns-last.result in
     let turned = subst (λ (n : ℕ). IsTurned g.D.Disk.disk (outside m shelf clock n) c.args.asked opened mid why) (ap (λ (b : BookView _ _). b.limit) c.in-Ok.ensures.book) c.make_turns-last.ensures.turned in
     subst (λ d. IsDrainCall g.D.Disk.disk o now files c.args.asked (g.D.Disk.disk c.args.disk) (g.D.Disk.disk d) (Err end.Disk) sink sink) (sym c.into_disk.ensures)

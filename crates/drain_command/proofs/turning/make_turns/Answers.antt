@@ -1,6 +1,6 @@
 use Rattle.std.proofs.Common.{◌≡◌, ℕ, subst}
 use Rattle.drain_loop.specs.Calls.{outside, IsDrained}
-use Rattle.drain_command.proofs.Made.{turned_off, turned_on}
+use Rattle.drain_command.proofs.Made.{turned_off, turned_on, undamaged_on}
 use Rattle.drain_command.proofs.turning.make_turns.Goals as goal
 
 pub returns-in-Ok-clause-turned : goal.returns-in-Ok-clause-turned
@@ -19,3 +19,8 @@ returns-in-Err-clause-turned g c =
     let shelf = g.H.Shelf.shelf c.args.shelf.now in
     let o = outside g.R.Rules.meaning shelf (g.C.Clock.told c.args.clock.now) c.args.book.now.limit in
     turned_off o c.args.asked c.args.book.now c.open_turns.new.book c.in-Err.end (c.in-Err.ensures.opened shelf)
+
+pub returns-in-Ok-clause-undamaged : goal.returns-in-Ok-clause-undamaged
+returns-in-Ok-clause-undamaged g c = λ files told.
+    let opened = c.in-Ok.ensures.opened (g.H.Shelf.shelf c.args.shelf.now) in
+    undamaged_on g.R.Rules.meaning files c.args.book.now c.open_turns.new.book opened.made c.drain_book.result told opened.goes_on c.drain_book.ensures.undamaged

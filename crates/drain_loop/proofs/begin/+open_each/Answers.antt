@@ -1,4 +1,4 @@
-use Rattle.std.proofs.Common.{rules, ◌∷◌, [], ℕ, List, map, Ok, Err, sym, subst, ◌∙◌}
+use Rattle.std.proofs.Common.{rules, ◌∷◌, [], ℕ, List, None, map, Ok, Err, sym, subst, ◌∙◌}
 use Rattle.drain_loop.specs.Calls.{outside, place_with, round_of, IsOpened}
 use Rattle.drain_loop.proofs.Begun.{ends_anyhow, later_distinct, later_finished, no_names, opens_more, opens_none}
 use Rattle.drain_loop.proofs.begin.+open_each.Goals as goal
@@ -37,3 +37,8 @@ returns-in-Err-clause-opened g t c = λ first limit is.
     subst (λ (n : ℕ). IsOpened g.D.Disk.disk (outside m first (g.C.Clock.told c.args.clock.now) n) (place_with (map round_of c.args.names.now) book c.args.left) [] book mid (Err c.in-Err.end)) (sym is)
     (subst (λ (ns : List (List ℕ)). IsOpened g.D.Disk.disk (outside m first (g.C.Clock.told c.args.clock.now) book.limit) (place_with (map round_of ns) book c.args.left) [] book mid (Err c.in-Err.end)) (sym c.in-Some.ensures.cases.0)
     (ends_anyhow (outside m first (g.C.Clock.told c.args.clock.now) book.limit) (place_with (round_of c.in-Some.bot.now ∷ later) book c.args.left) later [] book mid c.in-Err.end (c.in-Err.ensures.opened first later)))
+
+pub returns-in-Ok-clause-undamaged : goal.returns-in-Ok-clause-undamaged
+returns-in-Ok-clause-undamaged g t c = λ files told.
+    let between = ((c.in-Ok.ensures.opened (record { counts = []; told = None }) []).goes_on.others files told).told files told in
+    c.open_each.ensures.undamaged between.0 between.1

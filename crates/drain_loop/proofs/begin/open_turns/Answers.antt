@@ -1,4 +1,4 @@
-use Rattle.std.proofs.Common.{◌≡◌, [], ◌∷◌, ◌++◌, ℕ, Bool, true, List, Ok, Err, sym, subst, ◌∙◌}
+use Rattle.std.proofs.Common.{◌≡◌, [], ◌∷◌, ◌++◌, ℕ, Bool, true, List, None, Ok, Err, sym, subst, ◌∙◌}
 use Rattle.step_code.specs.declared.step.StepKind.{StepKind}
 use Rattle.step_code.specs.declared.step.StepKind.TheVariants as kind
 use Rattle.drain_loop.specs.Calls.{outside, place_with, reload_of, rounds_of, with_bundle, IsOpened}
@@ -53,3 +53,14 @@ returns-else-rounds-clause-opened g c = λ first.
     let rest = subst (λ (n : ℕ). IsOpened g.D.Disk.disk (outside m first (g.C.Clock.told c.args.clock.now) n) (place_with later mid c.in-Ok.left) rounds mid behind (Ok c.in-Ok-reload.left)) c.open_by.ensures.limit (c.in-Ok-reload.ensures.opened first rounds) in
     let front = opens_more o start later rounds c.in-Ok.left book mid behind (Ok c.in-Ok-reload.left) (c.in-Ok.ensures.opened first later) rest in
     subst (λ (a : Bool). IsOpened g.D.Disk.disk o start (rounds_of m (with_bundle m book.state bundle) a) book behind (Ok c.in-Ok-reload.left)) c.if-rounds.false front
+
+pub returns-in-Err-reload-clause-undamaged : goal.returns-in-Err-reload-clause-undamaged
+returns-in-Err-reload-clause-undamaged g c = λ files told.
+    let between = ((c.in-Ok.ensures.opened (record { counts = []; told = None }) []).goes_on.others files told).told files told in
+    c.in-Err-reload.ensures.undamaged between.0 between.1
+
+pub returns-then-rounds-clause-undamaged : goal.returns-then-rounds-clause-undamaged
+returns-then-rounds-clause-undamaged g c = λ files told.
+    let between = ((c.in-Ok.ensures.opened (record { counts = []; told = None }) []).goes_on.others files told).told files told in
+    let behind = ((c.in-Ok-reload.ensures.opened (record { counts = []; told = None }) []).goes_on.others between.0 between.1).told between.0 between.1 in
+    c.open_rounds.ensures.undamaged behind.0 behind.1

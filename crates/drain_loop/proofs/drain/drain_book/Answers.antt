@@ -8,7 +8,7 @@ use Rattle.ack_steps.specs.Core.{CoreView}
 use Rattle.collector_feeds.specs.Standing.{FeedView, IsOf, IsReady}
 use Rattle.turn_order.specs.Turn.{collectors}
 use Rattle.drain_turns.specs.declared.end.TurnsEnd.TheVariants as end
-use Rattle.drain_loop.specs.Calls.{outside, IsDrained}
+use Rattle.drain_loop.specs.Calls.{outside, IsDrained, IsUndamaged}
 use Rattle.drain_loop.specs.Feeds.{AreOfFirst, FailedBeyond, IsClosed, IsCounted, IsFailedByOne}
 use Rattle.drain_loop.proofs.Bundles.{same_collectors, still_bundle}
 use Rattle.drain_loop.proofs.Looked.{closed_counted, failed_beyond, no_feed, of_first_stays, same_files, written_back}
@@ -25,7 +25,7 @@ give_all_back-requires g c =
 pub returns-clause-drained : goal.returns-clause-drained
 returns-clause-drained g c =
     let o = outside g.R.Rules.meaning (g.H.Shelf.shelf c.args.shelf.now) (g.C.Clock.told c.args.clock.now) c.args.book.now.limit in
-    let all = still_drained o c.args.left c.args.book.now c.drain_feeds-end.new.book c.close.new.book c.drain_feeds-end.result c.drain_feeds-end.ensures.drained c.close.ensures.goes_on c.close.ensures.book in
+    let all = still_drained o c.args.left c.args.book.now c.drain_feeds-end.new.book c.close.new.book c.drain_feeds-end.result c.drain_feeds-end.ensures.drained c.close.ensures.goes_on in
     ended_as (IsDrained g.D.Disk.disk o c.args.left c.args.book.now c.close.new.book) c.drain_feeds-end.result c.close.result c.close.ensures.same all
     (cut_short o c.args.left c.args.book.now c.close.new.book c.drain_feeds-end.result all)
 
@@ -60,3 +60,6 @@ returns-clause-other_counts g c = λ name none.
     let differ = no_feed all c.deref_mut.result.now name of none in
     c.give_all_back.ensures.other_counts name (subst (AllByRecursion (λ (f : FeedView). name ≢ f.facts.file)) (sym back) (same_files c.deref_mut.result.now c.drain_feeds-end.new.feeds name looked.same differ))
     ∙ looked.shelf.others name differ
+
+pub returns-clause-undamaged : goal.returns-clause-undamaged
+returns-clause-undamaged g c = λ files told. ended_as IsUndamaged c.drain_feeds-end.result c.close.result c.close.ensures.same (c.drain_feeds-end.ensures.undamaged files told) tt

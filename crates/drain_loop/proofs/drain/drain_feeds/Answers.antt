@@ -17,7 +17,7 @@ pub returns-in-Err-clause-drained : goal.returns-in-Err-clause-drained
 returns-in-Err-clause-drained g c =
     let book = c.args.book.now in
     let o = outside g.R.Rules.meaning (g.H.Shelf.shelf c.args.shelf.now) (g.C.Clock.told c.args.clock.now) book.limit in
-    run_ends o c.args.left c.args.left book book book end.Memory (run_none o (place_of book c.args.left) book (g.met.D.Disk.only_now book.disk)) tt (goes_nowhere book (g.met.D.Disk.only_now book.disk)) refl
+    run_ends o c.args.left c.args.left book book book end.Memory (run_none o (place_of book c.args.left) book (g.met.D.Disk.only_now book.disk)) tt (goes_nowhere book (g.met.D.Disk.only_now book.disk))
 
 pub returns-in-Err-clause-looked : goal.returns-in-Err-clause-looked
 returns-in-Err-clause-looked g c = none_looked c.args.feeds.now (g.H.Shelf.shelf c.args.shelf.now) (all_wider IsClosed (IsReady (g.H.Shelf.shelf c.args.shelf.now)) c.args.feeds.now (closed_ready (g.H.Shelf.shelf c.args.shelf.now)) c.requires.closed)

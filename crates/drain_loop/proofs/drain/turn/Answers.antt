@@ -1,19 +1,18 @@
-use Rattle.std.proofs.Common.{◌≡◌, false, None, Err, refl, sym, ap, subst, ◌∙◌, arith}
+use Rattle.std.proofs.Common.{◌≡◌, [], false, None, Err, refl, sym, ap, subst, ◌∙◌, arith}
 use Rattle.step_code.specs.declared.base.Base.{Base}
 use Rattle.ack_steps.specs.Core.{CoreView}
 use Rattle.journal_book.specs.Book.{BookView}
-use Rattle.journal_book.specs.Staged.{staged, stamp, step_cause}
-use Rattle.journal_book.proofs.OneMore.{nothing_refuses}
+use Rattle.journal_book.specs.Staged.{staged, stamp}
 use Rattle.book_runs.proofs.Going.{goes_nowhere}
 use Rattle.turn_order.specs.Turn.{is_idle}
 use Rattle.drain_turns.specs.Drained.{Ends}
 use Rattle.drain_turns.specs.Works.{AreReady}
-use Rattle.drain_loop.specs.Calls.{outside, place_of}
+use Rattle.drain_loop.specs.Calls.{outside, place_of, IsUndamaged}
 use Rattle.drain_loop.specs.Feeds.{IsFailedByOne}
 use Rattle.drain_loop.specs.Turning.{EndsTurn, IsNextMove}
+use Rattle.drain_loop.proofs.Bundles.{still_bundle}
 use Rattle.drain_loop.proofs.Moving.{never_disk}
-use Rattle.drain_loop.proofs.Turning.{IsGoingOn, broken_by, disk_by, due_is, ends_here, is_late, late_not_failed, made_is, made_keeps, never_broken, not_made, number_small, screened_act, screened_fits, whole_cause}
-use Rattle.journal_book.proofs.Causes.{not_refused}
+use Rattle.drain_loop.proofs.Turning.{IsGoingOn, broken_by, disk_by, due_is, ends_here, is_late, late_not_failed, made_is, made_keeps, never_broken, not_made, number_small, screened_act, screened_fits, turn_undamaged, undamaged_by}
 use Rattle.drain_loop.proofs.drain.turn.Goals as goal
 
 pub returns-then-is_idle-clause-still : goal.returns-then-is_idle-clause-still
@@ -64,8 +63,7 @@ end_of-requires g c =
     let same = ap (λ (v : CoreView _). v.state) c.state-core.ensures.core in
     let next = subst (λ (b : Base). IsNextMove (outside m shelf None 0) b c.in-Ok.what) same (c.in-Ok.ensures.next shelf None 0 refl) in
     let step = staged m book.state c.now.result c.in-Ok.what in
-    is_late m book.state book.steps book.limit step c.in-Err-commit.fault (screened_fits m book.state (stamp book.state c.now.result).0 c.in-Ok.what next.2.fits)
-    (whole_cause book.broken (step_cause m book.state book.steps book.limit step) c.in-Err-commit.fault c.requires.whole c.in-Err-commit.ensures.refused)
+    is_late (outside m shelf None book.limit) [] book None step book.state.outs (g.D.Disk.disk book.disk).told c.in-Err-commit.fault refl c.requires.whole (screened_fits m book.state (stamp book.state c.now.result).0 c.in-Ok.what next.2.fits) c.in-Err-commit.ensures.refused
 
 pub returns-in-Ok-commit-clause-made : goal.returns-in-Ok-commit-clause-made
 returns-in-Ok-commit-clause-made g c = λ first told.
@@ -78,8 +76,7 @@ returns-in-Ok-commit-clause-made g c = λ first told.
     let on : IsGoingOn o p = record { opened = refl; busy = λ opened. subst (λ (b : Base). is_idle m b ≡ false) same (sym c.is_idle.ensures ∙ c.if-is_idle.false); left = c.is_none_left.ensures.some c.if-is_none_left.false; latest = c.state-core.ensures.latest } in
     record {
       step = step;
-      is_made = made_is o p step (due_is o p next.0 c.in-Ok.what c.now.result on next.1 next.2 c.now.ensures)
-          (not_refused book.broken (step_cause m book.state book.steps book.limit step) c.requires.whole c.in-Ok-commit.ensures.causes);
+      is_made = made_is o [] book c.args.left step refl c.requires.whole (due_is o p next.0 c.in-Ok.what c.now.result on next.1 next.2 c.now.ensures) c.in-Ok-commit.ensures.causes;
       goes_on = c.in-Ok-commit.ensures.ok;
       book = c.in-Ok-commit.ensures.book;
     }
@@ -100,7 +97,7 @@ returns-in-Ok-commit-clause-bundle g c =
     let same = ap (λ (v : CoreView _). v.state) c.state-core.ensures.core in
     let next = subst (λ (b : Base). IsNextMove (outside m shelf None 0) b c.in-Ok.what) same (c.in-Ok.ensures.next shelf None 0 refl) in
     let step = staged m s c.now.result c.in-Ok.what in
-    ap (λ (b : BookView _ _). b.state.bundle) c.in-Ok-commit.ensures.book ∙ (made_keeps m s next.0 step (screened_act m s (stamp s c.now.result).0 next.0 c.in-Ok.what next.2.is)).bundle
+    ap (λ (b : Base). b.bundle) c.in-Ok-commit.ensures.ok.state.same ∙ (made_keeps m s next.0 step (screened_act m s (stamp s c.now.result).0 next.0 c.in-Ok.what next.2.is)).bundle
 
 pub returns-in-Ok-commit-clause-fewer : goal.returns-in-Ok-commit-clause-fewer
 returns-in-Ok-commit-clause-fewer g c =
@@ -109,9 +106,8 @@ returns-in-Ok-commit-clause-fewer g c =
     let next = subst (λ (b : Base). IsNextMove (outside m shelf None 0) b c.in-Ok.what) same (c.in-Ok.ensures.next shelf None 0 refl) in
     let step = staged m s c.now.result c.in-Ok.what in
     let kept = made_keeps m s next.0 step (screened_act m s (stamp s c.now.result).0 next.0 c.in-Ok.what next.2.is) in
-    let none = not_refused book.broken (step_cause m s book.steps book.limit step) c.requires.whole c.in-Ok-commit.ensures.causes in
-    let small = number_small m s step (nothing_refuses m s book.steps book.limit step none).1 in
-    omega (arith, kept.steps, small, ap (λ (b : BookView _ _). b.state.steps) c.in-Ok-commit.ensures.book)
+    let small = number_small m s step c.in-Ok-commit.ensures.ok.small.0 in
+    omega (arith, kept.steps, small, ap (λ (b : Base). b.steps) c.in-Ok-commit.ensures.ok.state.same)
 
 pub returns-in-Err-commit-clause-ends : goal.returns-in-Err-commit-clause-ends
 returns-in-Err-commit-clause-ends g c = λ first told.
@@ -123,8 +119,7 @@ returns-in-Err-commit-clause-ends g c = λ first told.
     let step = staged m book.state c.now.result c.in-Ok.what in
     let on : IsGoingOn o p = record { opened = refl; busy = λ opened. subst (λ (b : Base). is_idle m b ≡ false) same (sym c.is_idle.ensures ∙ c.if-is_idle.false); left = c.is_none_left.ensures.some c.if-is_none_left.false; latest = c.state-core.ensures.latest } in
     subst (Ends o p) (sym c.end_of.ensures)
-    (not_made o p step c.in-Err-commit.fault (due_is o p next.0 c.in-Ok.what c.now.result on next.1 next.2 c.now.ensures)
-    (whole_cause book.broken (step_cause m book.state book.steps book.limit step) c.in-Err-commit.fault c.requires.whole c.in-Err-commit.ensures.refused))
+    (not_made o [] book c.args.left step book.state.outs (g.D.Disk.disk book.disk).told c.in-Err-commit.fault refl c.requires.whole (due_is o p next.0 c.in-Ok.what c.now.result on next.1 next.2 c.now.ensures) c.in-Err-commit.ensures.refused)
 
 pub returns-in-Err-commit-clause-end : goal.returns-in-Err-commit-clause-end
 returns-in-Err-commit-clause-end g c = subst (IsFailedByOne c.next_move.new.feeds) (sym c.end_of.ensures) (late_not_failed c.next_move.new.feeds c.in-Err-commit.fault)
@@ -136,3 +131,14 @@ returns-in-Err-commit-clause-broken g c =
 
 pub returns-in-Err-commit-clause-disk : goal.returns-in-Err-commit-clause-disk
 returns-in-Err-commit-clause-disk g c = λ disk. c.in-Err-commit.ensures.failed (ap (λ f. Err f) (disk_by c.in-Err-commit.fault c.end_of.result c.end_of.ensures (cc (disk))))
+
+pub returns-in-Err-clause-undamaged : goal.returns-in-Err-clause-undamaged
+returns-in-Err-clause-undamaged g c = λ files told.
+    let m = g.R.Rules.meaning in let shelf = g.H.Shelf.shelf c.args.shelf.now in
+    turn_undamaged (outside m shelf None 0) c.state-core.result.now.state c.in-Err.end (c.in-Err.ensures.next shelf None 0 refl)
+
+pub returns-in-Err-commit-clause-undamaged : goal.returns-in-Err-commit-clause-undamaged
+returns-in-Err-commit-clause-undamaged g c = λ files told. subst IsUndamaged (sym c.end_of.ensures) (undamaged_by c.in-Err-commit.fault (c.in-Err-commit.ensures.undamaged files told))
+
+pub returns-in-Err-commit-clause-bundle : goal.returns-in-Err-commit-clause-bundle
+returns-in-Err-commit-clause-bundle g c = still_bundle c.in-Err-commit.ensures.err

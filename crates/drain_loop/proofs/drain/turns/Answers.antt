@@ -27,7 +27,7 @@ turns-preserved g c =
     record {
       run = λ first told.
           let o = outside m first (g.C.Clock.told c.args.clock.now) c.args.book.now.limit in
-          turn_more o (place_of c.args.book.now c.args.left) c.turns.left c.one_less-left.result c.args.book.now c.turns.book c.turn.new.book (inv.run first told)
+          turn_more o (place_of c.args.book.now c.args.left) c.turns.left c.one_less-left.result c.args.book.now c.turns.book c.turn.new.book (sym inv.limit) (inv.run first told)
           (subst (λ (n : ℕ). OneStep g.D.Disk.disk (outside m first (g.C.Clock.told c.args.clock.now) n) c.turns.left c.turns.book c.turn.new.book) inv.limit
           (c.in-Ok.ensures.made first (told ∙ sym inv.looked.shelf.told)))
           c.one_less-left.ensures;
@@ -48,10 +48,16 @@ returns-in-Err-clause-drained g c = λ first told.
     let o = outside m first (g.C.Clock.told c.args.clock.now) c.args.book.now.limit in
     run_ends o c.args.left c.turns.left c.args.book.now c.turns.book c.turn.new.book c.in-Err.end (inv.run first told)
     (subst (λ (n : ℕ). Ends (outside m first (g.C.Clock.told c.args.clock.now) n) (place_of c.turns.book c.turns.left) c.in-Err.end) inv.limit (c.in-Err.ensures.ends first (told ∙ sym inv.looked.shelf.told)))
-    c.in-Err.ensures.still c.in-Err.ensures.same
+    c.in-Err.ensures.still
 
 pub returns-in-Err-clause-looked : goal.returns-in-Err-clause-looked
 returns-in-Err-clause-looked g c =
     let inv = c.turns.invariant in
     looked_further c.args.feeds.now c.turns.feeds c.turn.new.feeds (g.H.Shelf.shelf c.args.shelf.now) (g.H.Shelf.shelf c.turns.shelf) (g.H.Shelf.shelf c.turn.new.shelf) inv.looked c.turn.ensures.looked
     (λ name differ. same_files c.args.feeds.now c.turns.feeds name inv.looked.same differ)
+
+pub returns-in-Err-clause-undamaged : goal.returns-in-Err-clause-undamaged
+returns-in-Err-clause-undamaged g c = λ files told.
+    let inv = c.turns.invariant in
+    let now = ((inv.run (g.H.Shelf.shelf c.args.shelf.now) refl).goes_on.others files told).told files told in
+    c.in-Err.ensures.undamaged now.0 now.1

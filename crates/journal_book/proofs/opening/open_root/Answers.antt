@@ -1,5 +1,6 @@
-use Rattle.std.proofs.Common.{List, ℕ, sym, subst, ◌∙◌}
-use Rattle.disk_journal.specs.GateFile.{heading_of}
+use Rattle.std.proofs.Common.{◌≡◌, [], ◌∷◌, ◌++◌, List, ℕ, length, map, sym, ap, subst, ◌∙◌}
+use Rattle.disk_journal.specs.GateFile.{gate_file, heading_of, HasBodies}
+use Rattle.stored_types.specs.Code.{number}
 use Rattle.disk_journal.specs.Journal.{IsAtRest}
 use Rattle.store_image.specs.Damage.{NameNone}
 use Rattle.journal_book.proofs.Histories.{bad_bodies}
@@ -16,3 +17,13 @@ returns-in-Ok-generation_named-clause-at_rest g c = λ files after told now.
 pub returns-in-Err-generation_named-clause-fault : goal.returns-in-Err-generation_named-clause-fault
 returns-in-Err-generation_named-clause-fault g c = λ files told.
     bad_bodies (heading_of 0) NameNone c.in-Ok.found.1 c.as_slice.result.now (files 0) c.in-Err-generation_named.fault c.as_slice.ensures (c.in-Ok.ensures.bodies files told) c.in-Err-generation_named.ensures.fault
+
+pub returns-in-Ok-generation_named-clause-root : goal.returns-in-Ok-generation_named-clause-root
+returns-in-Ok-generation_named-clause-root g c = λ files told.
+    let named = c.in-Ok-generation_named.ensures.ok in
+    let is : c.in-Ok.found.1 ≡ map number (named.before ++ c.in-Ok-generation_named.generation ∷ []) = sym c.as_slice.ensures ∙ named.is in
+    record {
+      before = named.before;
+      bodies = subst (λ (bodies : List (List ℕ)). HasBodies (heading_of 0) bodies (files 0)) is (c.in-Ok.ensures.bodies files told);
+      is = c.in-Ok.ensures.length ∙ ap (λ (bodies : List (List ℕ)). length (gate_file (heading_of 0) bodies 0)) is;
+    }

@@ -142,3 +142,6 @@ returns-in-Err-check_outs-clause-others g c = λ files told.
     (alone_on (alone_narrower (λ file beside. beside.0) (recovers_alone 0 c.open_root.ensures.recovers files told_len))
     (alone_on (alone_narrower (λ file beside. beside.1 gen (c.in-Ok.ensures.named files told_len)) (recovers_alone (generation_file gen) c.open_generation.ensures.recovers mid.0 mid.1))
     (reads_alone (IsBeside files) (g.met.D.Disk.only_now c.open_generation.new.disk) c.check_outs.ensures.reads)))
+
+pub returns-in-Ok-check_outs-clause-root : goal.returns-in-Ok-check_outs-clause-root
+returns-in-Ok-check_outs-clause-root g c = λ files told. c.in-Ok.ensures.root files (c.len.ensures.told ∙ told)

@@ -1,4 +1,4 @@
-use Rattle.std.proofs.Common.{◌≡◌, [], List, ℕ, refl, sym, ap, subst, ◌∙◌}
+use Rattle.std.proofs.Common.{◌≡◌, [], refl, sym, ap, subst, ◌∙◌}
 use Rattle.step_code.specs.declared.base.Base.{Base}
 use Rattle.step_code.specs.History.{first}
 use Rattle.state_texts.specs.Texts.{summary}

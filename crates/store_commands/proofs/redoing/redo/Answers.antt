@@ -1,16 +1,16 @@
-use Rattle.std.proofs.Common.{◌≡◌, ◌+◌, ◌-◌, ℕ, [], length, sym, ap, subst}
+use Rattle.std.proofs.Common.{◌≡◌, ◌+◌, ◌-◌, ℕ, [], length, sym, ap, subst, ◌∙◌}
 use Rattle.journal_book.specs.Alone.{LeavesAlone}
 use Rattle.journal_book.specs.Book.{BookView}
 use Rattle.journal_book.specs.Opening.{StandsNow}
 use Rattle.journal_book.specs.Outputs.{AreWritten}
-use Rattle.journal_book.specs.Staged.{step_cause}
+use Rattle.book_runs.specs.Commit.{commit_cause}
 use Rattle.store_calls.specs.Calls.{IsEarlierIn, IsOpened, StandsOn}
 use Rattle.store_calls.proofs.Called.{left_closed, left_open, opened_so}
 use Rattle.store_commands.specs.Ends.{AreWrittenAt}
-use Rattle.store_commands.specs.Redone.{redo_step, IsAsked, IsRedoCall, IsRedone, RedoesStep}
+use Rattle.store_commands.specs.Redone.{cause_in, redo_step, IsAsked, IsRedoCall, IsRedone, RedoesStep}
 use Rattle.store_commands.specs.declared.end.StoreEnd.{StoreEnd}
 use Rattle.store_commands.proofs.Completed.{unwritten_end}
-use Rattle.store_commands.proofs.RedoEnds.{call_closed, call_open, redone_closed, redone_open}
+use Rattle.store_commands.proofs.RedoEnds.{call_closed, call_open, cause_whole, redone_closed, redone_open}
 use Rattle.store_commands.proofs.Redone.{makes, makes_durably, stands}
 use Rattle.store_commands.proofs.redoing.redo.Goals as goal
 
@@ -19,15 +19,18 @@ returns-in-Ok-clause-redone g c = λ files told.
     let m = g.R.Rules.meaning in
     let opened = c.in-Ok.book in
     let step = redo_step opened.state c.args.dump c.args.now in
-    let cause = step_cause m opened.state opened.steps opened.limit step in
+    let cause = commit_cause m opened step in
     let limit : opened.limit ≡ 67_108_864 = ap (λ (b : BookView _ _). b.limit) c.in-Ok.ensures.book in
     let asked : IsAsked m files c.args.dump c.args.now opened.state cause = record {
       generation = opened.generation;
+      root = opened.root;
       base = opened.base;
       steps = opened.steps;
       opens = c.in-Ok.ensures.opens files told;
+      root_is = c.in-Ok.ensures.root files told;
       state = ap (λ (b : BookView _ _). b.state) c.in-Ok.ensures.book;
-      cause_is = ap (λ (n : ℕ). step_cause m opened.state opened.steps n step) (sym limit);
+      cause_is = ap (λ (n : ℕ). cause_in m n opened.generation opened.root opened.state opened.steps step) (sym limit)
+          ∙ sym (cause_whole m opened step (ap (λ (b : BookView _ _). b.broken) c.in-Ok.ensures.book));
     } in
     let long = c.in-Ok.ensures.long files told in
     redone_open m files c.args.dump c.args.now opened.state cause c.redo_dump-end.result (g.S.Sink.sink c.args.out.now) (g.S.Sink.sink c.redo_dump-end.new.out) asked c.redo_dump-end.ensures.end
@@ -51,7 +54,7 @@ returns-in-Ok-clause-stands g c = λ origin steps more was.
     (call_open step run.made e _ _ (λ file at. c.redo_dump-end.ensures.undamaged long.0 file at long.1) run.made_is
     (stands accounts origin steps more c.args.disk opened later is c.args.dump c.args.now e run)
     (λ one. ((length run.run.archived + later.kept) - opened.kept, makes accounts origin steps more c.args.disk opened later is c.args.dump c.args.now e run one))
-    (λ other one. makes_durably accounts origin steps more c.args.disk opened later is c.args.dump c.args.now e run (c.redo_dump-end.ensures.durable other) one))
+    (λ other one. makes_durably accounts origin steps more c.args.disk opened later is c.args.dump c.args.now e run (c.redo_dump-end.ensures.durable other (λ file at. c.redo_dump-end.ensures.undamaged long.0 file at long.1)) one))
 
 pub returns-in-Err-clause-redone : goal.returns-in-Err-clause-redone
 returns-in-Err-clause-redone g c = λ files told.

@@ -42,6 +42,7 @@ invariant_of-self g c =
           rest_roomier i.root i.journal c.enter.new.journal (g.D.Disk.disk i.disk).may_leave i.generation i.base.value (take i.durable i.steps) (take i.durable c.in_ok-steps.steps) files (c.self.invariant.5 whole files told) journal
           (durable_more i.durable i.steps c.in_ok-steps.steps step c.self.invariant.1.within pushed),
       λ whole files told. subst (λ (s : Base). AreLong 0 s.outs files) (sym state_is) (long_after m i.core.state step files (c.self.invariant.6 whole files told)),
+      c.self.invariant.7,
     )
 
 pub invariant_of-self-in-Err : goal.invariant_of-self-in-Err
@@ -58,4 +59,5 @@ invariant_of-self-in-Err g c =
       λ whole files told.
           rest_roomier i.root i.journal c.enter.new.journal (g.D.Disk.disk i.disk).may_leave i.generation i.base.value (take i.durable i.steps) (take i.durable i.steps) files (c.self.invariant.5 whole files told) journal refl,
       λ whole files told. subst (λ (s : Base). AreLong 0 s.outs files) (sym state_is) (c.self.invariant.6 whole files told),
+      c.self.invariant.7,
     )

@@ -28,6 +28,7 @@ invariant_of-self g c =
           rest_completed (g.D.Disk.disk i.disk) (g.D.Disk.disk c.complete_all.new.disk) i.core.state.outs i.root i.journal i.generation i.base.value (take i.durable i.steps) after (g.D.Disk.disk i.disk).told
           refl told c.self.invariant.0 c.complete_all.ensures.run (c.self.invariant.5 whole),
       λ whole after told. long_completed (g.D.Disk.disk i.disk).told (g.D.Disk.disk c.complete_all.new.disk).told _ i.core.state.outs after c.complete_all.ensures.run.untold told c.in-Ok.ensures.completed,
+      c.self.invariant.7,
     )
 
 pub invariant_of-self-in-Err : goal.invariant_of-self-in-Err
@@ -45,6 +46,7 @@ invariant_of-self-in-Err g c =
       λ whole after told.
           let was = before_told (g.D.Disk.disk i.disk).told (g.D.Disk.disk c.complete_all.new.disk).told after c.complete_all.ensures.run.untold told in
           c.in-Err.ensures.long was.0 after was.1 told (c.self.invariant.6 before was.0 was.1) (λ is. absurd (cc (c.is_disk-self-inside.ensures.1 is, whole))),
+      λ whole. c.self.invariant.7 before,
     )
 
 pub returns-in-Ok-clause-completed : goal.returns-in-Ok-clause-completed

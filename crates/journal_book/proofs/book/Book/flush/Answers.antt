@@ -42,6 +42,7 @@ invariant_of-self g c =
           (λ files bodies was rests. c.in-Ok.ensures.at_rest files after bodies was told rests),
       λ whole after told.
           long_flushed (g.D.Disk.disk i.disk).told (g.D.Disk.disk c.append.new.disk).told i.generation i.journal.file i.core.state.outs after c.in-Ok.ensures.untold c.in-Ok.ensures.elsewhere c.self.invariant.0.file_is told (c.self.invariant.6 whole),
+      c.self.invariant.7,
     )
 
 -- some step waits, in a book that is whole
@@ -68,7 +69,7 @@ returns-in-Ok-clause-kept g c = λ origin past kept.
     _ is origin past c.append.new.disk changes.0 c.append.new.self here changes.1 c.in-Ok.ensures.crash_elsewhere (ap (λ j. j.file) grown) (ap (λ j. j.heading) grown)
     (c.in-Ok.ensures.at_rest here.files changes.0 _ here.tells changes.1 rest.journal_rests) in
     subst (λ (n : ℕ). IsKept g.D.Disk.disk g.R.Rules.meaning origin past
-    (record { disk = c.append.new.disk; rules = i.core.rules; generation = i.generation; base = i.base.value; steps = i.steps; kept = n; state = i.core.state; limit = i.limit; broken = i.broken }))
+    (record { disk = c.append.new.disk; rules = i.core.rules; generation = i.generation; root = i.root.length; base = i.base.value; steps = i.steps; kept = n; state = i.core.state; limit = i.limit; broken = i.broken }))
     (sym c.len-self-inside.ensures) flushed
 
 pub returns-in-Ok-clause-any_moment : goal.returns-in-Ok-clause-any_moment

@@ -17,11 +17,12 @@ invariant_of-result g c =
       replayed_reopened m _ _ _ c.len-durable.result c.in-Ok.ensures.history state_is c.len-durable.ensures,
       pending_reopened _ c.len-durable.result c.from.result c.args.limit _ c.len-durable.ensures c.requires c.in-Ok.ensures.length,
       subst (λ (b : Base). AreShort b.outs) (sym state_is) (history_small m _ _ c.in-Ok.ensures.history).short,
-      λ whole. c.in-Ok.ensures.whole,
+      λ whole. c.in-Ok.ensures.whole.1,
       λ whole after told.
           rest_reopened (g.D.Disk.disk c.args.disk) (g.D.Disk.disk c.open_store.new.disk) _ _ _ _ _ c.len-durable.result after (g.D.Disk.disk c.args.disk).told refl told
           c.open_store.ensures.untold c.in-Ok.ensures.at_rest c.len-durable.ensures,
       λ whole after told. long_reopened (g.D.Disk.disk c.args.disk).told (g.D.Disk.disk c.open_store.new.disk).told _ after c.open_store.ensures.untold told c.in-Ok.ensures.long,
+      λ whole. c.in-Ok.ensures.whole.0,
     )
 
 pub returns-in-Ok-clause-kept : goal.returns-in-Ok-clause-kept
@@ -31,7 +32,7 @@ returns-in-Ok-clause-kept g c = λ origin steps more was.
     let kept = kept_reopened g.D.Disk.disk m origin steps more c.args.rules c.args.limit c.open_store.new.disk _ _ _ _ _ now
     (g.met.D.Disk.honest c.open_store.new.disk now.files now.tells) c.in-Ok.ensures.files c.in-Ok.ensures.history.writable (c.in-Ok.ensures.at_rest was.files now.files was.tells now.tells) in
     subst (λ (b : BookView g.row.D.Denot g.row.R.Denot). IsReopened g.D.Disk.disk m origin steps more b)
-    (sym (view_reopened m c.args.rules _ _ _ _ _ c.len-durable.result c.args.limit c.open_store.new.disk (ap (λ core. core.rules) c.in-Ok.ensures.core)
+    (sym (view_reopened m c.args.rules _ _ _ _ _ _ c.len-durable.result c.args.limit c.open_store.new.disk (ap (λ core. core.rules) c.in-Ok.ensures.core)
     (ap (λ core. core.state) c.in-Ok.ensures.core) c.len-durable.ensures))
     kept
 
