@@ -1,0 +1,15 @@
+pub mod Parts
+pub mod Paths
+pub mod Removed
+pub mod Added
+pub mod Bounds
+pub mod Shifted
+pub mod Views
+pub mod Moved
+pub mod Passed
+pub mod Numbers
+pub mod Grown
+pub mod Headed
+pub mod Wider
+pub mod Seen
+pub mod Found

@@ -1,0 +1,28 @@
+use Rattle.std.proofs.Common.{◌≡◌, drop, length, ap, arith, rules}
+use Rattle.std.proofs.lemmas.List.{length-drop}
+use Rattle.link_store.specs.Slots.{nexts, cells}
+use Rattle.link_store.specs.Kept.{lists_in}
+use Rattle.link_store.proofs.Views.{length-lists_of}
+use Rattle.link_store.proofs.links.Links.add_list.Goals as goal
+
+pub invariant_of-self : goal.invariant_of-self
+invariant_of-self g c = record {
+  linked = c.add_ring.ensures.linked;
+  numbered = c.add_ring.ensures.numbered c.self.inside.pushed c.self.invariant.numbered;
+  enough = omega (arith, c.add_ring.ensures.free, c.self.invariant.enough);
+}
+
+pub invariant_of-self-2 : goal.invariant_of-self-2
+invariant_of-self-2 g c = record {
+  linked = c.add_ring.ensures.linked;
+  numbered = c.add_ring.ensures.numbered c.self.inside.pushed c.self.invariant.numbered;
+  enough = omega (arith, c.add_ring.ensures.free, c.self.invariant.enough);
+}
+
+pub returns-clause-number : goal.returns-clause-number
+returns-clause-number g c =
+    let links = c.self.inside in
+    let count : length (drop 1 (lists_in links.slots.items links.heads.items links.lens.items)) ≡ length c.args.self.now.lists = ap (λ v. length v.lists) c.self.view_is in
+    let rings : length (lists_in links.slots.items links.heads.items links.lens.items) ≡ length links.heads.items = length-lists_of (nexts links.slots.items) (cells links.slots.items) links.heads.items links.lens.items c.self.invariant.linked.joined.lens_len in
+    let len : c.len.result ≡ length links.heads.items = search rules in
+    omega (arith, count, rings, len, c.in-Ok.ensures, length-drop 1 (lists_in links.slots.items links.heads.items links.lens.items))

@@ -1,0 +1,5 @@
+//! Tests of the lists by index.
+#![tactic(auto)]
+
+#[cfg(test)]
+mod rows;
