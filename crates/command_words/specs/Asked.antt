@@ -19,6 +19,7 @@ asked_of (command.Init bundle) = asked.Init bundle.now
 asked_of (command.Drain ask) = asked.Drain (ask_of ask)
 asked_of command.Status = asked.Status
 asked_of command.Dumps = asked.Dumps
+asked_of command.Audit = asked.Audit
 asked_of (command.Redo dump) = asked.Redo dump
 asked_of (command.Drill lines number) = asked.Drill lines number
 

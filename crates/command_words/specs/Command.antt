@@ -14,5 +14,6 @@ pub data Command : Type 0 where
   Drain : Ask → Command
   Status : Command
   Dumps : Command
+  Audit : Command
   Redo : (dump : ℕ) → Command
   Drill : (lines number : ℕ) → Command

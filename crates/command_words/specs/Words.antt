@@ -3,7 +3,7 @@ use Rattle.std.specs.Prelude.{ℕ, ◌&&◌, Bool, true, false, List, [], ◌∷
 use Rattle.std.specs.List.{list_any}
 use Rattle.std.specs.Str.{bytes_eq}
 use Rattle.base_types.specs.Number.{last_u64}
-use Rattle.command_words.specs.Command.{Command, Convert, Check, Init, Drain, Status, Dumps, Redo, Drill}
+use Rattle.command_words.specs.Command.{Command, Convert, Check, Init, Drain, Status, Dumps, Audit, Redo, Drill}
 use Rattle.command_words.specs.Values.{name_in, number_in, number_within}
 
 -- ---- pairs of a name and a value
@@ -83,6 +83,7 @@ command_with word pairs =
     else if bytes_eq word (codes "drain") then drain pairs
     else if bytes_eq word (codes "status") then alone Status pairs
     else if bytes_eq word (codes "dumps") then alone Dumps pairs
+    else if bytes_eq word (codes "audit") then alone Audit pairs
     else if bytes_eq word (codes "redo") then redo pairs
     else if bytes_eq word (codes "drill") then drill pairs
     else None

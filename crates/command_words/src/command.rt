@@ -26,6 +26,8 @@ pub enum Command<'w> {
     Status,
     /// The dumps are printed.
     Dumps,
+    /// All generations are gone through with the rules.
+    Audit,
     /// A dumped message goes back to its queue.
     Redo { dump: u64 },
     /// A store is made, and a feed of so many lines that the number gives is drained.

@@ -111,6 +111,7 @@ fn command_with<'w>(word: &str, pairs: &'w [Text]) -> Option<Command<'w>>
         "drain" => drain(pairs),
         "status" => alone(pairs, Command::Status),
         "dumps" => alone(pairs, Command::Dumps),
+        "audit" => alone(pairs, Command::Audit),
         "redo" => redo(pairs),
         "drill" => drill(pairs),
         _ => None,

@@ -1,9 +1,9 @@
 -- A gate file can be read in one way.
-use Rattle.std.proofs.Common.{◌≡◌, ◌≢◌, ◌<◌, ◌^◌, inl, inr, ℕ, List, [], ◌∷◌, ◌++◌, length, take, refl, sym, ◌∙◌, ap, arith, append_assoc, length-append}
+use Rattle.std.proofs.Common.{◌≡◌, ◌≢◌, ◌<◌, ◌^◌, inl, inr, ℕ, List, [], ◌∷◌, ◌++◌, length, take, Option, Some, None, refl, sym, ◌∙◌, ap, arith, append_assoc, length-append}
 use Rattle.std.specs.Int.{to_be_bytes, from_be_bytes, w64}
 use Rattle.std.proofs.lemmas.Nat.{from_be_bytes-to_be_bytes_8}
 use Rattle.std.proofs.lemmas.List.{append_cancel_left, take_at}
-use Rattle.disk_journal.specs.GateFile.{Heading, header, open_record, open_records, gate_file, HaveLengths, HasBodies, BeginsWithRecord, IsDamagedAt}
+use Rattle.disk_journal.specs.GateFile.{Heading, header, open_record, open_records, gate_file, HaveLengths, HasBodies, HasRecords, BeginsWithRecord, IsCutAt, IsDamagedAt, IsHeadless}
 
 pub length_header : (heading : Heading) → length (header heading) ≡ 16
 length_header heading = refl
@@ -90,6 +90,13 @@ damaged_has_no_bodies heading at bodies file (inr (inr cut)) has =
     let rest = (records_are_one cut.bodies bodies 1 has.gate cut.behind has.behind cut.lengths has.lengths cut.cut (closed_ends _ _ has.closed) (append_cancel_left (header heading) _ _ same)).1 in
     has.closed (cc)
 
+-- a file is cut at one place, behind the same records
+cuts_are_one : (heading : Heading) (at other : ℕ) (file : List ℕ) (a : IsCutAt heading file at) (b : IsCutAt heading file other) → (a.bodies ≡ b.bodies) × (at ≡ other)
+cuts_are_one heading at other file a b =
+    let same = sym (cut_split heading a.bodies (1 ∷ a.behind)) ∙ sym a.content ∙ b.content ∙ cut_split heading b.bodies (1 ∷ b.behind) in
+    let bodies = (records_are_one a.bodies b.bodies 1 1 a.behind b.behind a.lengths b.lengths a.cut b.cut (append_cancel_left (header heading) _ _ same)).0 in
+    (bodies, a.place ∙ ap (λ bs. length (header heading ++ open_records bs)) bodies ∙ sym b.place)
+
 pub damage_is_at_one_place : (heading : Heading) (at other : ℕ) (file : List ℕ) → IsDamagedAt heading file at → IsDamagedAt heading file other → at ≡ other
 damage_is_at_one_place heading at other file (inl a) (inl b) = a.0 ∙ sym b.0
 damage_is_at_one_place heading at other file (inl a) (inr (inl b)) = absurd (a.1 (ap (take 16) b.1))
@@ -99,7 +106,29 @@ damage_is_at_one_place heading at other file (inr (inl a)) (inr (inl b)) = a.0 �
 damage_is_at_one_place heading at other file (inr (inl a)) (inr (inr b)) = absurd (long_of_cut heading b.bodies 1 b.behind (sym b.content ∙ a.1))
 damage_is_at_one_place heading at other file (inr (inr a)) (inl b) = absurd (b.1 (front_of_cut heading a.bodies (1 ∷ a.behind) file a.content))
 damage_is_at_one_place heading at other file (inr (inr a)) (inr (inl b)) = absurd (long_of_cut heading a.bodies 1 a.behind (sym a.content ∙ b.1))
-damage_is_at_one_place heading at other file (inr (inr a)) (inr (inr b)) =
-    let same = sym (cut_split heading a.bodies (1 ∷ a.behind)) ∙ sym a.content ∙ b.content ∙ cut_split heading b.bodies (1 ∷ b.behind) in
-    let bodies = (records_are_one a.bodies b.bodies 1 1 a.behind b.behind a.lengths b.lengths a.cut b.cut (append_cancel_left (header heading) _ _ same)).0 in
-    a.place ∙ ap (λ bs. length (header heading ++ open_records bs)) bodies ∙ sym b.place
+damage_is_at_one_place heading at other file (inr (inr a)) (inr (inr b)) = (cuts_are_one heading at other file a b).1
+
+-- ---- whole records, and where they are cut
+
+-- a file without records has none
+pub headless_has_no_records : (heading : Heading) (at : ℕ) (bodies : List (List ℕ)) (cut : Option ℕ) (file : List ℕ) → IsHeadless heading file at → HasRecords heading bodies cut file → ⊥
+headless_has_no_records heading at bodies None file (inl other) has = damaged_has_no_bodies heading at bodies file (inl other) has
+headless_has_no_records heading at bodies None file (inr ends) has = damaged_has_no_bodies heading at bodies file (inr (inl ends)) has
+headless_has_no_records heading at bodies (Some place) file (inl other) (cut, same) = other.1 (front_of_cut heading cut.bodies (1 ∷ cut.behind) file cut.content)
+headless_has_no_records heading at bodies (Some place) file (inr ends) (cut, same) = long_of_cut heading cut.bodies 1 cut.behind (sym cut.content ∙ ends.1)
+
+-- nor is it without them at two places
+pub headless_at_one_place : (heading : Heading) (at other : ℕ) (file : List ℕ) → IsHeadless heading file at → IsHeadless heading file other → at ≡ other
+headless_at_one_place heading at other file (inl a) (inl b) = a.0 ∙ sym b.0
+headless_at_one_place heading at other file (inl a) (inr b) = absurd (a.1 (ap (take 16) b.1))
+headless_at_one_place heading at other file (inr a) (inl b) = absurd (b.1 (ap (take 16) a.1))
+headless_at_one_place heading at other file (inr a) (inr b) = a.0 ∙ sym b.0
+
+-- they are read in one way
+pub has_records_once : (heading : Heading) (a b : List (List ℕ)) (x y : Option ℕ) (file : List ℕ) → HasRecords heading a x file → HasRecords heading b y file → (a ≡ b) × (x ≡ y)
+has_records_once heading a b None None file has_a has_b = (bodies_are_one heading a b file has_a has_b, refl)
+has_records_once heading a b None (Some y) file has_a (cut, same) = absurd (damaged_has_no_bodies heading y a file (inr (inr cut)) has_a)
+has_records_once heading a b (Some x) None file (cut, same) has_b = absurd (damaged_has_no_bodies heading x b file (inr (inr cut)) has_b)
+has_records_once heading a b (Some x) (Some y) file (cut, same) (other, alike) =
+    let one = cuts_are_one heading x y file cut other in
+    (sym same ∙ one.0 ∙ alike, ap Some one.1)

@@ -4,11 +4,11 @@ use Rattle.std.specs.Prelude.{⊤}
 use Rattle.std.proofs.lemmas.List.{take_at, take_all}
 use Rattle.edge_traits.specs.Disk.{DiskView, Image, Cut, MayFollow, Adds, Only, IsImage, Elapses, Leaves, LeavesOthers}
 use Rattle.edge_traits.proofs.Moments.{started, goes_on, run_on, widened}
-use Rattle.disk_journal.specs.GateFile.{Heading, header, open_records, gate_file, HasBodies, HaveSameBodies, IsDamagedAt}
+use Rattle.disk_journal.specs.GateFile.{Heading, header, open_records, gate_file, HasBodies, HaveSameBodies, IsHeadless}
 use Rattle.disk_journal.specs.Reads.{OnlyReads, IsReadTo, IsClosed}
 
-pub ends_with_header : (heading : Heading) (end : ℕ) (file : List ℕ) → end ≡ length file → end ≤ 16 → take 16 file ≡ header heading → IsDamagedAt heading file 16
-ends_with_header heading end file is short front = inr (inl (refl, sym (take_all 16 file (omega (arith, is, short))) ∙ front))
+pub ends_with_header : (heading : Heading) (end : ℕ) (file : List ℕ) → end ≡ length file → end ≤ 16 → take 16 file ≡ header heading → IsHeadless heading file 16
+ends_with_header heading end file is short front = inr (refl, sym (take_all 16 file (omega (arith, is, short))) ∙ front)
 
 take_past : (xs ys : List ℕ) (n : ℕ) → length xs ≤ n → take n (xs ++ ys) ≡ xs ++ take (n - length xs) ys
 take_past [] ys n le = let same : n ≡ n - 0 = omega arith in ap (λ (k : ℕ). take k ys) same

@@ -1,17 +1,17 @@
 -- Reading a gate file from its header to the first gate that isn't open.
-use Rattle.std.proofs.Common.{◌≡◌, ◌<◌, ◌+◌, ◌^◌, ⊎_elim, inr, ℕ, List, [], ◌∷◌, ◌++◌, length, take, drop, false, Result, Ok, Err, OnOk, is_err, refl, sym, ◌∙◌, ap, subst, arith, append_assoc, length-append}
+use Rattle.std.proofs.Common.{◌≡◌, ◌<◌, ◌+◌, ◌^◌, ⊎_elim, inl, inr, ℕ, Bool, true, List, [], ◌∷◌, ◌++◌, length, take, drop, false, Result, Ok, Err, OnOk, is_err, refl, sym, ◌∙◌, ap, arith, append_assoc, length-append}
 use Rattle.std.specs.Prelude.{Some}
 use Rattle.std.specs.Int.{to_be_bytes, w64}
 use Rattle.std.proofs.Math.Seq.{drop-append_seam}
 use Rattle.std.proofs.lemmas.List.{take-append-drop, length-take-le, drop-drop, length-drop}
 use Rattle.edge_traits.specs.Disk.{DiskView, Image}
-use Rattle.disk_journal.specs.GateFile.{Heading, header, header_length, open_record, open_records, IsDamagedAt}
-use Rattle.disk_journal.specs.Journal.{IsFaultOf}
+use Rattle.disk_journal.specs.GateFile.{Heading, header, header_length, open_record, open_records, HasRecords, IsCutAt}
+use Rattle.disk_journal.specs.Journal.{IsFaultOf, IsHeadFault}
 use Rattle.disk_journal.specs.declared.journal.JournalFault.{JournalFault}
 use Rattle.disk_journal.specs.declared.journal.JournalFault.TheVariants as fault
 use Rattle.disk_journal.proofs.Appends.{have_lengths_push, open_records_push}
 use Rattle.disk_journal.proofs.Resting.{length_open_record}
-use Rattle.disk_journal.specs.Reads.{OnlyReads, BeginsWithBody, IsReadTo, IsCutShort, IsOpen}
+use Rattle.disk_journal.specs.Reads.{OnlyReads, BeginsWithBody, IsReadOf, IsReadTo, IsCutShort, IsOpen}
 
 -- one run of reads after another
 pub reads_on : {old mid new : DiskView} → OnlyReads old mid → OnlyReads mid new → OnlyReads old new
@@ -41,23 +41,28 @@ pub place_more : (at size : ℕ) (bodies more : List (List ℕ)) (body : List �
 place_more at size bodies more body place pushed is =
     omega (arith, ap (λ bs. length (open_records bs)) pushed, ap length (open_records_push bodies body), length-append (open_records bodies) (open_record body), length_open_record body)
 
--- a record that isn't whole is where the file is damaged
-cut_at : (heading : Heading) (bodies : List (List ℕ)) (at : ℕ) (file : List ℕ) → IsReadTo heading bodies at (drop at file) file → IsCutShort (drop at file) → IsDamagedAt heading file at
-cut_at heading bodies at file to short = inr (inr (record {
+-- a record that isn't whole is where the file is cut
+pub cut_at : (heading : Heading) (bodies : List (List ℕ)) (at : ℕ) (file : List ℕ) → IsReadTo heading bodies at (drop at file) file → IsCutShort (drop at file) → IsCutAt heading file at
+cut_at heading bodies at file to short = record {
   bodies = bodies;
   behind = short.behind;
   lengths = to.lengths;
   content = to.content ∙ ap (λ l. header heading ++ open_records bodies ++ l) short.opened;
   place = to.place;
   cut = short.cut;
-}))
+}
 
-pub damage_found : (e : JournalFault) (heading : Heading) (bodies : List (List ℕ)) (at : ℕ) (file : List ℕ) → IsReadTo heading bodies at (drop at file) file
-    → ((place : ℕ) → e ≡ fault.Damaged place → (place ≡ at) × IsCutShort (drop at file)) → IsFaultOf heading file e
-damage_found (fault.Damaged place) heading bodies at file to found =
-    subst (IsDamagedAt heading file) (sym (found place refl).0) (cut_at heading bodies at file to (found place refl).1)
-damage_found fault.Disk heading bodies at file to found = tt
-damage_found fault.OutOfMemory heading bodies at file to found = tt
+-- the records up to such a gate, or up to one that isn't open
+pub records_of : (heading : Heading) (bodies : List (List ℕ)) (at : ℕ) (is_cut : Bool) (file : List ℕ) → IsReadOf heading bodies at is_cut file → is_cut ≡ true → HasRecords heading bodies (Some at) file
+unfolding cut_at
+records_of heading bodies at is_cut file is cut = (cut_at heading bodies at file is.to (is.cut cut), refl)
+
+-- a file without records is damaged there
+pub head_is_damage : (e : JournalFault) (heading : Heading) (file : List ℕ) → IsHeadFault heading file e → IsFaultOf heading file e
+head_is_damage (fault.Damaged at) heading file (inl other) = inl other
+head_is_damage (fault.Damaged at) heading file (inr ends) = inr (inl ends)
+head_is_damage fault.Disk heading file told = tt
+head_is_damage fault.OutOfMemory heading file told = tt
 
 -- behind an open gate and a length stands a body of that length
 pub body_read : (at size : ℕ) (body file : List ℕ) → size < 2 ^ 64 → IsOpen (drop at file) size → body ≡ take size (drop (at + 9) file) → BeginsWithBody (drop at file) body

@@ -1,5 +1,5 @@
 -- Gate files: a header, then records, each behind a gate byte that is opened by a write of its own.
-use Rattle.std.specs.Prelude.{◌≡◌, ◌≢◌, ◌⊎◌, ◌<◌, ◌^◌, ℕ, List, [], ◌∷◌, ◌++◌, length, take, flat_map, codes}
+use Rattle.std.specs.Prelude.{◌≡◌, ◌≢◌, ◌⊎◌, ◌<◌, ◌^◌, ℕ, List, [], ◌∷◌, ◌++◌, length, take, flat_map, codes, Option, Some, None}
 use Rattle.std.specs.Int.{to_be_bytes, w32, w64}
 use Rattle.std.specs.List.{AllByRecursion}
 
@@ -77,6 +77,16 @@ pub record IsCutAt (heading : Heading) (file : List ℕ) (at : ℕ) : Type 0 whe
 abbrev pub IsDamagedAt : Heading → List ℕ → ℕ → Type 0
 IsDamagedAt heading file at =
     ((at ≡ 0) × (take header_length file ≢ header heading)) ⊎ ((at ≡ header_length) × (file ≡ header heading)) ⊎ IsCutAt heading file at
+
+-- the file's header is another, or it ends with its header
+abbrev pub IsHeadless : Heading → List ℕ → ℕ → Type 0
+IsHeadless heading file at = ((at ≡ 0) × (take header_length file ≢ header heading)) ⊎ ((at ≡ header_length) × (file ≡ header heading))
+
+-- the file has whole records with these bodies, and behind them a gate that isn't open, or at this offset one that is and that no
+-- whole record and gate are behind
+abbrev pub HasRecords : Heading → List (List ℕ) → Option ℕ → List ℕ → Type 0
+HasRecords heading bodies None file = HasBodies heading bodies file
+HasRecords heading bodies (Some at) file = (cut : IsCutAt heading file at) × (cut.bodies ≡ bodies)
 
 -- a crash left the old bodies, or these and one more
 abbrev pub HasOldOrNew : Heading → List (List ℕ) → List ℕ → List ℕ → Type 0

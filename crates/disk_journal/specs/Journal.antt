@@ -1,7 +1,7 @@
 -- A journal over its file, as contracts see it.
 use Rattle.std.specs.Prelude.{◌≡◌, ◌≢◌, ℕ, Bool, false, List, length}
 use Rattle.edge_traits.specs.Disk.{Image, Only}
-use Rattle.disk_journal.specs.GateFile.{Heading, gate_file, HaveLengths, IsDamagedAt}
+use Rattle.disk_journal.specs.GateFile.{Heading, gate_file, HaveLengths, IsDamagedAt, IsHeadless}
 use Rattle.disk_journal.specs.declared.journal.JournalFault.{JournalFault}
 use Rattle.disk_journal.specs.declared.journal.JournalFault.TheVariants as fault
 
@@ -29,3 +29,9 @@ abbrev pub IsFaultOf : Heading → List ℕ → JournalFault → Type 0
 IsFaultOf heading file (fault.Damaged at) = IsDamagedAt heading file at
 IsFaultOf heading file fault.Disk = Unit {0}
 IsFaultOf heading file fault.OutOfMemory = Unit {0}
+
+-- a file without records is told; the other faults say nothing of the file
+abbrev pub IsHeadFault : Heading → List ℕ → JournalFault → Type 0
+IsHeadFault heading file (fault.Damaged at) = IsHeadless heading file at
+IsHeadFault heading file fault.Disk = Unit {0}
+IsHeadFault heading file fault.OutOfMemory = Unit {0}

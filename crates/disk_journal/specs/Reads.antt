@@ -1,5 +1,5 @@
 -- What reading a gate file finds, and what it leaves as it is.
-use Rattle.std.specs.Prelude.{◌≡◌, ◌≢◌, ◌⊎◌, ◌<◌, ◌≤◌, ◌^◌, ℕ, List, ◌∷◌, ◌++◌, length, ⊤}
+use Rattle.std.specs.Prelude.{◌≡◌, ◌≢◌, ◌⊎◌, ◌<◌, ◌≤◌, ◌^◌, ℕ, Bool, true, false, List, ◌∷◌, ◌++◌, length, drop, ⊤}
 use Rattle.std.specs.Int.{to_be_bytes, w64}
 use Rattle.edge_traits.specs.Disk.{DiskView, Image, IsImage, Adds}
 use Rattle.disk_journal.specs.GateFile.{Heading, header, open_record, open_records, HaveLengths, BeginsWithRecord}
@@ -43,3 +43,9 @@ pub record IsOpen (rest : List ℕ) (size : ℕ) : Type 0 where
   pub behind : List ℕ
   pub content : rest ≡ 1 ∷ to_be_bytes w64 size ++ behind
   pub fits : size < length behind
+
+-- the file is read up to a gate at this offset, behind which stands no whole record: it isn't open, or the record is cut
+pub record IsReadOf (heading : Heading) (bodies : List (List ℕ)) (at : ℕ) (is_cut : Bool) (file : List ℕ) : Type 0 where
+  pub to : IsReadTo heading bodies at (drop at file) file
+  pub closed : is_cut ≡ false → IsClosed (drop at file)
+  pub cut : is_cut ≡ true → IsCutShort (drop at file)

@@ -11,4 +11,4 @@ pub use journal::{AppendFault, Journal, JournalFault};
 pub use laws::{
     a_file_has_bodies_or_damage, bodies_are_one, damage_is_at_one_place, damaged_has_no_bodies,
 };
-pub use reading::next_record;
+pub use reading::{next_record, read_bodies, read_records};

@@ -2,9 +2,9 @@ ghost use Rattle.std.specs.Prelude.{◌≡◌, ◌≢◌, ◌<◌, ◌≤◌, �
 ghost use Rattle.std.specs.Int.{to_be_bytes, w64};
 ghost use Rattle.edge_traits.specs.Count.{Rose};
 ghost use Rattle.edge_traits.specs.Disk.{Image};
-ghost use Rattle.disk_journal.specs.GateFile.{Heading, heading_of, header, header_length, open_records, gate_file, IsDamagedAt};
-ghost use Rattle.disk_journal.specs.Journal.{IsFaultOf};
-ghost use Rattle.disk_journal.specs.Reads.{OnlyReads, BeginsWithBody, IsReadTo, IsCutShort, IsClosed, IsOpen};
+ghost use Rattle.disk_journal.specs.GateFile.{Heading, heading_of, header, header_length, open_records, gate_file, HasRecords};
+ghost use Rattle.disk_journal.specs.Journal.{IsFaultOf, IsHeadFault};
+ghost use Rattle.disk_journal.specs.Reads.{OnlyReads, BeginsWithBody, IsReadOf, IsReadTo, IsCutShort, IsClosed, IsOpen};
 
 use crate::JournalFault;
 use crate::header::{FRAME, HEADER, OPEN, header};
@@ -12,8 +12,13 @@ use base_types::{Blob, BlobList, read_u64};
 use edge_traits::Disk;
 use std::alloc::Global;
 
-/// The bodies of the file's records, and the offset of the first gate that isn't open.
-pub(crate) fn read_bodies<D: Disk>(
+/// The bodies of the file's records, and the offset in bytes of the first gate that isn't open. Nothing is written.
+///
+/// # Errors
+///
+/// `Damaged` where the header is another, no gate stands behind it, or an open gate has no whole record and gate behind it.
+/// `Disk`, `OutOfMemory`.
+pub fn read_bodies<D: Disk>(
     alloc: Global,
     disk: &mut D,
     file: u64,
@@ -27,36 +32,113 @@ pub(crate) fn read_bodies<D: Disk>(
     ensures reads { OnlyReads (D.disk disk.old) (D.disk disk.new) }
     ensures failed { IsErrOf result JournalFault.Disk → Rose (D.disk disk.old).faults (D.disk disk.new).faults }
 {
+    match read_file(alloc, disk, file, generation) {
+        Ok(found) => {
+            if found.is_cut {
+                Err(JournalFault::Damaged { at: found.at })
+            } else {
+                Ok((found.bodies, found.at))
+            }
+        }
+        Err(fault) => Err(fault),
+    }
+}
+
+/// The bodies of the file's whole records; and the offset of the gate behind them where that is open, and no whole record and gate
+/// stand behind it. A journal with such a gate doesn't open.
+///
+/// # Errors
+///
+/// `Damaged` at the front where the file has another header, and behind the header where it ends with that. `Disk`, `OutOfMemory`.
+pub fn read_records<D: Disk>(
+    alloc: Global,
+    disk: &mut D,
+    file: u64,
+    generation: u64,
+) -> Result<(BlobList, Option<u64>), JournalFault>
+    ensures short { IfOk result (λ found. header_length + length (open_records found.0) + 1 < 2 ^ 64) }
+    ensures records { (files : Image) → (D.disk disk.old).told ≡ Some files → IfOk result (λ found. HasRecords (heading_of generation) found.0 found.1 (files file)) }
+    ensures fault { (files : Image) → (D.disk disk.old).told ≡ Some files → IfErr result (IsHeadFault (heading_of generation) (files file)) }
+    ensures reads { OnlyReads (D.disk disk.old) (D.disk disk.new) }
+    ensures failed { IsErrOf result JournalFault.Disk → Rose (D.disk disk.old).faults (D.disk disk.new).faults }
+{
+    match read_file(alloc, disk, file, generation) {
+        Ok(found) => {
+            if found.is_cut {
+                Ok((found.bodies, Some(found.at)))
+            } else {
+                Ok((found.bodies, None))
+            }
+        }
+        Err(fault) => Err(fault),
+    }
+}
+
+// The bodies of whole records, and the gate behind them: its offset, and whether it is open.
+#[derive(Drop)]
+struct Records {
+    bodies: BlobList,
+    at: u64,
+    is_cut: bool,
+}
+
+fn read_file<D: Disk>(
+    alloc: Global,
+    disk: &mut D,
+    file: u64,
+    generation: u64,
+) -> Result<Records, JournalFault>
+    ensures place { IfOk result (λ found. found.at + 1 < 2 ^ 64) }
+    ensures length { IfOk result (λ found. found.at ≡ header_length + length (open_records found.bodies)) }
+    ensures records { (files : Image) → (D.disk disk.old).told ≡ Some files → IfOk result (λ found. IsReadOf (heading_of generation) found.bodies found.at found.is_cut (files file)) }
+    ensures fault { (files : Image) → (D.disk disk.old).told ≡ Some files → IfErr result (IsHeadFault (heading_of generation) (files file)) }
+    ensures reads { OnlyReads (D.disk disk.old) (D.disk disk.new) }
+    ensures failed { IsErrOf result JournalFault.Disk → Rose (D.disk disk.old).faults (D.disk disk.new).faults }
+{
     let end = disk.len(file)?;
     check_header(disk, file, generation)?;
     if end <= HEADER as u64 {
         return Err(JournalFault::Damaged { at: HEADER as u64 });
     }
-    read_records(alloc, disk, file, end)
+    read_behind(alloc, disk, file, end)
 }
 
 // The records behind the header, up to the end of the file.
-fn read_records<D: Disk>(
+fn read_behind<D: Disk>(
     alloc: Global,
     disk: &mut D,
     file: u64,
     end: u64,
-) -> Result<(BlobList, u64), JournalFault>
+) -> Result<Records, JournalFault>
     requires { header_length < end }
-    ensures place { IfOk result (λ found. found.1 + 1 < 2 ^ 64) }
-    ensures length { IfOk result (λ found. found.1 ≡ header_length + length (open_records found.0)) }
-    ensures bodies { (files : Image) (heading : Heading) → (D.disk disk.old).told ≡ Some files → end ≡ length (files file) → take header_length (files file) ≡ header heading
-        → IfOk result (λ found. IsReadTo heading found.0 found.1 (drop found.1 (files file)) (files file) × IsClosed (drop found.1 (files file))) }
-    ensures damaged { (files : Image) (heading : Heading) → (D.disk disk.old).told ≡ Some files → end ≡ length (files file) → take header_length (files file) ≡ header heading
-        → IfErr result (IsFaultOf heading (files file)) }
+    ensures place { IfOk result (λ found. found.at + 1 < 2 ^ 64) }
+    ensures length { IfOk result (λ found. found.at ≡ header_length + length (open_records found.bodies)) }
+    ensures records { (files : Image) (heading : Heading) → (D.disk disk.old).told ≡ Some files → end ≡ length (files file) → take header_length (files file) ≡ header heading
+        → IfOk result (λ found. IsReadOf heading found.bodies found.at found.is_cut (files file)) }
+    ensures whole { (place : ℕ) → IsErrOf result (JournalFault.Damaged place) → ⊥ }
     ensures reads { OnlyReads (D.disk disk.old) (D.disk disk.new) }
     ensures failed { IsErrOf result JournalFault.Disk → Rose (D.disk disk.old).faults (D.disk disk.new).faults }
 {
     let mut bodies = BlobList::new(alloc);
     let mut at = HEADER as u64;
     'records: loop {
-        let Some(body) = next_record(alloc, disk, file, end, at)? else {
-            return Ok((bodies, at));
+        let body = match next_record(alloc, disk, file, end, at) {
+            Ok(Some(body)) => body,
+            Ok(None) => {
+                return Ok(Records {
+                    bodies,
+                    at,
+                    is_cut: false,
+                });
+            }
+            Err(JournalFault::Damaged { .. }) => {
+                return Ok(Records {
+                    bodies,
+                    at,
+                    is_cut: true,
+                });
+            }
+            Err(fault) => return Err(fault),
         };
         at += FRAME as u64 + body.bytes().len() as u64;
         if bodies.push(body).is_err() {
@@ -95,7 +177,7 @@ pub fn next_record<D: Disk>(
 
 fn check_header<D: Disk>(disk: &mut D, file: u64, generation: u64) -> Result<(), JournalFault>
     ensures header { (files : Image) → (D.disk disk.old).told ≡ Some files → OnOk result (take header_length (files file) ≡ header (heading_of generation)) }
-    ensures fault { (files : Image) → (D.disk disk.old).told ≡ Some files → IfErr result (IsFaultOf (heading_of generation) (files file)) }
+    ensures fault { (files : Image) → (D.disk disk.old).told ≡ Some files → IfErr result (IsHeadFault (heading_of generation) (files file)) }
     ensures reads { OnlyReads (D.disk disk.old) (D.disk disk.new) }
     ensures failed { IsErrOf result JournalFault.Disk → Rose (D.disk disk.old).faults (D.disk disk.new).faults }
 {

@@ -4,7 +4,6 @@ use Rattle.base_types.specs.declared.message.Moment.{Moment}
 use Rattle.base_types.specs.declared.message.Msg.{Msg}
 use Rattle.base_types.specs.Name.{queue_name}
 use Rattle.base_types.specs.Number.{last_u64}
-use Rattle.std.proofs.lemmas.Bool.{ltb-false, ltb-true}
 use Rattle.std.proofs.lemmas.Grind.{flat_map-append}
 use Rattle.std.proofs.lemmas.List.{append-nil}
 use Rattle.core_state.specs.Sealing.{sealed_whole}
@@ -21,7 +20,7 @@ use Rattle.step_code.specs.Content.{is_duplicate}
 use Rattle.step_code.specs.Fits.{first_failing, parts, Fits}
 use Rattle.step_code.specs.Rules.{Meaning, Task, last_moment}
 use Rattle.step_code.specs.Sound.{longest_base}
-use Rattle.step_code.specs.Spent.{is_past, last_given, spent, StaysSmall}
+use Rattle.step_code.specs.Spent.{spent}
 use Rattle.step_code.specs.State.{waiting}
 use Rattle.store_image.specs.Stored.{codes_of}
 use Rattle.turn_order.specs.declared.actor.Actor.TheVariants.{Full, Take}
@@ -42,8 +41,8 @@ use Rattle.book_runs.proofs.Ways.{sealed_parts}
 use Rattle.drain_turns.specs.Drained.{begins_next, behind, bytes_behind, in_next, past, ready, refused, way_refused, Drains, Ends, IsBusy, IsDue, IsMade, IsNextKind, Place}
 use Rattle.drain_turns.specs.Moves.{IsMoveOf}
 use Rattle.drain_turns.specs.Turn.{Outside, IsStepOf, IsTurn, MayShow}
-use Rattle.drain_turns.specs.Works.{AreReady}
-use Rattle.drain_turns.specs.declared.works.Ready.{Ready}
+use Rattle.bot_works.specs.Works.{AreReady}
+use Rattle.bot_works.specs.declared.works.Ready.{Ready}
 use Rattle.drain_turns.specs.declared.end.TurnsEnd.{TurnsEnd}
 use Rattle.drain_turns.specs.declared.end.TurnsEnd.TheVariants as end
 use Rattle.drain_turns.specs.declared.turn.Turn.{Turn}
@@ -359,14 +358,6 @@ turn_keeps m now s Nobody what is = absurd is
 -- it is counted, and changes no bundle
 pub made_keeps : (m : Meaning) (s : Base) (turn : Turn) (step : Step) → IsStepOf turn step.what → IsKept (record s { steps = s.steps + 1; latest = step.moment }) (after m s step)
 made_keeps m s turn step is = turn_keeps m step.moment (record s { steps = s.steps + 1; latest = step.moment }) turn step.what is
-
--- its number is none past the last
-pub number_small : (m : Meaning) (s : Base) (step : Step) → StaysSmall m s step → (after m s step).steps ≤ last_given
-number_small m s step small = go (is_past (min (after m s step).steps last_u64)) refl
-  where
-    go : (b : Bool) → is_past (min (after m s step).steps last_u64) ≡ b → (after m s step).steps ≤ last_given
-    go true past = absurd (cc (rw (past) at small))
-    go false past = omega (arith, ltb-false last_given (min (after m s step).steps last_u64) past)
 
 -- ---- the steps so far
 

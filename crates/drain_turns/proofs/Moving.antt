@@ -1,26 +1,25 @@
 -- What moves of the code come to.
-use Rattle.std.proofs.Common.{◌≡◌, ℕ, Bool, true, false, nat_lt, List, [], ◌∷◌, Option, Some, None, IsSomeAnd, Result, Ok, Err, IfOk, option_map, unwrap_or, refl, sym, ap, subst, ◌∙◌, if◌then◌else◌}
+use Rattle.std.proofs.Common.{◌≡◌, ℕ, Bool, true, false, nat_lt, List, [], ◌∷◌, Option, Some, None, option_map, unwrap_or, refl, sym, ap, subst, ◌∙◌, if◌then◌else◌}
 use Rattle.std.specs.List.Sorted.{IsStrictlySortedBy}
 use Rattle.base_types.specs.declared.message.FaultNote.{FaultNote}
-use Rattle.base_types.specs.declared.message.Moment.{Moment}
 use Rattle.base_types.specs.declared.message.Msg.{Msg}
 use Rattle.base_types.specs.Name.{queue_name}
 use Rattle.queue_broker.specs.Broker.{front_of}
 use Rattle.stored_types.specs.declared.hand.Hand.{Hand}
 use Rattle.step_code.specs.declared.base.Base.{Base}
 use Rattle.step_code.specs.declared.rules.Facts.{Facts}
-use Rattle.step_code.specs.declared.rules.Given.{Given}
 use Rattle.step_code.specs.declared.rules.Given.TheVariants as given
 use Rattle.step_code.specs.declared.step.StepKind.TheVariants as kind
 use Rattle.step_code.specs.Content.{on_error_of, stops, IsFront}
 use Rattle.step_code.specs.Fits.{first_failing, in_hand_parts, may_retry, parts}
-use Rattle.step_code.specs.Rules.{AreSound, Meaning, Task, bot_named}
+use Rattle.step_code.specs.Rules.{AreSound, Meaning, bot_named}
 use Rattle.step_code.specs.State.{bots_in_force, hand_of, waiting}
 use Rattle.turn_order.specs.Turn.{IsFreeToTake}
 use Rattle.turn_order.proofs.Actors.{takes_fit}
-use Rattle.drain_turns.specs.Moves.{IsGivenOf, IsMoveThat}
+use Rattle.bot_works.proofs.Gave.{given_of}
+use Rattle.drain_turns.specs.Moves.{IsMoveThat}
 use Rattle.drain_turns.specs.Turn.{IsWorkOf}
-use Rattle.drain_turns.proofs.Working.{fail_fits, given_of, parts_hold, retry_fits}
+use Rattle.drain_turns.proofs.Working.{fail_fits, parts_hold, retry_fits}
 
 -- the bots in force are within the limits
 pub all_sound : (m : Meaning) (s : Base) → ((bundle : List ℕ) (bots : List Facts) → m.facts bundle ≡ Some bots → AreSound bots) → AreSound (bots_in_force m s)
@@ -63,25 +62,6 @@ tries_on false stop is = absurd (cc)
 pub ends_tries : (below stop halts : Bool) → (if below then None else Some stop) ≡ Some halts → (below ≡ false) × (stop ≡ halts)
 ends_tries true stop halts is = absurd (cc)
 ends_tries false stop halts is = (refl, cc)
-
--- what is shown of a hand
-pub shown_is : {A : Type 0} (P : A → Type 0) (o : Option A) (x : A) → o ≡ Some x → IsSomeAnd o P → P x
-shown_is P o x is shown = subst (λ p. IsSomeAnd p P) is shown
-
--- what a bot gave of the message in its hand, by what was read of that
-pub gave_is : (m : Meaning) (s : Base) (bot : List ℕ) (hand : Hand) (g : Given) (task : Task) (message : Msg) (since : Moment) → g ≡ m.give task message.body since.0 → task ≡ record { bundle = s.bundle; bot = bot } → message ≡ hand.message → since ≡ hand.since
-    → given_of m s bot hand ≡ g
-gave_is m s bot hand g task message since is task_is message_is since_is =
-    sym (is ∙ ap (λ (t : Task). m.give t message.body since.0) task_is ∙ ap (λ (x : Msg). m.give (record { bundle = s.bundle; bot = bot }) x.body since.0) message_is
-    ∙ ap (λ (t : Moment). m.give (record { bundle = s.bundle; bot = bot }) hand.message.body t.0) since_is)
-
--- so of whatever it gave
-pub gave_whatever : {E : Type 0} (m : Meaning) (s : Base) (bot : List ℕ) (i : ℕ) (r : Result Given E) (task : Task) (message : Msg) (since : Moment) (tries : ℕ) → IfOk r (λ g. g ≡ m.give task message.body since.0)
-    → task ≡ record { bundle = s.bundle; bot = bot } → IsSomeAnd (hand_of bot i s) (λ h. (message ≡ h.message) × (tries ≡ h.tries) × (since ≡ h.since)) → IfOk r (IsGivenOf m s bot i)
-gave_whatever m s bot i (Err e) task message since tries is task_is shown = tt
-gave_whatever m s bot i (Ok g) task message since tries is task_is shown = λ hand holds.
-    let here = shown_is (λ (h : Hand). (message ≡ h.message) × (tries ≡ h.tries) × (since ≡ h.since)) (hand_of bot i s) hand holds shown in
-    gave_is m s bot hand g task message since is task_is here.0 here.2
 
 pub retry_is : (m : Meaning) (s : Base) (bot : List ℕ) (i : ℕ) (hand : Hand) (number bundle : ℕ) (note : FaultNote) → hand_of bot i s ≡ Some hand → first_failing (in_hand_parts m s bot i hand.message.no s.bundle_no) ≡ None
     → number ≡ hand.message.no → bundle ≡ s.bundle_no → may_retry m s bot i ≡ true → given_of m s bot hand ≡ given.Fault note → IsMoveThat m s (IsWorkOf bot i) (kind.Retry bot i number bundle note)

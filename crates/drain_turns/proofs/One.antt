@@ -21,7 +21,8 @@ use Rattle.collector_feeds.specs.declared.found.Found.TheVariants as found
 use Rattle.drain_turns.specs.Turn.{IsStepOf, IsFindOf, IsWorkOf}
 use Rattle.drain_turns.specs.declared.turn.Turn.{Turn}
 use Rattle.drain_turns.specs.declared.turn.Turn.TheVariants.{Acts, Finds, Nobody}
-use Rattle.drain_turns.proofs.Working.{given_of, parts_hold, work}
+use Rattle.bot_works.proofs.Gave.{given_of}
+use Rattle.drain_turns.proofs.Working.{parts_hold, work}
 
 same_hand : {a b : Hand} {o : Option Hand} → o ≡ Some a → o ≡ Some b → a ≡ b
 same_hand x y = cc (x, y)

@@ -18,6 +18,7 @@ use Rattle.step_code.specs.Content.{is_duplicate, on_error_of, stops, IsInTime, 
 use Rattle.step_code.specs.Fits.{backlog_limit, first_failing, in_hand_parts, may_retry, parts, Fits, Part}
 use Rattle.step_code.specs.Rules.{AreSound, Meaning, collects, last_moment, passes}
 use Rattle.step_code.specs.State.{backlog, bots_in_force, hand_of, position_of, tries_of, waiting}
+use Rattle.bot_works.proofs.Gave.{given_of}
 use Rattle.turn_order.specs.Turn.{first_actor, IsFreeToTake}
 use Rattle.turn_order.specs.declared.actor.Actor.{Actor}
 use Rattle.turn_order.specs.declared.actor.Actor.TheVariants.{Full, Take}
@@ -75,10 +76,6 @@ work m s bot i hand now (given.Pass sends dumps key line) =
     if is_duplicate m s bot now key then kind.Done bot i hand.message.no s.bundle_no [] dumps None line else kind.Done bot i hand.message.no s.bundle_no sends dumps key line
 work m s bot i hand now (given.Fault note) =
     if may_retry m s bot i then kind.Retry bot i hand.message.no s.bundle_no note else kind.Fail bot i hand.message.no s.bundle_no note (on_error_of m s bot) (stops m s bot)
-
--- what the bot gives of the message in its hand
-abbrev pub given_of : Meaning → Base → List ℕ → Hand → Given
-given_of m s bot hand = m.give (record { bundle = s.bundle; bot = bot }) hand.message.body hand.since.0
 
 -- the step that does so
 abbrev pub IsLegalWork : Meaning → Base → List ℕ → ℕ → ℕ → Type 0

@@ -3,4 +3,3 @@ pub mod Drained
 pub mod Laws
 pub mod Moves
 pub mod Turn
-pub mod Works

@@ -6,9 +6,6 @@ use Rattle.step_code.specs.declared.step.StepKind.{StepKind}
 use Rattle.step_code.specs.After.{file_of}
 use Rattle.step_code.specs.Fits.{first_failing, parts}
 use Rattle.step_code.specs.Rules.{Meaning}
-use Rattle.step_code.specs.State.{hand_of}
-use Rattle.step_code.specs.declared.rules.Given.{Given}
-use Rattle.stored_types.specs.declared.hand.Hand.{Hand}
 use Rattle.journal_book.specs.Staged.{IsMove}
 use Rattle.collector_feeds.specs.declared.found.Found.{Found}
 use Rattle.collector_feeds.specs.declared.found.Found.TheVariants as found
@@ -26,11 +23,6 @@ pub record IsMoveThat (m : Meaning) (s : Base) (Is : StepKind → Type 0) (what 
 -- the move is the turn's
 abbrev pub IsMoveOf : Meaning → Base → Turn → StepKind → Type 0
 IsMoveOf m s turn what = IsMoveThat m s (IsStepOf turn) what
-
--- a bot gave this of the message in an instance's hand
-abbrev pub IsGivenOf : Meaning → Base → List ℕ → ℕ → Given → Type 0
-IsGivenOf m s bot instance given =
-    (hand : Hand) → hand_of bot instance s ≡ Some hand → m.give (record { bundle = s.bundle; bot = bot }) hand.message.body hand.since.0 ≡ given
 
 -- what a collector finds ends the turns: each cause as it is found
 abbrev pub IsEndOf : List Facts → List ℕ → ℕ → Found → TurnsEnd → Type 0

@@ -5,7 +5,6 @@ mod end;
 mod laws;
 mod moves;
 mod turn;
-mod works;
 
 pub use end::TurnsEnd;
 pub use laws::{
@@ -14,4 +13,3 @@ pub use laws::{
 };
 pub use moves::{actor_move, found_move, given_move, take_move, work_move};
 pub use turn::Turn;
-pub use works::Ready;

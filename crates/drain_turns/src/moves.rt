@@ -5,15 +5,16 @@ ghost use Rattle.step_code.specs.State.{bots_in_force, hand_of};
 ghost use Rattle.step_code.specs.declared.rules.Given.TheVariants as given;
 ghost use Rattle.collector_feeds.specs.declared.found.Found.TheVariants as found;
 ghost use Rattle.turn_order.specs.Turn.{IsFreeToTake, MayAct};
-ghost use Rattle.drain_turns.specs.Moves.{IsEndOf, IsGivenOf, IsMoveOf, IsMoveThat};
+ghost use Rattle.bot_works.specs.Given.{IsGivenOf};
+ghost use Rattle.bot_works.specs.Works.{AreReady};
+ghost use Rattle.drain_turns.specs.Moves.{IsEndOf, IsMoveOf, IsMoveThat};
 ghost use Rattle.drain_turns.specs.Turn.{IsFindOf, IsTakeOf, IsWorkOf};
-ghost use Rattle.drain_turns.specs.Works.{AreReady};
 ghost use Rattle.drain_turns.specs.declared.turn.Turn.TheVariants.{Acts};
 
 use crate::TurnsEnd;
-use crate::works::{Ready, place_of};
 use ack_steps::Core;
 use base_types::{BotName, FaultNote, OutOfMemory, Text};
+use bot_works::{Ready, give};
 use collector_feeds::Found;
 use error_policy::{Next, Policy, decide};
 use journal_book::Move;
@@ -71,29 +72,6 @@ pub fn work_move<R: Rules>(
 {
     let given = give(alloc, core, works, &bot, instance)?;
     given_move(alloc, core, bot, instance, given)
-}
-
-// What a bot gives of the message in an instance's hand.
-fn give<R: Rules>(
-    alloc: Global,
-    core: &Core<R>,
-    works: &mut Vec<Ready<R::Work>>,
-    bot: &BotName,
-    instance: u8,
-) -> Result<Given, OutOfMemory>
-    requires full { IsSome (hand_of bot.now instance core.now.state) }
-    requires ready { AreReady R.task_of core.now.state.bundle works.old.items }
-    ensures ready { AreReady R.task_of core.now.state.bundle works.new.items }
-    ensures gave { IfOk result (IsGivenOf R.meaning core.now.state bot.now instance) }
-{
-    let _ = core.plan();
-    let place = place_of(alloc, core, works, bot)?;
-    let Some(hand) = core.in_hand(bot, instance) else {
-        unreachable!()
-    };
-    let ready = &mut works[place];
-    core.rules()
-        .give(alloc, &mut ready.work, &hand.message.body, hand.since)
 }
 
 /// An instance ends its work on the message in its hand, of which its bot gave this.

@@ -1,3 +1,4 @@
 pub mod Bodies
+mod Decoded
 mod Histories
-mod Replays
+pub mod Replays

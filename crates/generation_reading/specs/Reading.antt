@@ -10,7 +10,7 @@ use Rattle.step_code.specs.Code.{code_of_base, code_of_step, first_format, IsWri
 use Rattle.step_code.specs.Rules.{Meaning}
 use Rattle.step_code.specs.Sound.{IsSound}
 use Rattle.step_code.specs.Spent.{last_given}
-use Rattle.store_image.specs.Opens.{AreReplayable, IsReplayable}
+use Rattle.store_image.specs.Opens.{AreAlong, AreReplayable, IsReplayable}
 use Rattle.store_image.specs.Stored.{AreRecords, IsRecord}
 
 -- damage is told where it is; no disk is asked
@@ -31,23 +31,42 @@ pub record IsBase (m : Meaning) (body : List ℕ) (base : Base) : Type 0 where
   pub writable : IsWritableBase first_format base
   pub sound : IsSound m base
 
--- bytes begin with a step that can be replayed in this state, and its code has this length
-pub record BeginsWithStep (m : Meaning) (s : Base) (bytes : List ℕ) (step : Step) (len : ℕ) : Type 0 where
+-- bytes begin with a step that passes a test in this state, and its code has this length
+pub record BeginsWith (is : Base → Step → Type 0) (s : Base) (bytes : List ℕ) (step : Step) (len : ℕ) : Type 0 where
   pub rest : List ℕ
   pub writable : IsWritable step
-  pub replayable : IsReplayable m s step
+  pub passes : is s step
   pub code : bytes ≡ code_of_step step ++ rest
   pub size : len ≡ length (code_of_step step)
 
--- a body holds these steps, which can be replayed in this state
-pub record HoldsReplayable (m : Meaning) (s : Base) (body : List ℕ) (steps : List Step) : Type 0 where
+-- bytes begin with the code of this step, which has this length
+pub record BeginsWithCode (bytes : List ℕ) (step : Step) (len : ℕ) : Type 0 where
+  pub rest : List ℕ
+  pub writable : IsWritable step
+  pub code : bytes ≡ code_of_step step ++ rest
+  pub size : len ≡ length (code_of_step step)
+
+-- with one that can be replayed
+abbrev pub BeginsWithStep : Meaning → Base → List ℕ → Step → ℕ → Type 0
+BeginsWithStep m s bytes step len = BeginsWith (IsReplayable m) s bytes step len
+
+-- a body holds these steps, which pass a test from this state on
+pub record HoldsAlong (m : Meaning) (is : Base → Step → Type 0) (s : Base) (body : List ℕ) (steps : List Step) : Type 0 where
   pub record_is : IsRecord body steps
-  pub replays : AreReplayable m s steps
+  pub pass : AreAlong m is s steps
 
 -- so do bodies, each some of them
-pub record HoldReplayable (m : Meaning) (s : Base) (bodies : List (List ℕ)) (steps : List Step) : Type 0 where
+pub record HoldAlong (m : Meaning) (is : Base → Step → Type 0) (s : Base) (bodies : List (List ℕ)) (steps : List Step) : Type 0 where
   pub content : AreRecords bodies steps
-  pub replays : AreReplayable m s steps
+  pub pass : AreAlong m is s steps
+
+-- a body holds these steps, which can be replayed in this state
+abbrev pub HoldsReplayable : Meaning → Base → List ℕ → List Step → Type 0
+HoldsReplayable m s body steps = HoldsAlong m (IsReplayable m) s body steps
+
+-- so do bodies
+abbrev pub HoldReplayable : Meaning → Base → List (List ℕ) → List Step → Type 0
+HoldReplayable m s bodies steps = HoldAlong m (IsReplayable m) s bodies steps
 
 -- bodies are a state that a store may hold, and steps behind it that can be replayed
 pub record AreHistory (m : Meaning) (bodies : List (List ℕ)) (base : Base) (steps : List Step) : Type 0 where

@@ -60,7 +60,7 @@ fn replay_step<R: Rules>(
 }
 
 // The bytes behind so many.
-fn behind(bytes: &[u8], len: usize) -> &[u8]
+pub(crate) fn behind(bytes: &[u8], len: usize) -> &[u8]
     requires { len ≤ length bytes.now }
     ensures { result.now ≡ drop len bytes.now }
 {

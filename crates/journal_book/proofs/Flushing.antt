@@ -230,7 +230,7 @@ replayed_flushed m base steps kept len state was size =
 
 pub stores_still : (root journal later : JournalView) (g : ℕ) → AreStoreFiles root journal g → later.file ≡ journal.file → later.heading ≡ journal.heading → AreStoreFiles root later g
 stores_still root journal later g was same_file same_heading =
-    record { root_file_is = was.root_file_is; root_heading_is = was.root_heading_is; file_is = same_file ∙ was.file_is; heading_is = same_heading ∙ was.heading_is }
+    record { root_file_is = was.root_file_is; root_heading_is = was.root_heading_is; file_is = same_file ∙ was.file_is; heading_is = same_heading ∙ was.heading_is; given = was.given }
 
 abbrev found : Image → Option Image
 found i = Some i

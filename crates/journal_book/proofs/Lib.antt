@@ -2,6 +2,7 @@ pub mod Alone
 pub mod Beginning
 pub mod Causes
 pub mod Completing
+pub mod Earlier
 pub mod Flushing
 pub mod Histories
 pub mod Lengths

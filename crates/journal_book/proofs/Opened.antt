@@ -85,13 +85,13 @@ module _ (m : Meaning) (files mid last : Image) (g : ℕ) (base : Base) (steps :
   outs_still j = still (out_file j) (λ e. omega (arith, e)) ∙ kept (out_file j) (λ e. omega (arith, e))
 
   pub opens_with : AreLong 0 (replay m base steps).outs last → Opens m files g base steps
-  opens_with long = record { stored = stored; sound = is.sound; replays = is.holds.replays; long = long_same 0 (replay m base steps).outs last files outs_still long }
+  opens_with long = record { stored = stored; sound = is.sound; replays = is.holds.pass; long = long_same 0 (replay m base steps).outs last files outs_still long }
 
   pub short_with : (file at : ℕ) → IsShort 0 (replay m base steps).outs last file at → HasShortOutput m files g file at
-  short_with file at short = record { base = base; steps = steps; stored = stored; sound = is.sound; replays = is.holds.replays; short = short_same 0 (replay m base steps).outs last files file at outs_still short }
+  short_with file at short = record { base = base; steps = steps; stored = stored; sound = is.sound; replays = is.holds.pass; short = short_same 0 (replay m base steps).outs last files file at outs_still short }
 
 -- a disk that only reads leaves a journal at rest
-rests_read : (old new : DiskView) (j : JournalView) (bodies : List (List ℕ)) (files : Image) → Adds old new (λ _. ⊤) → IsAtRest j old.may_leave bodies files → IsAtRest j new.may_leave bodies files
+pub rests_read : (old new : DiskView) (j : JournalView) (bodies : List (List ℕ)) (files : Image) → Adds old new (λ _. ⊤) → IsAtRest j old.may_leave bodies files → IsAtRest j new.may_leave bodies files
 rests_read old new j bodies files adds rest =
     record { whole = rest.whole; gate = rest.gate; closed = rest.closed; lengths = rest.lengths; content = rest.content; end = rest.end; durable = λ c left. rest.durable c (adds j.file tt c left) }
 

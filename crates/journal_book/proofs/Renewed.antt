@@ -47,9 +47,10 @@ use Rattle.journal_book.proofs.WholeFiles.{before_told}
 
 -- ---- what the book keeps
 
-pub stores_renewed : (root later journal made : JournalView) (g n : ℕ) → AreStoreFiles root journal g → n ≡ suc g → later.file ≡ root.file → later.heading ≡ root.heading → made.file ≡ generation_file n → made.heading ≡ heading_of n → AreStoreFiles later made n
-stores_renewed root later journal made g n was is same_file same_heading file heading =
-    record { root_file_is = same_file ∙ was.root_file_is; root_heading_is = same_heading ∙ was.root_heading_is; file_is = file; heading_is = heading }
+pub stores_renewed : (root later journal made : JournalView) (g n : ℕ) → AreStoreFiles root journal g → n ≡ suc g → later.file ≡ root.file → later.heading ≡ root.heading → made.file ≡ generation_file n → made.heading ≡ heading_of n → n ≤ last_given
+    → AreStoreFiles later made n
+stores_renewed root later journal made g n was is same_file same_heading file heading given =
+    record { root_file_is = same_file ∙ was.root_file_is; root_heading_is = same_heading ∙ was.root_heading_is; file_is = file; heading_is = heading; given = given }
 
 few_sealed : (outs : List Output) → length (map sealed_out outs) ≡ length outs
 few_sealed [] = refl

@@ -26,12 +26,13 @@ pub record AreAtRest (root journal : JournalView) (may_leave : ℕ → List ℕ 
   pub journal_rests : IsAtRest journal may_leave (code_of_base first_format base ∷ records) files
   pub content : AreRecords records steps
 
--- the two files are those of a store and of its generation
+-- the two files are those of a store and of its generation, which may be given
 pub record AreStoreFiles (root journal : JournalView) (generation : ℕ) : Type 0 where
   pub root_file_is : root.file ≡ root_file
   pub root_heading_is : root.heading ≡ heading_of 0
   pub file_is : journal.file ≡ generation_file generation
   pub heading_is : journal.heading ≡ heading_of generation
+  pub given : generation ≤ last_given
 
 -- the state is the one behind the steps, and the first of them are durable
 pub record IsReplayed (m : Meaning) (base : Base) (steps : List Step) (kept : ℕ) (state : Base) : Type 0 where

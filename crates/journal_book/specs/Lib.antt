@@ -6,6 +6,7 @@ pub mod Laws
 pub mod NewStore
 pub mod Outputs
 pub mod Opening
+pub mod Past
 pub mod Renewing
 pub mod Staged
 -- what only the invariant and private contracts use

@@ -3,6 +3,7 @@ ghost use Rattle.ack_steps.specs.Core.{HasNearFeeds, HasSoundHands};
 ghost use Rattle.base_types.specs.Number.{last_u64};
 ghost use Rattle.core_state.specs.Sealing.{sealed_whole, HaveSmallOutputs};
 ghost use Rattle.disk_journal.specs.GateFile.{longest_journal};
+ghost use Rattle.disk_journal.specs.Reads.{OnlyReads};
 ghost use Rattle.edge_traits.specs.Count.{Rose};
 ghost use Rattle.edge_traits.specs.Disk.{Image, Leaves};
 ghost use Rattle.step_code.specs.declared.base.Base.{Base};
@@ -18,7 +19,7 @@ ghost use Rattle.step_code.specs.Sound.{IsSound};
 ghost use Rattle.step_code.specs.Spent.{last_given};
 ghost use Rattle.store_image.specs.Files.{generation_file, root_file};
 ghost use Rattle.store_image.specs.Stands.{origin_of, Origin, StandsFor};
-ghost use Rattle.store_image.specs.Stored.{codes_of};
+ghost use Rattle.store_image.specs.Stored.{codes_of, IsStored};
 ghost use Rattle.journal_book.specs.Alone.{IsApart, IsBeside, IsBesideNew, IsNoOut, LeavesAlone};
 ghost use Rattle.journal_book.specs.Book.{created, durable_steps, root_entry, waiting_steps, IsKept};
 ghost use Rattle.journal_book.specs.Faults.{IsCreateFault};
@@ -26,6 +27,7 @@ ghost use Rattle.journal_book.specs.NewStore.{HasOldRootOrFirst};
 ghost use Rattle.journal_book.specs.Outputs.{AreCompleted, AreWritten, IsBringUpFault, IsNoDamage, LeavesOuts};
 ghost use Rattle.store_image.specs.Opens.{AreLong, Opens};
 ghost use Rattle.journal_book.specs.Opening.{opened, IsReopened, IsReopenFault, IsRootLength, StandsNow, TellsLong};
+ghost use Rattle.journal_book.specs.Past.{IsPast, IsPastFault};
 ghost use Rattle.journal_book.specs.Renewing.{renew_cause, renewed, IsBeginFault, IsBesideNext, IsRefused, IsRenewFault, IsUndamaged};
 ghost use Rattle.journal_book.specs.Staged.{cause_of, greatest_limit, most_waiting, most_waiting_bytes, staged, stamp, step_cause, IsMove, IsStageRefusal};
 
@@ -33,9 +35,10 @@ use crate::create::{Opened, make_store};
 use crate::entering::enter;
 use crate::opening::{Reopened, open_store};
 use crate::outputs::complete_all;
+use crate::past::{Past, read_past};
 use crate::renewing::{begin_generation, is_disk_fault, next_base, next_number, renew_fault};
 use crate::staging::{Move, next_step};
-use crate::{BookFault, RenewFault, StageRefusal};
+use crate::{BookFault, PastFault, RenewFault, StageRefusal};
 use ack_steps::Core;
 use base_types::{Blob, OutOfMemory};
 use disk_journal::Journal;
@@ -192,6 +195,9 @@ impl<D: Disk, R: Rules> Book<D, R> {
         ensures sound { IfOk result (λ book. IsSound R.meaning book.base) }
         ensures long { (files : Image) → (D.disk disk).told ≡ Some files → IfOk result (λ book. TellsLong (D.disk book.disk).told book.state.outs) }
         ensures root { (files : Image) → (D.disk disk).told ≡ Some files → IfOk result (λ book. IsRootLength files book.generation book.root) }
+
+        // What was read is there still.
+        ensures stored { IfOk result (λ book. (after : Image) → (D.disk book.disk).told ≡ Some after → IsStored after book.generation book.base book.steps) }
 
         // The book goes on from all steps that whatever a crash left stood for.
         ensures kept { (origin : Origin) (steps more : List Step) → StandsNow R.meaning origin steps more (D.disk disk) → IfOk result (λ book. IsReopened D.disk R.meaning origin steps more book) }
@@ -637,6 +643,27 @@ impl<D: Disk, R: Rules> Book<D, R> {
                 Err(fault)
             }
         }
+    }
+
+    /// What a generation of the store holds, up to the one in force: the state that it begins with, and the steps behind it. Nothing
+    /// is written.
+    ///
+    /// # Errors
+    ///
+    /// `Damaged` where the first damage of the generation's file shows. `Disk`. `OutOfMemory`. The book goes on in each case.
+    pub fn past(&mut self, generation: u64) -> Result<Past, PastFault>
+        requires { generation ≤ self.old.generation }
+        ensures past { (files : Image) → (D.disk self.old.disk).told ≡ Some files → IfOk result (λ past. IsPast R.meaning generation (files (generation_file generation)) past.base past.steps) }
+        ensures fault { IfErr result (IsPastFault R.meaning generation (D.disk self.old.disk).told) }
+        ensures book { self.new ≡ record self.old { disk = self.new.disk } }
+        ensures reads { OnlyReads (D.disk self.old.disk) (D.disk self.new.disk) }
+
+        // Whatever a crash leaves now stands for the same steps as before.
+        ensures kept { (origin : Origin) (past : List Step) → IsKept D.disk R.meaning origin past self.old → IsKept D.disk R.meaning origin past self.new }
+        ensures failed { IsErrOf result PastFault.Disk → Rose (D.disk self.old.disk).faults (D.disk self.new.disk).faults }
+        ensures count { (D.disk self.old.disk).faults ≤ (D.disk self.new.disk).faults }
+    {
+        read_past(self.alloc, &mut self.disk, self.core.rules(), generation)
     }
 }
 

@@ -1,5 +1,7 @@
 mod Ahead
 mod Halting
+mod Kept
 mod LineEnds
+mod Replays
 mod Still
 mod Writing

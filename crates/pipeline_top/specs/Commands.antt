@@ -25,13 +25,15 @@ use Rattle.store_commands.specs.declared.printing.Shown.TheVariants as shown
 use Rattle.drain_loop.specs.Calls.{outside}
 use Rattle.drain_turns.specs.declared.end.TurnsEnd.{TurnsEnd}
 use Rattle.drain_command.specs.Drained.{IsDrainCall, MayEndDrain}
+use Rattle.audit_command.specs.Audited.{IsAuditOf}
+use Rattle.audit_command.specs.declared.end.AuditEnd.{AuditEnd}
 use Rattle.drill_feed.specs.Drill.{drill_bundle, drill_shelf}
 use Rattle.command_words.specs.Command as asked
 use Rattle.bundle_bringing.specs.Brought.{Brings, Names}
 use Rattle.bundle_bringing.specs.declared.bringing.Unbrought.{Unbrought}
 use Rattle.pipeline_top.specs.Convert.{conversion, convert_bot, end_of, IsOutside, Wrote}
 use Rattle.pipeline_top.specs.Outside.{Seen}
-use Rattle.pipeline_top.specs.Statuses.{behind_store, drain_status, is_said, store_status, unbrought_status}
+use Rattle.pipeline_top.specs.Statuses.{audit_status, behind_store, drain_status, is_said, store_status, unbrought_status}
 use Rattle.status_texts.specs.declared.status.FeedWhy.TheVariants.{Absent}
 use Rattle.status_texts.specs.declared.status.Status.{Status}
 use Rattle.status_texts.specs.declared.status.Status.TheVariants as status
@@ -171,6 +173,14 @@ pub record IsShownBy (what : Shown) (seen : Seen) (old new : DiskView) (end : St
   pub still : IsStill old new
   pub others : WhereTold old (λ files. LeavesAlone old new (IsBeside files))
 
+-- what all generations of a store come to is told
+pub record IsAuditedBy (seen : Seen) (old new : DiskView) (end : Status) : Type 0 where
+  pub done : AuditEnd
+  pub end_is : end ≡ audit_status done
+  pub audited : WhereTold old (λ files. IsAuditOf intel files done seen.sink seen.sink_now)
+  pub still : IsStill old new
+  pub others : WhereTold old (λ files. LeavesAlone old new (IsBeside files))
+
 -- a dump is redone, when the clock may show this moment
 pub record IsRedoneBy {D : Type 0} (disk : D → DiskView) (dump : ℕ) (seen : Seen) (old new : DiskView) (end : Status) : Type 0 where
   pub done : StoreEnd
@@ -194,5 +204,6 @@ IsTool disk (Some (asked.Init bundle)) seen old new end = IsInit bundle seen (di
 IsTool disk (Some (asked.Drain ask)) seen old new end = IsDrained disk ask seen (disk old) (disk new) end
 IsTool disk (Some asked.Status) seen old new end = IsShownBy shown.State seen (disk old) (disk new) end
 IsTool disk (Some asked.Dumps) seen old new end = IsShownBy shown.Dumps seen (disk old) (disk new) end
+IsTool disk (Some asked.Audit) seen old new end = IsAuditedBy seen (disk old) (disk new) end
 IsTool disk (Some (asked.Redo dump)) seen old new end = IsRedoneBy disk dump seen (disk old) (disk new) end
 IsTool disk (Some (asked.Drill lines number)) seen old new end = IsDrilled disk lines number seen old new end

@@ -1,5 +1,7 @@
 -- The statuses of commands, by what they came to.
 use Rattle.std.specs.Prelude.{ℕ, Bool, true, false, Option, unwrap_or, Result, Ok, Err}
+use Rattle.audit_command.specs.declared.end.AuditEnd.{AuditEnd}
+use Rattle.audit_command.specs.declared.end.AuditEnd.TheVariants as audit
 use Rattle.drain_turns.specs.declared.end.TurnsEnd.{TurnsEnd}
 use Rattle.drain_turns.specs.declared.end.TurnsEnd.TheVariants as turns
 use Rattle.store_commands.specs.declared.end.StoreEnd.{StoreEnd}
@@ -22,6 +24,16 @@ store_status end.Refused = status.Memory
 store_status (end.NoDump n) = status.NoDump n
 store_status (end.Spent next) = status.Spent next
 store_status (end.Full bytes) = status.Full bytes
+
+-- of an audit
+abbrev pub audit_status : AuditEnd → Status
+audit_status audit.Legal = status.Done
+audit_status (audit.Illegal step) = status.Illegal step
+audit_status (audit.Damaged file at) = status.Damaged file at
+audit_status (audit.Store have) = status.Store have
+audit_status audit.Disk = status.Disk
+audit_status audit.Sink = status.Sink
+audit_status audit.Memory = status.Memory
 
 -- of turns that ended so, where so many steps might be made
 abbrev pub turns_status : Option ℕ → TurnsEnd → Status

@@ -1,6 +1,7 @@
 //! The top calls: what the program does for each command.
 #![tactic(auto)]
 
+mod auditing;
 mod beginning;
 mod buffer;
 mod checking;

@@ -1,8 +1,9 @@
 //! The statuses of commands, by what they came to.
 ghost use Rattle.std.specs.Prelude.{◌≡◌};
-ghost use Rattle.pipeline_top.specs.Statuses.{behind_store, drain_status, is_said, store_status, turns_status, unbrought_status};
+ghost use Rattle.pipeline_top.specs.Statuses.{audit_status, behind_store, drain_status, is_said, store_status, turns_status, unbrought_status};
 
 use crate::{FeedWhy, Status};
+use audit_command::AuditEnd;
 use bundle_bringing::Unbrought;
 use drain_turns::TurnsEnd;
 use store_commands::StoreEnd;
@@ -22,6 +23,21 @@ pub fn store_status(end: StoreEnd) -> Status
         StoreEnd::NoDump { no } => Status::NoDump { no },
         StoreEnd::Spent { next } => Status::Spent { next },
         StoreEnd::Full { bytes } => Status::Full { bytes },
+    }
+}
+
+/// Of an audit.
+pub fn audit_status(end: AuditEnd) -> Status
+    ensures { result ≡ audit_status end }
+{
+    match end {
+        AuditEnd::Legal => Status::Done,
+        AuditEnd::Illegal { step } => Status::Illegal { step },
+        AuditEnd::Damaged { file, at } => Status::Damaged { file, at },
+        AuditEnd::Store { have } => Status::Store { have },
+        AuditEnd::Disk => Status::Disk,
+        AuditEnd::Sink => Status::Sink,
+        AuditEnd::Memory => Status::Memory,
     }
 }
 

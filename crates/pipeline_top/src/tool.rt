@@ -1,11 +1,15 @@
-ghost use Rattle.std.specs.Prelude.{◌≡◌, ◌↔◌, ◌≤◌, List, ℕ, false, is_some};
+ghost use Rattle.std.specs.Prelude.{◌≡◌, ◌↔◌, ◌≤◌, List, ℕ, Some, false, is_some};
 ghost use Rattle.edge_traits.specs.Count.{Rose};
 ghost use Rattle.edge_traits.specs.Shelf.{count_on};
+ghost use Rattle.bot_rules.specs.Intel.{intel};
+ghost use Rattle.command_words.specs.Command as asked;
 ghost use Rattle.command_words.specs.Words.{command_of};
 ghost use Rattle.status_texts.specs.declared.status.FeedWhy.TheVariants.{Failed};
 ghost use Rattle.pipeline_top.specs.Commands.{IsTool};
+ghost use Rattle.pipeline_top.specs.History.{KeepsHistory, ShowsReplay};
 
 use crate::Status;
+use crate::auditing::audit;
 use crate::beginning::init;
 use crate::checking::check;
 use crate::converting::convert_named;
@@ -32,6 +36,14 @@ pub fn run_tool<H: Shelf, D: Disk, S: Sink, C: Clock>(
     // it, what it prints, and how it ends.
     ensures done { IsTool D.disk (command_of words.now) (record { shelf = H.shelf shelf.old; shelf_now = H.shelf shelf.new; sink = S.sink out.old; sink_now = S.sink out.new; clock = C.told clock.now }) disk result.1 result.0 }
 
+    // Whatever a crash leaves at any moment of the call, and behind it, holds a history that begins with the steps that the disk
+    // stood for, where all generations are looked at: a history is never shortened.
+    ensures history { KeepsHistory intel (D.disk disk) (D.disk result.1) }
+
+    // What is shown of a store is shown of the state behind its whole history.
+    ensures status_replayed { command_of words.now ≡ Some asked.Status → ShowsReplay Shown.State (D.disk disk) result.0 (S.sink out.old) (S.sink out.new) }
+    ensures dumps_replayed { command_of words.now ≡ Some asked.Dumps → ShowsReplay Shown.Dumps (D.disk disk) result.0 (S.sink out.old) (S.sink out.new) }
+
     // The words are no command, and nothing is read or written.
     ensures words { (result.0 ≡ Status.Words) ↔ (is_some (command_of words.now) ≡ false) }
     ensures untouched { result.0 ≡ Status.Words → H.shelf shelf.new ≡ H.shelf shelf.old }
@@ -55,6 +67,7 @@ pub fn run_tool<H: Shelf, D: Disk, S: Sink, C: Clock>(
         Some(Command::Drain(ask)) => drain(alloc, ask, shelf, disk, out, clock),
         Some(Command::Status) => show(alloc, Shown::State, disk, out),
         Some(Command::Dumps) => show(alloc, Shown::Dumps, disk, out),
+        Some(Command::Audit) => audit(alloc, disk, out),
         Some(Command::Redo { dump }) => redo(alloc, dump, disk, out, clock),
         Some(Command::Drill { lines, number }) => drill(alloc, lines, number, disk, out, clock),
     }

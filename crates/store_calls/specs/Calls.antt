@@ -1,5 +1,5 @@
 -- Calls on a store, from the moment at which it is opened to the moment at which its disk is handed back.
-use Rattle.std.specs.Prelude.{◌≡◌, ◌≢◌, ◌≤◌, ◌+◌, ◌-◌, ℕ, List, [], ◌++◌, length, take, drop, Some}
+use Rattle.std.specs.Prelude.{◌≡◌, ◌≢◌, ◌≤◌, ◌+◌, ◌-◌, ℕ, Bool, List, [], ◌++◌, length, take, drop, Some}
 use Rattle.edge_traits.specs.Disk.{DiskView, Image, Leaves}
 use Rattle.step_code.specs.declared.base.Base.{Base}
 use Rattle.step_code.specs.declared.rules.Facts.{Facts}
@@ -8,8 +8,10 @@ use Rattle.step_code.specs.History.{first, replay, Legal}
 use Rattle.step_code.specs.Places.{IsAccounted}
 use Rattle.step_code.specs.Rules.{Meaning}
 use Rattle.step_code.specs.Spent.{NothingIsSpent}
-use Rattle.store_image.specs.Stands.{Origin, Stands, StandsFor}
 use Rattle.store_image.specs.Files.{root_file}
+use Rattle.store_image.specs.History.{HasHistory}
+use Rattle.store_image.specs.Opens.{Opens}
+use Rattle.store_image.specs.Stands.{origin_of, IsSealOf, Origin, Stands, StandsFor, WhereWhole}
 use Rattle.store_image.specs.Stored.{NamesLast}
 use Rattle.journal_book.specs.Book.{BookView}
 use Rattle.journal_book.specs.Opening.{IsReopened, StandsNow}
@@ -76,3 +78,11 @@ abbrev pub DurableCalls : {D : Type 0} → (R : Type 0) → (D → DiskView) →
 DurableCalls {D} R disk m =
     (origin : Origin) (steps more made : List Step) (old : D) (opened later : BookView D R) → IsOpened disk m origin steps more old opened → GoesOn disk m opened later made
     → later.kept ≡ length later.steps → IsCall disk m origin steps more (disk old) (disk later.disk) made (length made)
+
+-- a store opens with the state and the steps of the generation in force alone, and the state behind these is that behind the whole
+-- history, with more lines of its outputs sealed: the history that its files stand for, which all its generations hold where these are
+-- looked at
+abbrev pub WhatOpensIsReplayed : Type 0
+WhatOpensIsReplayed =
+    (m : Meaning) (begun : Base) (whole : Bool) (files : Image) (history : List Step) (generation : ℕ) (base : Base) (steps : List Step) → Stands m (origin_of begun whole) files history → Opens m files generation base steps
+    → IsSealOf (replay m begun history) (replay m base steps) × WhereWhole whole (HasHistory files history)

@@ -1,4 +1,4 @@
-ghost use Rattle.store_calls.specs.Calls.{CallsGoOn, DurableCalls};
+ghost use Rattle.store_calls.specs.Calls.{CallsGoOn, DurableCalls, WhatOpensIsReplayed};
 
 use edge_traits::Disk;
 use history_laws::each_message_stands_in_one_place;
@@ -18,3 +18,9 @@ pub fn durable_calls<D: Disk, R: Rules>()
 {
     each_message_stands_in_one_place::<R>();
 }
+
+/// A store is opened from its generation in force alone, and the state in which it opens is that behind its whole history, but
+/// for lines of outputs that are sealed.
+pub fn what_opens_is_replayed()
+    ensures { WhatOpensIsReplayed }
+{}

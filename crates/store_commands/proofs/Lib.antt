@@ -1,3 +1,4 @@
+pub mod SameTexts
 mod Begun
 mod Completed
 mod RedoEnds

@@ -1,6 +1,5 @@
 -- How the step that redoes a dump goes, and what is told of it.
-use Rattle.std.proofs.Common.{◌≡◌, ◌≢◌, inl, inr, ⊎_elim, ℕ, Bool, true, false, List, [], ◌∷◌, ◌++◌, Option, Some, None, refl, ap, subst, ◌∙◌, arith, codes, length, length-append, nat_lt, sum_by, if◌then◌else◌}
-use Rattle.std.proofs.lemmas.List.Sums.{sum_by-cons}
+use Rattle.std.proofs.Common.{◌≡◌, ◌≢◌, inl, inr, ⊎_elim, ℕ, Bool, true, false, List, [], ◌∷◌, Option, Some, None, refl, ap, subst, ◌∙◌, nat_lt, if◌then◌else◌}
 use Rattle.std.specs.List.{list_any}
 use Rattle.edge_traits.specs.Disk.{Image}
 use Rattle.edge_traits.specs.Output.{TookFront}
@@ -9,7 +8,6 @@ use Rattle.edge_traits.proofs.Outputs.{Took-nothing}
 use Rattle.core_state.specs.Sealing.{sealed_whole}
 use Rattle.base_types.specs.declared.message.Moment.{Moment}
 use Rattle.step_code.specs.declared.base.Base.{Base}
-use Rattle.step_code.specs.declared.output.Output.{Output}
 use Rattle.step_code.specs.declared.step.Step.{Step}
 use Rattle.step_code.specs.declared.step.StepKind.TheVariants as kind
 use Rattle.step_code.specs.declared.step.StepRefusal.{StepRefusal}
@@ -19,9 +17,7 @@ use Rattle.step_code.specs.Fits.{first_failing}
 use Rattle.step_code.specs.Rules.{Meaning}
 use Rattle.step_code.specs.Spent.{spent}
 use Rattle.step_code.specs.State.{is_dump}
-use Rattle.queue_broker.specs.Broker.{total}
-use Rattle.state_texts.specs.Texts.{count_line, lines_of, messages_in, processed_in, summary}
-use Rattle.store_image.specs.Stands.{AreSealedFrom, IsSealOf}
+use Rattle.store_image.specs.Stands.{IsSealOf}
 use Rattle.journal_book.specs.Book.{BookView}
 use Rattle.journal_book.specs.Opening.{IsReopenFault}
 use Rattle.journal_book.specs.Renewing.{renewal_cause, renewed}
@@ -38,6 +34,7 @@ use Rattle.store_commands.specs.Ends.{end_of, refusal_end}
 use Rattle.store_commands.specs.Redone.{cause_in, redo_step, AreMadeAt, IsAsked, IsRedoCall, IsRedoEnd, IsRedone, LacksDump}
 use Rattle.store_commands.specs.declared.end.StoreEnd.{StoreEnd}
 use Rattle.store_commands.specs.declared.end.StoreEnd.TheVariants as end
+use Rattle.store_commands.proofs.SameTexts.{same_summary}
 
 -- ---- the step
 
@@ -94,30 +91,7 @@ cause_whole m book step whole =
     go true = refl
     go false = refl
 
--- ---- the summary counts the lines that are sealed
-
-sealed_lines : (wholes sealed : List Output) → AreSealedFrom wholes sealed → sum_by lines_of sealed ≡ sum_by lines_of wholes
-sealed_lines [] sealed are = ap (sum_by lines_of) are
-sealed_lines (whole ∷ wholes) [] are = absurd are
-sealed_lines (whole ∷ wholes) (sealed ∷ more) are =
-    let one : lines_of sealed ≡ lines_of whole = omega (arith, are.0.count, ap length are.0.lines, length-append are.0.front sealed.lines) in
-    omega (arith, one, sealed_lines wholes more are.1, sum_by-cons lines_of sealed more, sum_by-cons lines_of whole wholes)
-
-pub same_summary : (s sealed : Base) → IsSealOf s sealed → summary sealed ≡ summary s
-same_summary s sealed is =
-    ap summary is.same
-    ∙ ap (λ (lines : ℕ). summary_with lines) (sealed_lines s.outs sealed.outs is.outs)
-  where
-    summary_with : ℕ → List ℕ
-    summary_with lines =
-        count_line (codes "steps") s.steps
-        ++ count_line (codes "bundle") s.bundle_no
-        ++ count_line (codes "messages") (messages_in s)
-        ++ count_line (codes "waiting") (total s.queues)
-        ++ count_line (codes "in hand") (length s.hands)
-        ++ count_line (codes "dumped") (length s.dumps)
-        ++ count_line (codes "processed") (processed_in s)
-        ++ count_line (codes "lines") lines
+-- ---- how the command ends
 
 module _ (m : Meaning) (s : Base) (dump now : ℕ) (old new : SinkView) where
   -- how the step went where it was made

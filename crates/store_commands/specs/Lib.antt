@@ -3,3 +3,4 @@ pub mod Ends
 pub mod Begun
 pub mod Redone
 pub mod Completed
+pub mod Laws

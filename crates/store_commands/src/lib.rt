@@ -5,6 +5,7 @@
 mod beginning;
 mod completing;
 mod end;
+mod laws;
 mod printing;
 mod redoing;
 mod showing;
@@ -12,6 +13,7 @@ mod showing;
 pub use beginning::{find_store, init, make_store};
 pub use completing::{complete, finish};
 pub use end::{StoreEnd, end_of};
+pub use laws::sealed_states_print_alike;
 pub use printing::Shown;
 pub use redoing::redo;
 pub use showing::show;

@@ -1,7 +1,7 @@
 -- A store that opens isn't damaged, and damage is at one place.
 use Rattle.std.proofs.Common.{◌≡◌, ◌≢◌, ◌≤◌, ◌+◌, inl, inr, ℕ, suc, List, [], ◌∷◌, ◌++◌, length, map, refl, sym, ap, subst, ◌∙◌, arith}
 use Rattle.std.specs.List.{AllByRecursion}
-use Rattle.std.proofs.lemmas.List.{append-nil}
+use Rattle.std.proofs.lemmas.List.{append-nil, append_cancel_left}
 use Rattle.edge_traits.specs.Disk.{Image}
 use Rattle.disk_journal.specs.GateFile.{Heading, frame_length, heading_of, open_records, HasBodies}
 use Rattle.disk_journal.proofs.GateFiles.{bodies_are_one, damage_is_at_one_place, damaged_has_no_bodies}
@@ -16,12 +16,12 @@ use Rattle.step_code.specs.Rules.{Meaning}
 use Rattle.step_code.specs.Sound.{IsSound}
 use Rattle.step_code.specs.Spent.{last_given}
 use Rattle.step_code.proofs.StateLaws.{base_law}
-use Rattle.store_image.specs.Damage.{behind_bodies, AreNoHistory, AreNoSteps, HasShortOutput, HoldNoSteps, IsDamagedFile, IsDamagedGeneration, IsDamagedStore, IsNoBase, IsShort, NameNone}
+use Rattle.store_image.specs.Damage.{behind_bodies, BeginsWithNone, AreNoHistory, AreNoSteps, HasShortOutput, HoldNoSteps, StopAt, IsDamagedFile, IsDamagedGeneration, IsDamagedStore, IsNoBase, IsShort, NameNone}
 use Rattle.store_image.specs.Files.{root_file, generation_file}
-use Rattle.store_image.specs.Opens.{AreLong, AreReplayable, Opens}
-use Rattle.store_image.specs.Stored.{AreRecords, HoldsSteps, IsStored, NamesLast}
-use Rattle.store_image.proofs.Stops.{records_hold, stops_once, Stop}
-use Rattle.store_image.proofs.Stored.{named_is_one, stored_is_one}
+use Rattle.store_image.specs.Opens.{AreAlong, AreLong, AreReplayable, IsReplayable, Opens}
+use Rattle.store_image.specs.Stored.{codes_of, AreRecords, HoldsSteps, IsStored, NamesLast}
+use Rattle.store_image.proofs.Stops.{records_hold, same_front, stops_once, Stop}
+use Rattle.store_image.proofs.Stored.{named_is_one, records_are_one, stored_is_one}
 
 -- ---- a file
 
@@ -85,20 +85,41 @@ module _ (root : List ℕ) (generation : ℕ) (named : NamesLast root generation
 first_base : (base : Base) (body : List ℕ) (records others : List (List ℕ)) → code_of_base first_format base ∷ records ≡ body ∷ others → body ≡ code_of_base first_format base
 first_base base body records others same = cc
 
-same_bases : (a b : Base) (records others : List (List ℕ)) → IsWritableBase first_format a → IsWritableBase first_format b → code_of_base first_format a ∷ records ≡ code_of_base first_format b ∷ others → (a ≡ b) × (records ≡ others)
+pub same_bases : (a b : Base) (records others : List (List ℕ)) → IsWritableBase first_format a → IsWritableBase first_format b → code_of_base first_format a ∷ records ≡ code_of_base first_format b ∷ others → (a ≡ b) × (records ≡ others)
 same_bases a b records others fits_a fits_b same =
     let codes : code_of_base first_format a ≡ code_of_base first_format b = cc in
     let base = one_code base_law a b [] [] fits_a fits_b (append-nil (code_of_base first_format a) ∙ codes ∙ sym (append-nil (code_of_base first_format b))) in
     (base.0, cc)
 
--- the first place where bodies behind a state hold no steps
-stop_of : (m : Meaning) (s : Base) (start : ℕ) (bodies : List (List ℕ)) (at : ℕ) (stop : HoldNoSteps m s start bodies at) → Stop m s stop.before bodies stop.offset
-stop_of m s start bodies at stop = record { body = stop.body; later = stop.later; steps = stop.steps; splits = stop.splits; content = stop.content; replays = stop.replays; bad = stop.bad }
+-- the first place where steps of bodies don't pass a test
+pub stop_of : (m : Meaning) (is : Base → Step → Type 0) (s : Base) (start : ℕ) (bodies : List (List ℕ)) (at : ℕ) (stop : StopAt m is s start bodies at) → Stop m is s stop.before bodies stop.offset
+stop_of m is s start bodies at stop = record { body = stop.body; later = stop.later; steps = stop.steps; splits = stop.splits; content = stop.content; pass = stop.pass; bad = stop.bad }
 
-stops_at_once : (m : Meaning) (s : Base) (start : ℕ) (bodies : List (List ℕ)) (at other : ℕ) → HoldNoSteps m s start bodies at → HoldNoSteps m s start bodies other → at ≡ other
-stops_at_once m s start bodies at other a b =
-    let once = stops_once m s a.before b.before bodies a.offset b.offset (stop_of m s start bodies at a) (stop_of m s start bodies other b) in
+pub stops_at_once : (m : Meaning) (is : Base → Step → Type 0) (s : Base) (start : ℕ) (bodies : List (List ℕ)) (at other : ℕ) → StopAt m is s start bodies at → StopAt m is s start bodies other → at ≡ other
+stops_at_once m is s start bodies at other a b =
+    let once = stops_once m is s a.before b.before bodies a.offset b.offset (stop_of m is s start bodies at a) (stop_of m is s start bodies other b) in
     a.place ∙ (λ i. start + length (open_records (once.0 i)) + frame_length + once.1 i) ∙ sym b.place
+
+-- they stop in one state, and before the same bytes
+pub record StopAlike (m : Meaning) (is : Base → Step → Type 0) (s : Base) (start : ℕ) (bodies : List (List ℕ)) (at other : ℕ) (a : StopAt m is s start bodies at) (b : StopAt m is s start bodies other) : Type 0 where
+  pub steps : a.steps ≡ b.steps
+  pub front : a.bad.front ≡ b.bad.front
+  pub behind : a.bad.behind ≡ b.bad.behind
+
+pub stops_alike : (m : Meaning) (is : Base → Step → Type 0) (s : Base) (start : ℕ) (bodies : List (List ℕ)) (at other : ℕ) (a : StopAt m is s start bodies at) (b : StopAt m is s start bodies other) → StopAlike m is s start bodies at other a b
+stops_alike m is s start bodies at other a b =
+    let once = stops_once m is s a.before b.before bodies a.offset b.offset (stop_of m is s start bodies at a) (stop_of m is s start bodies other b) in
+    let rests = append_cancel_left b.before (a.body ∷ a.later) (b.body ∷ b.later) (ap (λ before. before ++ a.body ∷ a.later) (sym once.0) ∙ sym a.splits ∙ b.splits) in
+    let body : a.body ≡ b.body = cc in
+    let steps = records_are_one b.before a.steps b.steps (subst (λ before. AreRecords before a.steps) once.0 a.content) b.content in
+    let moved = subst (λ ss. BeginsWithNone is (replay m (replay m s ss) a.bad.front) a.bad.behind) steps a.bad.bad in
+    let front = same_front m is (replay m s b.steps) a.bad.front b.bad.front a.bad.behind b.bad.behind a.bad.coded b.bad.coded (subst (λ ss. AreAlong m is (replay m s ss) a.bad.front) steps a.bad.pass) b.bad.pass moved b.bad.bad
+    (sym a.bad.code ∙ body ∙ b.bad.code) in
+    record {
+      steps = steps;
+      front = front;
+      behind = append_cancel_left (codes_of b.bad.front) a.bad.behind b.bad.behind (ap (λ f. codes_of f ++ a.bad.behind) (sym front) ∙ sym a.bad.code ∙ body ∙ b.bad.code);
+    }
 
 module _ (m : Meaning) where
   base_or_steps : (bodies : List (List ℕ)) (at other : ℕ) → IsNoBase m bodies at → AreNoSteps m bodies other → ⊥
@@ -116,7 +137,7 @@ module _ (m : Meaning) where
   no_history_once bodies at other (inr (inr a)) (inr (inr b)) =
       let same = same_bases a.base b.base a.records b.records a.writable b.writable (sym a.splits ∙ b.splits) in
       let moved = subst (λ (bs : List (List ℕ)). HoldNoSteps m b.base (start_of b.base) bs at) same.1 (subst (λ (s : Base). HoldNoSteps m s (start_of s) a.records at) same.0 a.bad) in
-      stops_at_once m b.base (start_of b.base) b.records at other moved b.bad
+      stops_at_once m (IsReplayable m) b.base (start_of b.base) b.records at other moved b.bad
     where
       start_of : Base → ℕ
       start_of s = behind_bodies (code_of_base first_format s ∷ [])
@@ -127,8 +148,8 @@ module _ (m : Meaning) where
   history_there base records steps at writable sound content replays (inr (inr bad)) =
       let same = same_bases base bad.base records bad.records writable bad.writable bad.splits in
       let moved = subst (λ (bs : List (List ℕ)). AreRecords bs steps) same.1 content in
-      records_hold m bad.base bad.bad.before bad.records steps bad.bad.offset moved (subst (λ (s : Base). AreReplayable m s steps) same.0 replays)
-      (stop_of m bad.base (behind_bodies (code_of_base first_format bad.base ∷ [])) bad.records at bad.bad)
+      records_hold m (IsReplayable m) bad.base bad.bad.before bad.records steps bad.bad.offset moved (subst (λ (s : Base). AreReplayable m s steps) same.0 replays)
+      (stop_of m (IsReplayable m) bad.base (behind_bodies (code_of_base first_format bad.base ∷ [])) bad.records at bad.bad)
 
   whole_generation : (generation : ℕ) (file : List ℕ) (base : Base) (steps : List Step) (at : ℕ) → HoldsSteps generation file base steps → IsSound m base → AreReplayable m base steps
       → IsDamagedFile (heading_of generation) (AreNoHistory m) file at → ⊥

@@ -20,7 +20,7 @@ use Rattle.store_image.specs.Files.{root_file, generation_file, out_file}
 use Rattle.store_image.specs.Opens.{AreLong, AreReplayable, IsReplayable, Opens}
 use Rattle.store_image.specs.Stored.{codes_of, AreRecords, HoldsSteps, IsRecord, NamesLast}
 use Rattle.store_image.proofs.Standing.{replay-append}
-use Rattle.store_image.proofs.Stops.{replayable_more, Stop}
+use Rattle.store_image.proofs.Stops.{along_more, Stop}
 use Rattle.store_image.proofs.Stored.{step_is_long}
 
 -- ---- the root
@@ -83,7 +83,7 @@ module _ (m : Meaning) where
         front = [];
         behind = bytes;
         coded = tt;
-        replays = tt;
+        pass = tt;
         code = refl;
         goes_on = λ none. refl;
         bad = λ step rest writable code replayable.
@@ -109,7 +109,7 @@ module _ (m : Meaning) where
     front = more.step ∷ stop.front;
     behind = stop.behind;
     coded = (more.writable, stop.coded);
-    replays = (more.replayable, stop.replays);
+    pass = (more.replayable, stop.pass);
     code = more.code ∙ ap (λ r. code_of_step more.step ++ r) stop.code ∙ sym (append_assoc (code_of_step more.step) (codes_of stop.front) stop.behind);
     goes_on = λ none. absurd (more.some (stop.code ∙ (λ i. codes_of (stop.goes_on none i) ++ none i)));
     bad = stop.bad;
@@ -122,12 +122,12 @@ module _ (m : Meaning) where
       body_ends s bytes all stops (λ more. body_either most (after m s more.step) more.rest (omega (arith, within, shorter s bytes more))
       (λ steps is replays. all (more.step ∷ steps) (record_behind s bytes more steps is) (more.replayable, replays)) (λ offset stop. stops _ (stop_behind s bytes more offset stop)))
 
-  records_either : (s : Base) (bodies : List (List ℕ)) → ((steps : List Step) → AreRecords bodies steps → AreReplayable m s steps → ⊥) → ((before : List (List ℕ)) (offset : ℕ) → Stop m s before bodies offset → ⊥) → ⊥
+  records_either : (s : Base) (bodies : List (List ℕ)) → ((steps : List Step) → AreRecords bodies steps → AreReplayable m s steps → ⊥) → ((before : List (List ℕ)) (offset : ℕ) → Stop m (IsReplayable m) s before bodies offset → ⊥) → ⊥
   records_either s [] all stops = all [] refl tt
   records_either s (body ∷ bodies) all stops =
       body_either (length body) s body (omega arith)
       (λ front is replays.
-      records_either (replay m s front) bodies (λ steps content more. all (front ++ steps) (front, steps, refl, is, content) (replayable_more m s front steps replays more))
+      records_either (replay m s front) bodies (λ steps content more. all (front ++ steps) (front, steps, refl, is, content) (along_more m (IsReplayable m) s front steps replays more))
       (λ before offset stop.
       stops (body ∷ before) offset (record {
         body = stop.body;
@@ -135,10 +135,10 @@ module _ (m : Meaning) where
         steps = front ++ stop.steps;
         splits = ap (λ bs. body ∷ bs) stop.splits;
         content = (front, stop.steps, refl, is, stop.content);
-        replays = replayable_more m s front stop.steps replays stop.replays;
+        pass = along_more m (IsReplayable m) s front stop.steps replays stop.pass;
         bad = subst (λ (t : Base). IsNoStep m t stop.body offset) (sym (replay-append m s front stop.steps)) stop.bad;
       })))
-      (λ offset bad. stops [] offset (record { body = body; later = bodies; steps = []; splits = refl; content = refl; replays = tt; bad = bad }))
+      (λ offset bad. stops [] offset (record { body = body; later = bodies; steps = []; splits = refl; content = refl; pass = tt; bad = bad }))
 
   module _ (bodies : List (List ℕ)) (is_none : (at : ℕ) → AreNoHistory m bodies at → ⊥) where
     history_either : (rest : List (List ℕ)) → bodies ≡ rest
@@ -163,7 +163,7 @@ module _ (m : Meaning) where
             offset = offset;
             splits = stop.splits;
             content = stop.content;
-            replays = stop.replays;
+            pass = stop.pass;
             bad = stop.bad;
             place = refl;
           };

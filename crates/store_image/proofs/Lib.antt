@@ -1,7 +1,8 @@
 pub mod Alike
 pub mod Damaged
 pub mod Either
+pub mod Numbers
 pub mod Standing
 pub mod Stops
 pub mod Stored
-mod Whole
+pub mod Whole

@@ -14,7 +14,7 @@ use Rattle.step_code.specs.Rules.{Meaning}
 use Rattle.step_code.specs.Sound.{IsSound}
 use Rattle.step_code.specs.Spent.{last_given}
 use Rattle.store_image.specs.Files.{root_file, out_file, generation_file}
-use Rattle.store_image.specs.Opens.{AreReplayable, IsReplayable}
+use Rattle.store_image.specs.Opens.{AreAlong, AreReplayable, IsReplayable}
 use Rattle.store_image.specs.Stored.{codes_of, AreRecords, NamesLast, IsStored}
 
 -- the offset behind whole records with these bodies, where the next gate stands
@@ -55,24 +55,28 @@ pub record IsNoBase (m : Meaning) (bodies : List (List ℕ)) (at : ℕ) : Type 0
   pub bad : (base : Base) → IsWritableBase first_format base → IsSound m base → body ≢ code_of_base first_format base
   pub place : at ≡ header_length + frame_length
 
--- these bytes begin with no step that can be replayed in this state
-abbrev pub BeginsWithNoStep : Meaning → Base → List ℕ → Type 0
-BeginsWithNoStep m s bytes = (step : Step) (rest : List ℕ) → IsWritable step → bytes ≡ code_of_step step ++ rest → IsReplayable m s step → ⊥
+-- these bytes begin with no step that passes a test in this state
+abbrev pub BeginsWithNone : (Base → Step → Type 0) → Base → List ℕ → Type 0
+BeginsWithNone is s bytes = (step : Step) (rest : List ℕ) → IsWritable step → bytes ≡ code_of_step step ++ rest → is s step → ⊥
 
--- behind steps that can be replayed in this state, no such step stands at this offset of a body, which doesn't end there,
--- or is empty
-pub record IsNoStep (m : Meaning) (s : Base) (body : List ℕ) (at : ℕ) : Type 0 where
+-- with none that can be replayed
+abbrev pub BeginsWithNoStep : Meaning → Base → List ℕ → Type 0
+BeginsWithNoStep m s bytes = BeginsWithNone (IsReplayable m) s bytes
+
+-- behind steps that pass a test from this state on, no such step stands at this offset of a body, which doesn't end there, or is
+-- empty
+pub record StopsAt (m : Meaning) (is : Base → Step → Type 0) (s : Base) (body : List ℕ) (at : ℕ) : Type 0 where
   pub front : List Step
   pub behind : List ℕ
   pub coded : AllByRecursion IsWritable front
-  pub replays : AreReplayable m s front
+  pub pass : AreAlong m is s front
   pub code : body ≡ codes_of front ++ behind
   pub goes_on : behind ≡ [] → front ≡ []
-  pub bad : BeginsWithNoStep m (replay m s front) behind
+  pub bad : BeginsWithNone is (replay m s front) behind
   pub place : at ≡ length (codes_of front)
 
--- so it is with one of these bodies, behind those that hold steps; the gate before the first stands at this offset
-pub record HoldNoSteps (m : Meaning) (s : Base) (start : ℕ) (bodies : List (List ℕ)) (at : ℕ) : Type 0 where
+-- so it is with one of these bodies, behind those that hold steps which pass; the gate before the first stands at this offset
+pub record StopAt (m : Meaning) (is : Base → Step → Type 0) (s : Base) (start : ℕ) (bodies : List (List ℕ)) (at : ℕ) : Type 0 where
   pub before : List (List ℕ)
   pub body : List ℕ
   pub later : List (List ℕ)
@@ -80,9 +84,17 @@ pub record HoldNoSteps (m : Meaning) (s : Base) (start : ℕ) (bodies : List (Li
   pub offset : ℕ
   pub splits : bodies ≡ before ++ body ∷ later
   pub content : AreRecords before steps
-  pub replays : AreReplayable m s steps
-  pub bad : IsNoStep m (replay m s steps) body offset
+  pub pass : AreAlong m is s steps
+  pub bad : StopsAt m is (replay m s steps) body offset
   pub place : at ≡ start + length (open_records before) + frame_length + offset
+
+-- behind steps that can be replayed in this state, none stands at this offset of a body
+abbrev pub IsNoStep : Meaning → Base → List ℕ → ℕ → Type 0
+IsNoStep m s body at = StopsAt m (IsReplayable m) s body at
+
+-- so it is with one of these bodies
+abbrev pub HoldNoSteps : Meaning → Base → ℕ → List (List ℕ) → ℕ → Type 0
+HoldNoSteps m s start bodies at = StopAt m (IsReplayable m) s start bodies at
 
 -- the first body is a state that a store may hold, and the others hold no steps behind it
 pub record AreNoSteps (m : Meaning) (bodies : List (List ℕ)) (at : ℕ) : Type 0 where

@@ -1,5 +1,5 @@
 -- The history that all generations of a store hold together.
-use Rattle.std.specs.Prelude.{◌≡◌, ℕ, suc, List, [], ◌∷◌, length}
+use Rattle.std.specs.Prelude.{◌≡◌, ℕ, suc, List, [], ◌∷◌, ◌++◌, length}
 use Rattle.edge_traits.specs.Disk.{Image}
 use Rattle.step_code.specs.declared.base.Base.{Base}
 use Rattle.step_code.specs.declared.step.Step.{Step}
@@ -21,3 +21,10 @@ pub record HasHistory (image : Image) (history : List Step) : Type 0 where
   pub count : length held ≡ suc generation
   pub each : AreHeld image 0 held
   pub joins : history ≡ joined held
+
+-- the files hold a history that begins with these steps
+pub record HasHistoryFrom (steps : List Step) (image : Image) : Type 0 where
+  pub history : List Step
+  pub has : HasHistory image history
+  pub more : List Step
+  pub splits : history ≡ steps ++ more

@@ -18,10 +18,14 @@ use Rattle.store_image.specs.Stored.{IsStored}
 abbrev pub IsReplayable : Meaning → Base → Step → Type 0
 IsReplayable m s step = MayReplay m s step × StaysSmall m s step
 
--- so it is with each of these steps, in the state that the steps before it leave
+-- each of these steps passes a test, in the state that the steps before it leave
+abbrev pub AreAlong : Meaning → (Base → Step → Type 0) → Base → List Step → Type 0
+AreAlong m is s [] = Unit {0}
+AreAlong m is s (step ∷ steps) = is s step × AreAlong m is (after m s step) steps
+
+-- each can be replayed there
 abbrev pub AreReplayable : Meaning → Base → List Step → Type 0
-AreReplayable m s [] = Unit {0}
-AreReplayable m s (step ∷ steps) = IsReplayable m s step × AreReplayable m (after m s step) steps
+AreReplayable m s steps = AreAlong m (IsReplayable m) s steps
 
 -- the files of these outputs, the first of which is output k, are no shorter than what is sealed
 abbrev pub AreLong : ℕ → List Output → Image → Type 0

@@ -30,6 +30,7 @@ Commands:
     --round new          read the feeds that were read to their ends once more
   status                 print what waits, what is in hand, and how far feeds are read
   dumps                  print the messages that were put aside, a line each, with their faults
+  audit                  check each step of the whole history with the rules
   redo --dump NO         put the message of a dump back into the queue of its bot
   check --bundle NAME    print how many bots a bundle has, or its first fault
   drill --lines N --number S

@@ -25,6 +25,7 @@ fn shown(alloc: Global, command: Option<Command<'_>>) -> Result<String, OutOfMem
         Some(Command::Init { bundle }) => Ok(format!(in alloc; "init {}", bundle.as_str())?),
         Some(Command::Status) => Ok(String::from_str(alloc, "status")?),
         Some(Command::Dumps) => Ok(String::from_str(alloc, "dumps")?),
+        Some(Command::Audit) => Ok(String::from_str(alloc, "audit")?),
         Some(Command::Redo { dump }) => Ok(format!(in alloc; "redo {dump}")?),
         Some(Command::Drill { lines, number }) => {
             Ok(format!(in alloc; "drill, lines {lines}, number {number}")?)

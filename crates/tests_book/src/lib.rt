@@ -6,6 +6,8 @@ mod books;
 #[cfg(test)]
 mod fixtures;
 #[cfg(test)]
+mod past;
+#[cfg(test)]
 mod renewed;
 #[cfg(test)]
 mod same;

@@ -73,8 +73,8 @@ fn renew_three<D: Disk, R: Rules>(rt: &impl Abort, book: &mut Book<D, R>) {
     check_flush(rt, book, 4);
 }
 
-// A new store with that.
-fn renewed_three<D: Disk + Drop, R: Rules>(
+/// A new store with that.
+pub fn renewed_three<D: Disk + Drop, R: Rules>(
     rt: &impl Abort,
     alloc: Global,
     disk: D,

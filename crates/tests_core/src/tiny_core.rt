@@ -30,6 +30,10 @@ impl TinyCore {
         Ok(TinyCore::new(alloc, read_state(alloc, state)?)?)
     }
 
+    pub fn core(&self) -> &Core<TinyRules> {
+        &self.core
+    }
+
     /// Whether a stored step may be replayed.
     pub fn fits_step(&self, step: &Step) -> Result<bool, Fail> {
         Ok(self.core.fits(step)?)

@@ -1,8 +1,17 @@
-use Rattle.std.proofs.Common.{◌∙◌, arith}
+use Rattle.std.proofs.Common.{inr}
 use Rattle.disk_journal.specs.GateFile.{heading_of}
-use Rattle.disk_journal.proofs.Reopening.{ends_with_header}
+use Rattle.disk_journal.proofs.Walking.{cut_at, head_is_damage}
 use Rattle.disk_journal.proofs.reading.read_bodies.Goals as goal
 
-pub returns-then-end-clause-fault : goal.returns-then-end-clause-fault
-returns-then-end-clause-fault g c = λ files told.
-    ends_with_header (heading_of c.args.generation) c.in_ok-end.end (files c.args.file) (c.in_ok-end.ensures.len files told) (omega arith) (c.in_ok-check_header.ensures.header files (c.in_ok-end.ensures.told ∙ told))
+pub returns-then-found-clause-fault : goal.returns-then-found-clause-fault
+returns-then-found-clause-fault g c = λ files told.
+    let is = c.in-Ok.ensures.records files told in
+    inr (inr (cut_at (heading_of c.args.generation) c.in-Ok.found.bodies c.in-Ok.found.at (files c.args.file) is.to (is.cut c.if-found.true)))
+
+pub returns-else-found-clause-bodies : goal.returns-else-found-clause-bodies
+returns-else-found-clause-bodies g c = λ files told.
+    let is = c.in-Ok.ensures.records files told in
+    (is.to, is.closed c.if-found.false)
+
+pub returns-in-Err-clause-fault : goal.returns-in-Err-clause-fault
+returns-in-Err-clause-fault g c = λ files told. head_is_damage c.in-Err.fault (heading_of c.args.generation) (files c.args.file) (c.in-Err.ensures.fault files told)

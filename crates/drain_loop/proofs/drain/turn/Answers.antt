@@ -1,18 +1,19 @@
 use Rattle.std.proofs.Common.{◌≡◌, [], false, None, Err, refl, sym, ap, subst, ◌∙◌, arith}
 use Rattle.step_code.specs.declared.base.Base.{Base}
 use Rattle.ack_steps.specs.Core.{CoreView}
+use Rattle.store_image.proofs.Numbers.{number_small}
 use Rattle.journal_book.specs.Book.{BookView}
 use Rattle.journal_book.specs.Staged.{staged, stamp}
 use Rattle.book_runs.proofs.Going.{goes_nowhere}
 use Rattle.turn_order.specs.Turn.{is_idle}
 use Rattle.drain_turns.specs.Drained.{Ends}
-use Rattle.drain_turns.specs.Works.{AreReady}
+use Rattle.bot_works.specs.Works.{AreReady}
 use Rattle.drain_loop.specs.Calls.{outside, place_of, IsUndamaged}
 use Rattle.drain_loop.specs.Feeds.{IsFailedByOne}
 use Rattle.drain_loop.specs.Turning.{EndsTurn, IsNextMove}
 use Rattle.drain_loop.proofs.Bundles.{still_bundle}
 use Rattle.drain_loop.proofs.Moving.{never_disk}
-use Rattle.drain_loop.proofs.Turning.{IsGoingOn, broken_by, disk_by, due_is, ends_here, is_late, late_not_failed, made_is, made_keeps, never_broken, not_made, number_small, screened_act, screened_fits, turn_undamaged, undamaged_by}
+use Rattle.drain_loop.proofs.Turning.{IsGoingOn, broken_by, disk_by, due_is, ends_here, is_late, late_not_failed, made_is, made_keeps, never_broken, not_made, screened_act, screened_fits, turn_undamaged, undamaged_by}
 use Rattle.drain_loop.proofs.drain.turn.Goals as goal
 
 pub returns-then-is_idle-clause-still : goal.returns-then-is_idle-clause-still

@@ -1,6 +1,6 @@
 use Rattle.std.proofs.Common.{ℕ, List, refl, sym, subst, ◌∙◌, arith}
 use Rattle.drain_turns.specs.Drained.{Ends}
-use Rattle.drain_turns.specs.Works.{AreReady}
+use Rattle.bot_works.specs.Works.{AreReady}
 use Rattle.drain_loop.specs.Calls.{outside, place_of}
 use Rattle.drain_loop.specs.Turning.{OneStep}
 use Rattle.drain_loop.proofs.Looked.{looked_further, none_looked, same_files}

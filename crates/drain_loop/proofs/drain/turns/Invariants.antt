@@ -1,7 +1,7 @@
 use Rattle.std.proofs.Common.{◌≡◌, ◌≤◌, ◌-◌, false, None}
 use Rattle.edge_traits.specs.Shelf.{ShelfView}
 use Rattle.step_code.specs.Spent.{last_given}
-use Rattle.drain_turns.specs.Works.{AreReady}
+use Rattle.bot_works.specs.Works.{AreReady}
 use Rattle.drain_loop.specs.Calls.{outside, place_of}
 use Rattle.drain_loop.specs.Feeds.{AreLookedAt}
 use Rattle.drain_loop.specs.Turning.{Running}

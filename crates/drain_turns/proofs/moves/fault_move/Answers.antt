@@ -6,7 +6,8 @@ use Rattle.step_code.specs.Rules.{bot_named, passes}
 use Rattle.step_code.specs.State.{bots_in_force, hand_of}
 use Rattle.turn_order.proofs.Actors.{full_hand, full_hands_fit}
 use Rattle.turn_order.proofs.Waiting.{worker_of}
-use Rattle.drain_turns.proofs.Moving.{ends_tries, fail_is, is_held, retry_is, shown_is, tries_on}
+use Rattle.bot_works.proofs.Gave.{shown_is}
+use Rattle.drain_turns.proofs.Moving.{ends_tries, fail_is, is_held, retry_is, tries_on}
 use Rattle.drain_turns.proofs.moves.fault_move.Goals as goal
 
 pub unreachable-requires : goal.unreachable-requires

@@ -4,8 +4,8 @@ use Rattle.stored_types.specs.declared.hand.Hand.{Hand}
 use Rattle.step_code.specs.declared.rules.Given.{Given}
 use Rattle.step_code.specs.State.{hand_of}
 use Rattle.turn_order.proofs.Actors.{full_hand, full_hands_fit}
-use Rattle.drain_turns.proofs.Moving.{done_is, shown_is}
-use Rattle.drain_turns.proofs.Working.{given_of}
+use Rattle.bot_works.proofs.Gave.{given_of, shown_is}
+use Rattle.drain_turns.proofs.Moving.{done_is}
 use Rattle.drain_turns.proofs.moves.given_move.Goals as goal
 
 pub unreachable-requires : goal.unreachable-requires

@@ -33,7 +33,7 @@ invariant_of-self g c =
     let writable = subst (λ (b : Base). IsWritableBase first_format b) (sym c.requires.base) c.requires.writable in
     let coded : c.bytes.result.now ≡ code_of_base first_format c.args.base.value = c.bytes.ensures ∙ c.requires.code ∙ ap (λ (b : Base). code_of_base first_format b) (sym c.requires.base) in
     let long = subst (λ (b : BookView g.row.D.Denot g.row.R.Denot). (files : Image) → (g.D.Disk.disk b.disk).told ≡ Some files → AreLong 0 (sealed_whole b.state).outs files) (sym c.self.view_is) c.requires.long in (
-      stores_renewed i.root c.begin_generation.new.root i.journal c.in-Ok.journal i.generation c.args.number c.self.invariant.0 number_is (ap (λ j. j.file) root) (ap (λ j. j.heading) root) (ap (λ j. j.file) made) (ap (λ j. j.heading) made),
+      stores_renewed i.root c.begin_generation.new.root i.journal c.in-Ok.journal i.generation c.args.number c.self.invariant.0 number_is (ap (λ j. j.file) root) (ap (λ j. j.heading) root) (ap (λ j. j.file) made) (ap (λ j. j.heading) made) c.requires.given,
       replayed_created m c.args.base.value c.seal.new.self.state c.new-self-inside.result c.new-self-inside.ensures state_is sound writable,
       pending_created c.new-self-inside.result i.pending i.limit c.in-Ok.journal c.new-self-inside.ensures c.self.invariant.2.bound (omega (arith, ap (λ j. j.length) made, ap length coded, sound.short)),
       subst (λ (s : Base). AreShort s.outs) (sym sealed) (short_sealed i.core.state.outs c.self.invariant.3),
@@ -54,7 +54,7 @@ invariant_of-self-in-Err-1 g c =
     let same = c.in-Err.ensures.same in
     let before : i.broken ≡ false = ap (λ b. b.broken) c.self.view_is ∙ c.requires.whole in
     let still : c.is_disk_fault-self-inside.result ≡ false → (c.begin_generation.new.disk ≡ i.disk) × (c.begin_generation.new.root.broken ≡ false) = λ no. c.in-Err.ensures.still (λ is. absurd (cc (c.is_disk_fault-self-inside.ensures.1 is, no))) in (
-      record { root_file_is = ap (λ j. j.file) same ∙ c.self.invariant.0.root_file_is; root_heading_is = ap (λ j. j.heading) same ∙ c.self.invariant.0.root_heading_is; file_is = c.self.invariant.0.file_is; heading_is = c.self.invariant.0.heading_is },
+      record { root_file_is = ap (λ j. j.file) same ∙ c.self.invariant.0.root_file_is; root_heading_is = ap (λ j. j.heading) same ∙ c.self.invariant.0.root_heading_is; file_is = c.self.invariant.0.file_is; heading_is = c.self.invariant.0.heading_is; given = c.self.invariant.0.given },
       c.self.invariant.1,
       c.self.invariant.2,
       c.self.invariant.3,

@@ -3,9 +3,11 @@ use Rattle.step_code.specs.declared.base.Base.{Base}
 use Rattle.journal_book.specs.Book.{BookView}
 use Rattle.journal_book.specs.Keeping.{AreShort}
 use Rattle.journal_book.specs.Opening.{IsReopened}
+use Rattle.journal_book.proofs.Flushing.{stored_now}
 use Rattle.journal_book.proofs.Long.{long_reopened}
 use Rattle.journal_book.proofs.Opened.{history_small}
 use Rattle.journal_book.proofs.Reopened.{kept_reopened, pending_reopened, replayed_reopened, rest_reopened, view_reopened}
+use Rattle.journal_book.proofs.WholeFiles.{before_told}
 use Rattle.journal_book.proofs.book.Book.reopen.Goals as goal
 
 -- `_` stands for what was opened, which has no name here.
@@ -41,3 +43,10 @@ returns-in-Ok-clause-any_moment g c = λ origin steps more was. c.open_store.ens
 
 pub returns-in-Err-clause-any_moment_err : goal.returns-in-Err-clause-any_moment_err
 returns-in-Err-clause-any_moment_err g c = λ origin steps more was. c.open_store.ensures.histories.run g.R.Rules.meaning origin steps more was
+
+pub returns-in-Ok-clause-stored : goal.returns-in-Ok-clause-stored
+returns-in-Ok-clause-stored g c = λ after told.
+    let disk = c.open_store.new.disk in
+    let was = before_told (g.D.Disk.disk c.args.disk).told (g.D.Disk.disk disk).told after c.open_store.ensures.untold told in
+    let honest = g.met.D.Disk.honest disk after told in
+    stored_now (g.D.Disk.disk disk).may_leave _ _ _ _ _ after honest c.in-Ok.ensures.files c.in-Ok.ensures.history.writable (c.in-Ok.ensures.at_rest was.0 after was.1 told) after honest

@@ -1,0 +1,2 @@
+-- what public contracts cite
+pub mod Audited

@@ -1,0 +1,2 @@
+-- what contracts cite
+pub mod Carried

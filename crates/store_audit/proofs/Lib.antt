@@ -1,0 +1,10 @@
+pub mod Audited
+pub mod Beginning
+pub mod Following
+pub mod Fronts
+pub mod Generations
+pub mod Legal
+pub mod Once
+pub mod Roots
+pub mod Standing
+pub mod Taking
