@@ -13,3 +13,4 @@ pub mod Headed
 pub mod Wider
 pub mod Seen
 pub mod Found
+pub mod Reading

@@ -1,11 +1,11 @@
 //! Lists of items, with the calls on them.
-ghost use Rattle.std.specs.Prelude.{◌≡◌, ◌≢◌, ◌<◌, ◌≤◌, ◌^◌, ◌++◌, ◌∷◌, [], length, max, replicate, IfNone, IfOk, IfSome, IsOk, IsSome, OnErr, OnOk, ◌↔◌};
-ghost use Rattle.link_store.specs.Links.{HasNode, IsMoved, IsPopped, IsPushed, IsPut, IsUnlinked, list_of};
+ghost use Rattle.std.specs.Prelude.{◌≡◌, ◌≢◌, ◌<◌, ◌≤◌, ◌^◌, ◌++◌, ◌∷◌, [], length, max, option_copied, option_map, replicate, slice_get, None, IfNone, IfOk, IfSome, IsOk, IsSome, OnErr, OnOk, ◌↔◌};
+ghost use Rattle.link_store.specs.Links.{HasItem, HasNode, IsMoved, IsPopped, IsPushed, IsPut, IsUnlinked, Place, StandsAt, list_of};
 
 use crate::growth::{add_ring, grow, lone_slot};
-use crate::moves::{len_of, move_first, move_last, pop_first, push_last, take_out};
+use crate::moves::{head_of, len_of, move_first, move_last, pop_first, push_last, take_out};
 use crate::node::Node;
-use crate::slots::{Held, Slot};
+use crate::slots::{Held, Slot, holds, node_behind, value_at, value_behind};
 use base_types::OutOfMemory;
 use std::alloc::Global;
 use std::marker::Model;
@@ -167,11 +167,72 @@ impl<T: Drop> Links<T> {
         Some(value)
     }
 
+    /// How many lists there are.
+    pub fn lists_len(&self) -> usize
+        ensures { result ≡ length self.now.lists }
+    {
+        self.heads.len() - 1
+    }
+
+    /// How many more items may be pushed without memory.
+    pub fn spare(&self) -> usize
+        ensures { result ≡ self.now.spare }
+    {
+        self.room
+    }
+
+    /// How many items were pushed so far.
+    pub fn pushed(&self) -> u64
+        ensures { result ≡ self.now.pushed }
+    {
+        self.pushed
+    }
+
     /// How many items a list has.
     pub fn len(&self, list: u32) -> usize
         requires { list < length self.now.lists }
         ensures { result ≡ length (list_of self.now list) }
     {
         len_of(&self.lens, list as usize + 1)
+    }
+
+    /// The value at the front of a list, if it has one.
+    pub fn front(&self, list: u32) -> Option<&T>
+        requires { list < length self.now.lists }
+        ensures { option_copied result ≡ option_map (λ item. item.value) (slice_get (list_of self.now list) 0) }
+    {
+        let head = head_of(&self.heads, list as usize + 1);
+        value_behind(&self.slots, head)
+    }
+
+    /// The node of the item at the front of a list, if it has one.
+    pub fn first(&self, list: u32) -> Option<Node>
+        requires { list < length self.now.lists }
+        ensures { result ≡ option_map (λ item. item.node) (slice_get (list_of self.now list) 0) }
+    {
+        let head = head_of(&self.heads, list as usize + 1);
+        node_behind(&self.slots, head)
+    }
+
+    /// The node of the item behind that of a node, in its list. There is none where that is the last, or isn't there any more.
+    pub fn next(&self, node: Node) -> Option<Node>
+        ensures behind { (value : T) (place : Place T) → StandsAt (record { node = node; value = value }) place self.now → result ≡ option_map (λ item. item.node) (slice_get place.behind 0) }
+        ensures gone { (HasNode node self.now → ⊥) → result ≡ None }
+    {
+        if !holds(&self.slots, node) {
+            return None;
+        }
+        node_behind(&self.slots, node.slot)
+    }
+
+    /// The value of a node's item, if it is there.
+    pub fn get(&self, node: Node) -> Option<&T>
+        ensures live { IsSome result ↔ HasNode node self.now }
+        ensures value { IfSome result (λ value. HasItem (record { node = node; value = value.now }) self.now) }
+    {
+        if !holds(&self.slots, node) {
+            return None;
+        }
+        value_at(&self.slots, node.slot)
     }
 }

@@ -31,6 +31,14 @@ pub fn len_of(lens: &[usize], ring: usize) -> usize
     lens[ring]
 }
 
+/// The slot that stands before the first one of a ring and behind its last.
+pub fn head_of(heads: &[usize], ring: usize) -> usize
+    requires { ring < length heads.now }
+    ensures { result ≡ at heads.now ring }
+{
+    heads[ring]
+}
+
 /// Takes the first item of a ring off, whose slot is free then.
 pub fn pop_first<T>(
     slots: &mut [Slot<T>],

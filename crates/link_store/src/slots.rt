@@ -1,5 +1,5 @@
 //! The slots that items stand in.
-ghost use Rattle.std.specs.Prelude.{◌≡◌, ◌<◌, length, map, slice_set, get_or, None, option_map, Some, true, ◌↔◌};
+ghost use Rattle.std.specs.Prelude.{◌≡◌, ◌<◌, length, map, slice_set, get_or, None, option_copied, option_map, Some, true, ◌↔◌};
 ghost use Rattle.link_store.specs.Slots.{nexts, prevs, rings, cells};
 ghost use Rattle.link_store.specs.Rings.{at};
 ghost use Rattle.link_store.specs.Kept.{HoldsNode};
@@ -58,6 +58,35 @@ pub fn node_at<T>(slots: &[Slot<T>], k: usize) -> Option<Node>
         }),
         None => None,
     }
+}
+
+/// The value that a slot holds.
+pub fn value_at<T>(slots: &[Slot<T>], k: usize) -> Option<&T>
+    requires { k < length slots.now }
+    ensures { option_copied result ≡ option_map (λ held. held.value) (get_or (cells slots.now) k None) }
+{
+    match &slots[k].held {
+        Some(held) => Some(&held.value),
+        None => None,
+    }
+}
+
+/// The node of the item behind a slot.
+pub fn node_behind<T>(slots: &[Slot<T>], k: usize) -> Option<Node>
+    requires slot { k < length slots.now }
+    requires behind { at (nexts slots.now) k < length slots.now }
+    ensures { result ≡ option_map (λ held. record { slot = at (nexts slots.now) k; number = held.number }) (get_or (cells slots.now) (at (nexts slots.now) k) None) }
+{
+    node_at(slots, next_of(slots, k))
+}
+
+/// The value behind a slot.
+pub fn value_behind<T>(slots: &[Slot<T>], k: usize) -> Option<&T>
+    requires slot { k < length slots.now }
+    requires behind { at (nexts slots.now) k < length slots.now }
+    ensures { option_copied result ≡ option_map (λ held. held.value) (get_or (cells slots.now) (at (nexts slots.now) k) None) }
+{
+    value_at(slots, next_of(slots, k))
 }
 
 /// Whether a slot holds the item of the push that a node names.
