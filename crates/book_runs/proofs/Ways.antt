@@ -19,7 +19,7 @@ use Rattle.journal_book.specs.Staged.{cause_of, staged, stamp, step_cause, IsMov
 use Rattle.journal_book.specs.declared.renew_fault.RenewFault.{RenewFault}
 use Rattle.journal_book.specs.declared.renew_fault.RenewFault.TheVariants as renewal
 use Rattle.journal_book.specs.declared.stage_refusal.StageRefusal.{StageRefusal}
-use Rattle.book_runs.specs.Commit.{commit_cause, first_of, is_to_renew, readied, way_cause}
+use Rattle.book_runs.specs.Commit.{cause_within, commit_cause, first_of, is_to_renew, readied, way_cause}
 use Rattle.book_runs.specs.GoesOn.{IsSameBook}
 
 abbrev unrenewed : RenewFault → Result ℕ RenewFault
@@ -72,18 +72,18 @@ sealed_parts m s (kind.Reload bundle) = refl
 sealed_parts m s (kind.Redo dump) = refl
 sealed_parts m s (kind.Round bot) = refl
 
-sealed_move : (m : Meaning) (s : Base) (now : ℕ) (what : StepKind) → IsMove m s now what → IsMove m (sealed_whole s) now what
-sealed_move m s now kind.Start is = tt
-sealed_move m s now (kind.Collect bot from upto piece) is = is
-sealed_move m s now (kind.FeedEnd bot position) is = tt
-sealed_move m s now (kind.Take bot instance message) is = is
-sealed_move m s now (kind.Done bot instance message bundle sends dumps key line) is = record { hand = is.hand; holds = is.holds; gives = is.gives }
-sealed_move m s now (kind.Retry bot instance message bundle fault) is = record { hand = is.hand; holds = is.holds; gives = is.gives }
-sealed_move m s now (kind.Fail bot instance message bundle fault queues halts) is =
+sealed_move : (m : Meaning) (format : ℕ) (s : Base) (now : ℕ) (what : StepKind) → IsMove m format s now what → IsMove m format (sealed_whole s) now what
+sealed_move m format s now kind.Start is = tt
+sealed_move m format s now (kind.Collect bot from upto piece) is = is
+sealed_move m format s now (kind.FeedEnd bot position) is = tt
+sealed_move m format s now (kind.Take bot instance message) is = is
+sealed_move m format s now (kind.Done bot instance message bundle sends dumps key line) is = record { hand = is.hand; holds = is.holds; gives = is.gives }
+sealed_move m format s now (kind.Retry bot instance message bundle fault) is = record { hand = is.hand; holds = is.holds; gives = is.gives }
+sealed_move m format s now (kind.Fail bot instance message bundle fault queues halts) is =
     record { gave = record { hand = is.gave.hand; holds = is.gave.holds; gives = is.gave.gives }; goes = is.goes; halting = is.halting }
-sealed_move m s now (kind.Reload bundle) is = tt
-sealed_move m s now (kind.Redo dump) is = tt
-sealed_move m s now (kind.Round bot) is = tt
+sealed_move m format s now (kind.Reload bundle) is = tt
+sealed_move m format s now (kind.Redo dump) is = tt
+sealed_move m format s now (kind.Round bot) is = tt
 
 -- ---- the book that is ready for a step
 
@@ -101,23 +101,25 @@ ready_step m book now what = ready_state (λ s. staged m s now what ≡ staged m
 ready_fits : {D R : Type 0} (m : Meaning) (book : BookView D R) (step : Step) → Fits m (readied book).state step → Fits m book.state step
 ready_fits m book step = ready_state (λ s. Fits m s step → Fits m book.state step) book (λ fits. fits) (λ fits. ap first_failing (sym (sealed_parts m book.state step.what)) ∙ fits)
 
-ready_move : {D R : Type 0} (m : Meaning) (book : BookView D R) (now : ℕ) (what : StepKind) → IsMove m book.state now what → IsMove m (readied book).state now what
-ready_move m book now what is = ready_state (λ s. IsMove m s now what) book is (sealed_move m book.state now what is)
+ready_move : {D R : Type 0} (m : Meaning) (format : ℕ) (book : BookView D R) (now : ℕ) (what : StepKind) → IsMove m format book.state now what → IsMove m format (readied book).state now what
+ready_move m format book now what is = ready_state (λ s. IsMove m format s now what) book is (sealed_move m format book.state now what is)
 
 ready_latest : {D R : Type 0} (book : BookView D R) → (readied book).state.latest ≡ book.state.latest
 ready_latest book = ready_state (λ s. s.latest ≡ book.state.latest) book refl refl
 
 -- what a move carries is what the rules give in the book that is ready too
 pub ready_content : {D R : Type 0} (m : Meaning) (book mid : BookView D R) (now : ℕ) (what : StepKind) → IsSameBook (readied book) mid → mid.broken ≡ book.broken
-    → (book.broken ≡ false → Fits m book.state (staged m book.state now what) → IsMove m book.state (stamp book.state now).0 what)
-    → mid.broken ≡ false → Fits m mid.state (staged m mid.state now what) → IsMove m mid.state (stamp mid.state now).0 what
+    → (book.broken ≡ false → Fits m book.state (staged m book.state now what) → IsMove m (readied book).format book.state (stamp book.state now).0 what)
+    → mid.broken ≡ false → Fits m mid.state (staged m mid.state now what) → IsMove m mid.format mid.state (stamp mid.state now).0 what
 ready_content m book mid now what ready same content whole fits =
     let state : mid.state ≡ (readied book).state = ap (λ (b : BookView _ _). b.state) ready in
+    let format : mid.format ≡ (readied book).format = ap (λ (b : BookView _ _). b.format) ready in
     let there = subst (λ (s : Base). Fits m s (staged m s now what)) state fits in
     let here = ready_fits m book (staged m book.state now what) (subst (λ (step : Step). Fits m (readied book).state step) (ready_step m book now what) there) in
-    let moved = ready_move m book (stamp book.state now).0 what (content (sym same ∙ whole) here) in
+    let moved = ready_move m (readied book).format book (stamp book.state now).0 what (content (sym same ∙ whole) here) in
     let moment : stamp mid.state now ≡ stamp book.state now = (λ i. record { 0 = max (min now last_moment) ((ap (λ (s : Base). s.latest) state ∙ ready_latest book) i).0 }) in
-    subst (λ (s : Base). IsMove m s (stamp mid.state now).0 what) (sym state) (subst (λ (t : Moment). IsMove m (readied book).state t.0 what) (sym moment) moved)
+    subst (λ (f : ℕ). IsMove m f mid.state (stamp mid.state now).0 what) (sym format)
+    (subst (λ (s : Base). IsMove m (readied book).format s (stamp mid.state now).0 what) (sym state) (subst (λ (t : Moment). IsMove m (readied book).format (readied book).state t.0 what) (sym moment) moved))
 
 -- ---- what refuses a step
 
@@ -145,3 +147,24 @@ cause_there m book mid now what ready same none =
   where
     as_ready : {D R : Type 0} (book mid : BookView D R) → IsSameBook (readied book) mid → record mid { disk = (readied book).disk; kept = (readied book).kept; broken = (readied book).broken } ≡ readied book
     as_ready book mid ready = ap (λ (b : BookView _ _). record b { disk = (readied book).disk; kept = (readied book).kept; broken = (readied book).broken }) ready
+
+-- ---- in the generation in force
+
+-- what a move carries is what the rules give in the same book, whatever waits
+pub same_content : {D R : Type 0} (m : Meaning) (old mid : BookView D R) (now : ℕ) (what : StepKind) → IsSameBook old mid → mid.broken ≡ old.broken
+    → (old.broken ≡ false → Fits m old.state (staged m old.state now what) → IsMove m old.format old.state (stamp old.state now).0 what)
+    → mid.broken ≡ false → Fits m mid.state (staged m mid.state now what) → IsMove m mid.format mid.state (stamp mid.state now).0 what
+same_content m old mid now what same broken content whole fits =
+    let state : mid.state ≡ old.state = ap (λ (b : BookView _ _). b.state) same in
+    let format : mid.format ≡ old.format = ap (λ (b : BookView _ _). b.format) same in
+    let here = subst (λ (s : Base). Fits m s (staged m s now what)) state fits in
+    subst (λ (f : ℕ). IsMove m f mid.state (stamp mid.state now).0 what) (sym format)
+    (subst (λ (s : Base). IsMove m old.format s (stamp s now).0 what) (sym state) (content (sym broken ∙ whole) here))
+
+-- and it is refused for the same
+pub same_cause : {D R : Type 0} (m : Meaning) (old mid : BookView D R) (now : ℕ) (what : StepKind) → IsSameBook old mid → mid.broken ≡ old.broken
+    → cause_within m old (staged m old.state now what) ≡ cause_of mid.broken (step_cause m mid.state mid.steps mid.limit (staged m mid.state now what))
+same_cause m old mid now what same broken =
+    let step : step_cause m old.state old.steps old.limit (staged m old.state now what) ≡ step_cause m mid.state mid.steps mid.limit (staged m mid.state now what) =
+    sym (ap (λ (b : BookView _ _). step_cause m b.state b.steps b.limit (staged m b.state now what)) same) in
+    (λ i. cause_of (sym broken i) (step i))

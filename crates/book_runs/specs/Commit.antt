@@ -67,6 +67,16 @@ IsUndamaged fault.Disk = Unit {0}
 IsUndamaged (fault.Damaged file at) = ⊥
 IsUndamaged (fault.Refused refusal) = Unit {0}
 
+-- what refuses a step in the generation in force: a broken book, then what refuses the step there
+abbrev pub cause_within : {D R : Type 0} → Meaning → BookView D R → Step → Option StageRefusal
+cause_within m book step = cause_of book.broken (step_cause m book.state book.steps book.limit step)
+
+-- the disk failed in the flush, or this refuses the step
+abbrev pub IsFaultWithin : Option StageRefusal → CommitFault → Type 0
+IsFaultWithin cause fault.Disk = Unit {0}
+IsFaultWithin cause (fault.Damaged file at) = ⊥
+IsFaultWithin cause (fault.Refused refusal) = IsStageRefusal cause refusal
+
 -- ---- what private contracts cite
 
 -- what a renewal's fault says of the step that begins a generation

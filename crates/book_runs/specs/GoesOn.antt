@@ -14,7 +14,7 @@ use Rattle.journal_book.specs.Book.{BookView, durable_steps, waiting_steps, IsKe
 -- durable, and whether the disk has failed are told apart
 abbrev pub longer : {D R : Type 0} → Meaning → BookView D R → List Step → BookView D R → BookView D R
 longer m old made new =
-    record { disk = new.disk; rules = old.rules; generation = old.generation; root = old.root; base = old.base; steps = old.steps ++ made; kept = new.kept; state = replay m old.state made; limit = old.limit; broken = new.broken }
+    record { disk = new.disk; rules = old.rules; format = old.format; generation = old.generation; root = old.root; base = old.base; steps = old.steps ++ made; kept = new.kept; state = replay m old.state made; limit = old.limit; broken = new.broken }
 
 -- nothing of the book changes but its disk, how many steps are durable, and whether the disk has failed
 abbrev pub IsSameBook : {D R : Type 0} → BookView D R → BookView D R → Type 0

@@ -6,7 +6,7 @@ ghost use Rattle.store_image.specs.Stored.{codes_of};
 ghost use Rattle.journal_book.specs.Book.{waiting_steps};
 ghost use Rattle.journal_book.specs.Renewing.{renewal_cause, renewed};
 ghost use Rattle.journal_book.specs.Staged.{most_waiting, most_waiting_bytes, staged, stamp, IsMove};
-ghost use Rattle.book_runs.specs.Commit.{as_refusal, commit_cause, commit_fault, is_to_renew, readied, way_cause, IsCommitFault, IsRoomFault, IsUndamaged, IsWayFault};
+ghost use Rattle.book_runs.specs.Commit.{as_refusal, cause_within, commit_cause, commit_fault, is_to_renew, readied, way_cause, IsCommitFault, IsFaultWithin, IsRoomFault, IsUndamaged, IsWayFault};
 ghost use Rattle.book_runs.specs.GoesOn.{longer, GoesOn, IsSameBook};
 
 use edge_traits::Disk;
@@ -41,7 +41,7 @@ pub fn commit<D: Disk, R: Rules>(
     now: u64,
     what: Move,
 ) -> Result<u64, CommitFault>
-    requires content { book.old.broken ≡ false → Fits R.meaning book.old.state (staged R.meaning book.old.state now what) → IsMove R.meaning book.old.state (stamp book.old.state now).0 what }
+    requires content { book.old.broken ≡ false → Fits R.meaning book.old.state (staged R.meaning book.old.state now what) → IsMove R.meaning (readied book.old).format book.old.state (stamp book.old.state now).0 what }
     ensures ok { OnOk result (GoesOn D.disk R.meaning book.old book.new (staged R.meaning book.old.state now what ∷ [])) }
     ensures book { OnOk result (book.new ≡ longer R.meaning (readied book.old) (staged R.meaning book.old.state now what ∷ []) book.new) }
     ensures number { IfOk result (λ number. number ≡ book.new.state.steps) }
@@ -56,6 +56,40 @@ pub fn commit<D: Disk, R: Rules>(
     ensures count { (D.disk book.old.disk).faults ≤ (D.disk book.new.disk).faults }
 {
     match make_way(book) {
+        Ok(()) => match book.stage(now, what) {
+            Ok(number) => Ok(number),
+            Err(refusal) => Err(CommitFault::Refused(refusal)),
+        },
+        Err(fault) => Err(fault),
+    }
+}
+
+/// Commits the step that a move comes to when the clock shows this moment, in seconds since 1970, in the generation in force: no other
+/// is begun. Where as many steps wait for a flush as may, they are made durable first. Answers the number of the step.
+///
+/// # Errors
+///
+/// `Disk`, and the book is broken from then on. `Refused` with what refuses the step. No step was made then.
+pub fn commit_within<D: Disk, R: Rules>(
+    book: &mut Book<D, R>,
+    now: u64,
+    what: Move,
+) -> Result<u64, CommitFault>
+    requires content { book.old.broken ≡ false → Fits R.meaning book.old.state (staged R.meaning book.old.state now what) → IsMove R.meaning book.old.format book.old.state (stamp book.old.state now).0 what }
+    ensures ok { OnOk result (GoesOn D.disk R.meaning book.old book.new (staged R.meaning book.old.state now what ∷ [])) }
+    ensures book { OnOk result (book.new ≡ longer R.meaning book.old (staged R.meaning book.old.state now what ∷ []) book.new) }
+    ensures number { IfOk result (λ number. number ≡ book.new.state.steps) }
+    ensures causes { OnOk result (cause_within R.meaning book.old (staged R.meaning book.old.state now what) ≡ None) }
+    ensures err { OnErr result (GoesOn D.disk R.meaning book.old book.new []) }
+    ensures same { OnErr result (IsSameBook book.old book.new) }
+    ensures refused { IfErr result (IsFaultWithin (cause_within R.meaning book.old (staged R.meaning book.old.state now what))) }
+    ensures broken { IsErrOf result CommitFault.Disk → book.new.broken ≡ true }
+    ensures whole { (result ≢ Err CommitFault.Disk) → book.new.broken ≡ book.old.broken }
+    ensures untold { (D.disk book.old.disk).told ≡ None → (D.disk book.new.disk).told ≡ None }
+    ensures failed { IsErrOf result CommitFault.Disk → Rose (D.disk book.old.disk).faults (D.disk book.new.disk).faults }
+    ensures count { (D.disk book.old.disk).faults ≤ (D.disk book.new.disk).faults }
+{
+    match make_room(book) {
         Ok(()) => match book.stage(now, what) {
             Ok(number) => Ok(number),
             Err(refusal) => Err(CommitFault::Refused(refusal)),
@@ -88,8 +122,8 @@ fn make_way<D: Disk, R: Rules>(book: &mut Book<D, R>) -> Result<(), CommitFault>
     }
 }
 
-// Whether the codes of the generation's steps have more than half of the bytes that they may have.
-fn is_half_full<D: Disk, R: Rules>(book: &Book<D, R>) -> bool
+/// Whether the codes of the generation's steps have more than half of the bytes that they may have.
+pub fn is_half_full<D: Disk, R: Rules>(book: &Book<D, R>) -> bool
     ensures { result ≡ is_to_renew book.now }
 {
     book.step_bytes() > book.limit() / 2

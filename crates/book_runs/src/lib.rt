@@ -4,4 +4,4 @@
 
 mod committing;
 
-pub use committing::{CommitFault, commit};
+pub use committing::{CommitFault, commit, commit_within, is_half_full};

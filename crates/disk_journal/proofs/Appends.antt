@@ -5,7 +5,8 @@ use Rattle.std.proofs.lemmas.Bool.{cases_eq}
 use Rattle.std.proofs.lemmas.Grind.{common_steps, flat_map-append}
 use Rattle.std.proofs.lemmas.List.{append-nil, take-append-drop, take_at, drop_at, drop_more, take_all, drop_all, length-take}
 use Rattle.edge_traits.specs.Disk.{Image, overwritten, Torn, Only, MayFollow}
-use Rattle.disk_journal.specs.GateFile.{Heading, header, open_record, open_records, gate_file, HaveLengths, HasOldOrNew}
+use Rattle.disk_journal.specs.declared.header.Heading.{Heading}
+use Rattle.disk_journal.specs.GateFile.{header, open_record, open_records, gate_file, HaveLengths, HasOldOrNew}
 use Rattle.disk_journal.specs.Appending.{shut_record, IsRecordOf, IsAtEnd}
 
 length_overwritten : (old bytes : List ℕ) (at : ℕ) → at ≤ length old → at + length bytes ≤ length (overwritten old at bytes)

@@ -1,7 +1,8 @@
 -- A file has bodies, or it is damaged.
 use Rattle.std.proofs.Common.{◌≡◌, ◌≤◌, inl, inr, ℕ, zero, suc, List, [], ◌∷◌, ◌++◌, length, take, drop, refl, sym, ◌∙◌, ap, arith, append_assoc, length-append}
 use Rattle.std.proofs.lemmas.List.{append-nil, take-append-drop}
-use Rattle.disk_journal.specs.GateFile.{Heading, header, header_length, open_record, open_records, HaveLengths, HasBodies, BeginsWithRecord, IsDamagedAt}
+use Rattle.disk_journal.specs.declared.header.Heading.{Heading}
+use Rattle.disk_journal.specs.GateFile.{header, header_length, open_record, open_records, HaveLengths, HasBodies, BeginsWithRecord, IsDamagedAt}
 use Rattle.disk_journal.proofs.Appends.{have_lengths_push, open_records_push}
 
 -- whole records with these bodies, a gate, and bytes behind it

@@ -3,7 +3,8 @@ use Rattle.std.proofs.Common.{◌≡◌, ◌≢◌, ◌<◌, ◌^◌, inl, inr, 
 use Rattle.std.specs.Int.{to_be_bytes, from_be_bytes, w64}
 use Rattle.std.proofs.lemmas.Nat.{from_be_bytes-to_be_bytes_8}
 use Rattle.std.proofs.lemmas.List.{append_cancel_left, take_at}
-use Rattle.disk_journal.specs.GateFile.{Heading, header, open_record, open_records, gate_file, HaveLengths, HasBodies, HasRecords, BeginsWithRecord, IsCutAt, IsDamagedAt, IsHeadless}
+use Rattle.disk_journal.specs.declared.header.Heading.{Heading}
+use Rattle.disk_journal.specs.GateFile.{header, open_record, open_records, gate_file, HaveLengths, HasBodies, HasRecords, BeginsWithRecord, IsCutAt, IsDamagedAt, IsHeadless}
 
 pub length_header : (heading : Heading) → length (header heading) ≡ 16
 length_header heading = refl

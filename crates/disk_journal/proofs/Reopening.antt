@@ -4,7 +4,8 @@ use Rattle.std.specs.Prelude.{⊤}
 use Rattle.std.proofs.lemmas.List.{take_at, take_all}
 use Rattle.edge_traits.specs.Disk.{DiskView, Image, Cut, MayFollow, Adds, Only, IsImage, Elapses, Leaves, LeavesOthers}
 use Rattle.edge_traits.proofs.Moments.{started, goes_on, run_on, widened}
-use Rattle.disk_journal.specs.GateFile.{Heading, header, open_records, gate_file, HasBodies, HaveSameBodies, IsHeadless}
+use Rattle.disk_journal.specs.declared.header.Heading.{Heading}
+use Rattle.disk_journal.specs.GateFile.{header, open_records, gate_file, HasBodies, HaveSameBodies, IsHeadless}
 use Rattle.disk_journal.specs.Reads.{OnlyReads, IsReadTo, IsClosed}
 
 pub ends_with_header : (heading : Heading) (end : ℕ) (file : List ℕ) → end ≡ length file → end ≤ 16 → take 16 file ≡ header heading → IsHeadless heading file 16

@@ -2,7 +2,8 @@
 use Rattle.std.proofs.Common.{◌≡◌, ◌<◌, ◌+◌, ◌^◌, ℕ, List, [], ◌∷◌, ◌++◌, length, take, ◌∙◌, ap, arith, length-append}
 use Rattle.std.proofs.lemmas.List.{take_at}
 use Rattle.edge_traits.specs.Disk.{Image, Only}
-use Rattle.disk_journal.specs.GateFile.{Heading, header, open_record, open_records, gate_file}
+use Rattle.disk_journal.specs.declared.header.Heading.{Heading}
+use Rattle.disk_journal.specs.GateFile.{header, open_record, open_records, gate_file}
 use Rattle.disk_journal.specs.Appending.{shut_record, IsRecordOf, IsAtEnd}
 use Rattle.disk_journal.specs.Journal.{JournalView, IsAtRest}
 use Rattle.disk_journal.proofs.Appends.{have_lengths_push, open_records_push}

@@ -5,7 +5,8 @@ use Rattle.std.specs.Int.{to_be_bytes, w64}
 use Rattle.std.proofs.Math.Seq.{drop-append_seam}
 use Rattle.std.proofs.lemmas.List.{take-append-drop, length-take-le, drop-drop, length-drop}
 use Rattle.edge_traits.specs.Disk.{DiskView, Image}
-use Rattle.disk_journal.specs.GateFile.{Heading, header, header_length, open_record, open_records, HasRecords, IsCutAt}
+use Rattle.disk_journal.specs.declared.header.Heading.{Heading}
+use Rattle.disk_journal.specs.GateFile.{header, header_length, open_record, open_records, HasRecords, IsCutAt}
 use Rattle.disk_journal.specs.Journal.{IsFaultOf, IsHeadFault}
 use Rattle.disk_journal.specs.declared.journal.JournalFault.{JournalFault}
 use Rattle.disk_journal.specs.declared.journal.JournalFault.TheVariants as fault

@@ -2,7 +2,8 @@
 use Rattle.std.specs.Prelude.{◌≡◌, ◌≢◌, ◌<◌, ◌^◌, ℕ, List, [], ◌∷◌, ◌++◌, length}
 use Rattle.std.specs.Int.{to_be_bytes, w64}
 use Rattle.edge_traits.specs.Disk.{Only}
-use Rattle.disk_journal.specs.GateFile.{Heading, gate_file, HaveLengths}
+use Rattle.disk_journal.specs.declared.header.Heading.{Heading}
+use Rattle.disk_journal.specs.GateFile.{gate_file, HaveLengths}
 
 -- the length of a body, the body, and a closed gate
 abbrev pub shut_record : List ℕ → List ℕ

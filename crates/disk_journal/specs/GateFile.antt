@@ -2,19 +2,7 @@
 use Rattle.std.specs.Prelude.{◌≡◌, ◌≢◌, ◌⊎◌, ◌<◌, ◌^◌, ℕ, List, [], ◌∷◌, ◌++◌, length, take, flat_map, codes, Option, Some, None}
 use Rattle.std.specs.Int.{to_be_bytes, w32, w64}
 use Rattle.std.specs.List.{AllByRecursion}
-
--- the number of the format of a file's records, and its generation
-pub record Heading : Type 0 where
-  pub format : ℕ
-  pub generation : ℕ
-
--- the format that is written
-abbrev pub first_format : ℕ
-first_format = 1
-
--- what a file of a generation begins with in that format
-abbrev pub heading_of : ℕ → Heading
-heading_of generation = record { format = first_format; generation = generation }
+use Rattle.disk_journal.specs.declared.header.Heading.{Heading}
 
 -- four letters, the number of the format, and the file's generation
 abbrev pub header : Heading → List ℕ

@@ -1,7 +1,8 @@
 -- A journal over its file, as contracts see it.
 use Rattle.std.specs.Prelude.{◌≡◌, ◌≢◌, ℕ, Bool, false, List, length}
 use Rattle.edge_traits.specs.Disk.{Image, Only}
-use Rattle.disk_journal.specs.GateFile.{Heading, gate_file, HaveLengths, IsDamagedAt, IsHeadless}
+use Rattle.disk_journal.specs.declared.header.Heading.{Heading}
+use Rattle.disk_journal.specs.GateFile.{gate_file, HaveLengths, IsDamagedAt, IsHeadless}
 use Rattle.disk_journal.specs.declared.journal.JournalFault.{JournalFault}
 use Rattle.disk_journal.specs.declared.journal.JournalFault.TheVariants as fault
 

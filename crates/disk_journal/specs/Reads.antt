@@ -2,7 +2,8 @@
 use Rattle.std.specs.Prelude.{◌≡◌, ◌≢◌, ◌⊎◌, ◌<◌, ◌≤◌, ◌^◌, ℕ, Bool, true, false, List, ◌∷◌, ◌++◌, length, drop, ⊤}
 use Rattle.std.specs.Int.{to_be_bytes, w64}
 use Rattle.edge_traits.specs.Disk.{DiskView, Image, IsImage, Adds}
-use Rattle.disk_journal.specs.GateFile.{Heading, header, open_record, open_records, HaveLengths, BeginsWithRecord}
+use Rattle.disk_journal.specs.declared.header.Heading.{Heading}
+use Rattle.disk_journal.specs.GateFile.{header, open_record, open_records, HaveLengths, BeginsWithRecord}
 
 -- the disk only read: nothing changed, and a crash leaves what it might have left before
 pub record OnlyReads (old new : DiskView) : Type 0 where

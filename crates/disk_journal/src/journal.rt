@@ -1,12 +1,12 @@
 ghost use Rattle.std.specs.Prelude.{◌≡◌, ◌≢◌, ◌⊎◌, ◌↔◌, ◌<◌, ◌≤◌, ◌+◌, ◌-◌, ◌++◌, [], ◌∷◌, ℕ, List, Bool, true, false, length, take, Some, None, Ok, Err, IfOk, IfErr, OnOk, OnErr, IsErrOf, IsErr};
 ghost use Rattle.edge_traits.specs.Count.{Rose};
 ghost use Rattle.edge_traits.specs.Disk.{Image, overwritten, ChangesOnly, Adds, Only, Leaves, LeavesOthers};
-ghost use Rattle.disk_journal.specs.GateFile.{Heading, heading_of, header_length, frame_length, longest_journal, gate_file, HasBodies, HasOldOrNew, HaveSameBodies};
+ghost use Rattle.disk_journal.specs.GateFile.{header_length, frame_length, longest_journal, gate_file, HasBodies, HasOldOrNew, HaveSameBodies};
 ghost use Rattle.disk_journal.specs.Appending.{shut_record, IsAtEnd, IsRecordOf};
 ghost use Rattle.disk_journal.specs.Journal.{IsAtRest, IsFaultOf};
 
 use crate::durable::{cut_durably, write_durably};
-use crate::header::{CLOSED, FRAME, HEADER, OPEN, header};
+use crate::header::{CLOSED, FRAME, HEADER, Heading, OPEN, header};
 use crate::reading::read_bodies;
 use base_types::{BlobList, OutOfMemory};
 use edge_traits::{Disk, Failed};
@@ -59,7 +59,7 @@ pub enum AppendFault {
 #[derive(Debug, Drop)]
 pub struct Journal {
     file: u64,
-    generation: u64,
+    heading: Heading,
     end: u64,
     broken: bool,
     // Room for the next record without its gate, and for the gate that follows it.
@@ -68,12 +68,12 @@ pub struct Journal {
 
 impl Model for Journal {
     ghost use Rattle.disk_journal.specs.Journal.{JournalView};
-    ghost use Rattle.disk_journal.specs.GateFile.{heading_of, header_length, frame_length};
+    ghost use Rattle.disk_journal.specs.GateFile.{header_length, frame_length};
     ghost use Rattle.std.specs.Prelude.{length, ◌-◌, ◌<◌, ◌≤◌};
 
     ghost Value = { JournalView };
 
-    ghost view = { λ j. record { file = j.file; heading = heading_of j.generation; length = j.end; room = length j.buffer.items - frame_length; broken = j.broken } };
+    ghost view = { λ j. record { file = j.file; heading = j.heading; length = j.end; room = length j.buffer.items - frame_length; broken = j.broken } };
 
     ghost invariant = { λ j. (header_length < j.end) × (frame_length ≤ length j.buffer.items) };
 }
@@ -88,13 +88,13 @@ impl Journal {
         alloc: Global,
         disk: &mut D,
         file: u64,
-        generation: u64,
+        heading: Heading,
         first: &[u8],
     ) -> Result<Journal, JournalFault>
         requires small { header_length + 1 + frame_length + length first.now ≤ longest_journal }
-        ensures journal { IfOk result (λ j. j ≡ record { file = file; heading = heading_of generation; length = header_length + 1 + frame_length + length first.now; room = 0; broken = false }) }
+        ensures journal { IfOk result (λ j. j ≡ record { file = file; heading = heading; length = header_length + 1 + frame_length + length first.now; room = 0; broken = false }) }
         ensures created { (files after : Image) → (D.disk disk.old).told ≡ Some files → (D.disk disk.new).told ≡ Some after
-            → OnOk result (after file ≡ gate_file (heading_of generation) (first.now ∷ []) 0) }
+            → OnOk result (after file ≡ gate_file heading (first.now ∷ []) 0) }
         ensures at_rest { (files after : Image) → (D.disk disk.old).told ≡ Some files → (D.disk disk.new).told ≡ Some after
             → IfOk result (λ j. IsAtRest j (D.disk disk.new).may_leave (first.now ∷ []) after) }
         ensures elsewhere { (files : Image) → (D.disk disk.old).told ≡ Some files → ChangesOnly files (D.disk disk.new).told file }
@@ -109,13 +109,13 @@ impl Journal {
         ensures no_memory { IsErrOf result JournalFault.OutOfMemory → disk.new ≡ disk.old }
         ensures not_damaged { (at : ℕ) → IsErrOf result (JournalFault.Damaged at) → ⊥ }
     {
-        let bytes = new_file(alloc, generation, first)?;
+        let bytes = new_file(alloc, heading, first)?;
         let buffer = vec![in alloc; 0; FRAME]?;
         disk.cut(file, 0)?;
         write_durably(disk, file, 0, &bytes)?;
         Ok(Journal {
             file,
-            generation,
+            heading,
             end: bytes.len() as u64,
             broken: false,
             buffer,
@@ -133,16 +133,16 @@ impl Journal {
         alloc: Global,
         disk: &mut D,
         file: u64,
-        generation: u64,
+        heading: Heading,
     ) -> Result<(Journal, BlobList), JournalFault>
-        ensures journal { IfOk result (λ found. (found.0.file ≡ file) × (found.0.heading ≡ heading_of generation) × (found.0.room ≡ 0) × (found.0.broken ≡ false)) }
-        ensures length { IfOk result (λ found. found.0.length ≡ length (gate_file (heading_of generation) found.1 0)) }
-        ensures bodies { (files : Image) → (D.disk disk.old).told ≡ Some files → IfOk result (λ found. HasBodies (heading_of generation) found.1 (files file)) }
+        ensures journal { IfOk result (λ found. (found.0.file ≡ file) × (found.0.heading ≡ heading) × (found.0.room ≡ 0) × (found.0.broken ≡ false)) }
+        ensures length { IfOk result (λ found. found.0.length ≡ length (gate_file heading found.1 0)) }
+        ensures bodies { (files : Image) → (D.disk disk.old).told ≡ Some files → IfOk result (λ found. HasBodies heading found.1 (files file)) }
         ensures at_rest { (files after : Image) → (D.disk disk.old).told ≡ Some files → (D.disk disk.new).told ≡ Some after
             → IfOk result (λ found. IsAtRest found.0 (D.disk disk.new).may_leave found.1 after) }
         ensures front { (files after : Image) → (D.disk disk.old).told ≡ Some files → (D.disk disk.new).told ≡ Some after
             → IfOk result (λ found. after file ≡ take found.0.length (files file)) }
-        ensures fault { (files : Image) → (D.disk disk.old).told ≡ Some files → IfErr result (IsFaultOf (heading_of generation) (files file)) }
+        ensures fault { (files : Image) → (D.disk disk.old).told ≡ Some files → IfErr result (IsFaultOf heading (files file)) }
         ensures nothing_cut { (at : ℕ) → IsErrOf result (JournalFault.Damaged at) → (D.disk disk.new).told ≡ (D.disk disk.old).told }
         ensures no_memory { IsErrOf result JournalFault.OutOfMemory → (D.disk disk.new).told ≡ (D.disk disk.old).told }
         ensures elsewhere { (files : Image) → (D.disk disk.old).told ≡ Some files → ChangesOnly files (D.disk disk.new).told file }
@@ -152,18 +152,18 @@ impl Journal {
         // A crash at any moment leaves what it might have left before, or the same records.
         ensures any_moment { (files : Image) → (D.disk disk.old).told ≡ Some files
             → Leaves (D.disk disk.old) (D.disk disk.new)
-            (λ image. ((D.disk disk.old).may_leave file (image file) ⊎ HaveSameBodies (heading_of generation) (files file) (image file))
+            (λ image. ((D.disk disk.old).may_leave file (image file) ⊎ HaveSameBodies heading (files file) (image file))
             × LeavesOthers (D.disk disk.old) file image) }
         ensures failed { IsErrOf result JournalFault.Disk → Rose (D.disk disk.old).faults (D.disk disk.new).faults }
         ensures count { (D.disk disk.old).faults ≤ (D.disk disk.new).faults }
     {
         let buffer = vec![in alloc; 0; FRAME]?;
         disk.sync(file)?;
-        let (bodies, gate) = read_bodies(alloc, disk, file, generation)?;
+        let (bodies, gate) = read_bodies(alloc, disk, file, heading)?;
         cut_durably(disk, file, gate + 1)?;
         let journal = Journal {
             file,
-            generation,
+            heading,
             end: gate + 1,
             broken: false,
             buffer,
@@ -297,12 +297,12 @@ fn write_record<D: Disk>(disk: &mut D, file: u64, end: u64, bytes: &[u8]) -> Res
 }
 
 // The bytes of a file with one record.
-fn new_file(alloc: Global, generation: u64, first: &[u8]) -> Result<Vec<u8>, AllocError>
+fn new_file(alloc: Global, heading: Heading, first: &[u8]) -> Result<Vec<u8>, AllocError>
     requires { header_length + 1 + frame_length + length first.now ≤ longest_journal }
-    ensures { IfOk result (λ bytes. bytes.items ≡ gate_file (heading_of generation) (first.now ∷ []) 0) }
+    ensures { IfOk result (λ bytes. bytes.items ≡ gate_file heading (first.now ∷ []) 0) }
 {
     let mut bytes = Vec::with_capacity(alloc, HEADER + FRAME + 1 + first.len())?;
-    bytes.extend_from_slice(&header(generation))?;
+    bytes.extend_from_slice(&header(heading))?;
     bytes.push(OPEN)?;
     bytes.extend_from_slice(&(first.len() as u64).to_be_bytes())?;
     bytes.extend_from_slice(first)?;

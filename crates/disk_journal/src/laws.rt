@@ -1,5 +1,6 @@
 ghost use Rattle.std.specs.Prelude.{◌≡◌, ℕ, List};
-ghost use Rattle.disk_journal.specs.GateFile.{Heading, HasBodies, IsDamagedAt};
+ghost use Rattle.disk_journal.specs.declared.header.Heading.{Heading};
+ghost use Rattle.disk_journal.specs.GateFile.{HasBodies, IsDamagedAt};
 
 /// A file stands for one list of bodies.
 pub fn bodies_are_one()

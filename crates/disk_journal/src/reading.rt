@@ -2,12 +2,12 @@ ghost use Rattle.std.specs.Prelude.{◌≡◌, ◌≢◌, ◌<◌, ◌≤◌, �
 ghost use Rattle.std.specs.Int.{to_be_bytes, w64};
 ghost use Rattle.edge_traits.specs.Count.{Rose};
 ghost use Rattle.edge_traits.specs.Disk.{Image};
-ghost use Rattle.disk_journal.specs.GateFile.{Heading, heading_of, header, header_length, open_records, gate_file, HasRecords};
+ghost use Rattle.disk_journal.specs.GateFile.{header, header_length, open_records, gate_file, HasRecords};
 ghost use Rattle.disk_journal.specs.Journal.{IsFaultOf, IsHeadFault};
 ghost use Rattle.disk_journal.specs.Reads.{OnlyReads, BeginsWithBody, IsReadOf, IsReadTo, IsCutShort, IsClosed, IsOpen};
 
 use crate::JournalFault;
-use crate::header::{FRAME, HEADER, OPEN, header};
+use crate::header::{FRAME, HEADER, Heading, OPEN, header};
 use base_types::{Blob, BlobList, read_u64};
 use edge_traits::Disk;
 use std::alloc::Global;
@@ -22,17 +22,17 @@ pub fn read_bodies<D: Disk>(
     alloc: Global,
     disk: &mut D,
     file: u64,
-    generation: u64,
+    heading: Heading,
 ) -> Result<(BlobList, u64), JournalFault>
     ensures place { IfOk result (λ found. found.1 + 1 < 2 ^ 64) }
-    ensures length { IfOk result (λ found. found.1 + 1 ≡ length (gate_file (heading_of generation) found.0 0)) }
+    ensures length { IfOk result (λ found. found.1 + 1 ≡ length (gate_file heading found.0 0)) }
     ensures bodies { (files : Image) → (D.disk disk.old).told ≡ Some files
-        → IfOk result (λ found. IsReadTo (heading_of generation) found.0 found.1 (drop found.1 (files file)) (files file) × IsClosed (drop found.1 (files file))) }
-    ensures fault { (files : Image) → (D.disk disk.old).told ≡ Some files → IfErr result (IsFaultOf (heading_of generation) (files file)) }
+        → IfOk result (λ found. IsReadTo heading found.0 found.1 (drop found.1 (files file)) (files file) × IsClosed (drop found.1 (files file))) }
+    ensures fault { (files : Image) → (D.disk disk.old).told ≡ Some files → IfErr result (IsFaultOf heading (files file)) }
     ensures reads { OnlyReads (D.disk disk.old) (D.disk disk.new) }
     ensures failed { IsErrOf result JournalFault.Disk → Rose (D.disk disk.old).faults (D.disk disk.new).faults }
 {
-    match read_file(alloc, disk, file, generation) {
+    match read_file(alloc, disk, file, heading) {
         Ok(found) => {
             if found.is_cut {
                 Err(JournalFault::Damaged { at: found.at })
@@ -54,15 +54,15 @@ pub fn read_records<D: Disk>(
     alloc: Global,
     disk: &mut D,
     file: u64,
-    generation: u64,
+    heading: Heading,
 ) -> Result<(BlobList, Option<u64>), JournalFault>
     ensures short { IfOk result (λ found. header_length + length (open_records found.0) + 1 < 2 ^ 64) }
-    ensures records { (files : Image) → (D.disk disk.old).told ≡ Some files → IfOk result (λ found. HasRecords (heading_of generation) found.0 found.1 (files file)) }
-    ensures fault { (files : Image) → (D.disk disk.old).told ≡ Some files → IfErr result (IsHeadFault (heading_of generation) (files file)) }
+    ensures records { (files : Image) → (D.disk disk.old).told ≡ Some files → IfOk result (λ found. HasRecords heading found.0 found.1 (files file)) }
+    ensures fault { (files : Image) → (D.disk disk.old).told ≡ Some files → IfErr result (IsHeadFault heading (files file)) }
     ensures reads { OnlyReads (D.disk disk.old) (D.disk disk.new) }
     ensures failed { IsErrOf result JournalFault.Disk → Rose (D.disk disk.old).faults (D.disk disk.new).faults }
 {
-    match read_file(alloc, disk, file, generation) {
+    match read_file(alloc, disk, file, heading) {
         Ok(found) => {
             if found.is_cut {
                 Ok((found.bodies, Some(found.at)))
@@ -86,17 +86,17 @@ fn read_file<D: Disk>(
     alloc: Global,
     disk: &mut D,
     file: u64,
-    generation: u64,
+    heading: Heading,
 ) -> Result<Records, JournalFault>
     ensures place { IfOk result (λ found. found.at + 1 < 2 ^ 64) }
     ensures length { IfOk result (λ found. found.at ≡ header_length + length (open_records found.bodies)) }
-    ensures records { (files : Image) → (D.disk disk.old).told ≡ Some files → IfOk result (λ found. IsReadOf (heading_of generation) found.bodies found.at found.is_cut (files file)) }
-    ensures fault { (files : Image) → (D.disk disk.old).told ≡ Some files → IfErr result (IsHeadFault (heading_of generation) (files file)) }
+    ensures records { (files : Image) → (D.disk disk.old).told ≡ Some files → IfOk result (λ found. IsReadOf heading found.bodies found.at found.is_cut (files file)) }
+    ensures fault { (files : Image) → (D.disk disk.old).told ≡ Some files → IfErr result (IsHeadFault heading (files file)) }
     ensures reads { OnlyReads (D.disk disk.old) (D.disk disk.new) }
     ensures failed { IsErrOf result JournalFault.Disk → Rose (D.disk disk.old).faults (D.disk disk.new).faults }
 {
     let end = disk.len(file)?;
-    check_header(disk, file, generation)?;
+    check_header(disk, file, heading)?;
     if end <= HEADER as u64 {
         return Err(JournalFault::Damaged { at: HEADER as u64 });
     }
@@ -175,15 +175,15 @@ pub fn next_record<D: Disk>(
     }
 }
 
-fn check_header<D: Disk>(disk: &mut D, file: u64, generation: u64) -> Result<(), JournalFault>
-    ensures header { (files : Image) → (D.disk disk.old).told ≡ Some files → OnOk result (take header_length (files file) ≡ header (heading_of generation)) }
-    ensures fault { (files : Image) → (D.disk disk.old).told ≡ Some files → IfErr result (IsHeadFault (heading_of generation) (files file)) }
+fn check_header<D: Disk>(disk: &mut D, file: u64, heading: Heading) -> Result<(), JournalFault>
+    ensures header { (files : Image) → (D.disk disk.old).told ≡ Some files → OnOk result (take header_length (files file) ≡ header heading) }
+    ensures fault { (files : Image) → (D.disk disk.old).told ≡ Some files → IfErr result (IsHeadFault heading (files file)) }
     ensures reads { OnlyReads (D.disk disk.old) (D.disk disk.new) }
     ensures failed { IsErrOf result JournalFault.Disk → Rose (D.disk disk.old).faults (D.disk disk.new).faults }
 {
     let mut bytes = [0; HEADER];
     let count = disk.read_at(file, 0, &mut bytes)?;
-    if count < HEADER || bytes != header(generation) {
+    if count < HEADER || bytes != header(heading) {
         return Err(JournalFault::Damaged { at: 0 });
     }
     Ok(())

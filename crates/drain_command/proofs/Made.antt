@@ -72,7 +72,7 @@ pub record Reopened {D R : Type 0} (disk : D → DiskView) (m : Meaning) (files 
   pub tells : (now : Image) × ((disk book.disk).told ≡ Some now)
   pub call : (origin : Origin) (steps more : List Step) → StandsNow m origin steps more (disk old) → IsOpenedCall disk m origin steps more old book
 
-pub reopened_so : {D R : Type 0} {disk : D → DiskView} {m : Meaning} (files : Image) (old : D) (rules : R) (limit : ℕ) (book : BookView D R) → book ≡ opened_with m rules book.generation book.root book.base book.steps limit book.disk
+pub reopened_so : {D R : Type 0} {disk : D → DiskView} {m : Meaning} (files : Image) (old : D) (rules : R) (limit : ℕ) (book : BookView D R) → book ≡ opened_with m rules book.format book.generation book.root book.base book.steps limit book.disk
     → Opens m files book.generation book.base book.steps → IsRootLength files book.generation book.root → TellsLong (disk book.disk).told book.state.outs
     → ((origin : Origin) (steps more : List Step) → StandsNow m origin steps more (disk old) → IsReopened disk m origin steps more book)
     → ((origin : Origin) (steps more : List Step) → StandsNow m origin steps more (disk old) → Leaves (disk old) (disk book.disk) (StandsFor m origin steps more)) → Reopened disk m files old book

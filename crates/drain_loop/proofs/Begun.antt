@@ -34,6 +34,7 @@ use Rattle.drain_turns.proofs.Turning.{all_kept}
 use Rattle.drain_loop.specs.Calls.{place_with, round_of, rounds_of, with_bundle, IsOpened}
 use Rattle.drain_loop.specs.Opening.{HaveFinished, IsPlain}
 use Rattle.drain_loop.proofs.Turning.{behind_is}
+use Rattle.step_code.specs.Code.{first_format}
 
 -- ---- a step that carries nothing
 
@@ -49,17 +50,17 @@ plain_stays m s now (kind.Reload bundle) plain = refl
 plain_stays m s now (kind.Redo dump) plain = absurd plain
 plain_stays m s now (kind.Round bot) plain = refl
 
-pub plain_move : (m : Meaning) (s : Base) (now : ℕ) (what : StepKind) → IsPlain what → IsMove m s now what
-plain_move m s now kind.Start plain = tt
-plain_move m s now (kind.Collect bot from upto piece) plain = absurd plain
-plain_move m s now (kind.FeedEnd bot position) plain = absurd plain
-plain_move m s now (kind.Take bot instance message) plain = absurd plain
-plain_move m s now (kind.Done bot instance message bundle sends dumps key line) plain = absurd plain
-plain_move m s now (kind.Retry bot instance message bundle note) plain = absurd plain
-plain_move m s now (kind.Fail bot instance message bundle note queues halts) plain = absurd plain
-plain_move m s now (kind.Reload bundle) plain = tt
-plain_move m s now (kind.Redo dump) plain = absurd plain
-plain_move m s now (kind.Round bot) plain = tt
+pub plain_move : (m : Meaning) (format : ℕ) (s : Base) (now : ℕ) (what : StepKind) → IsPlain what → IsMove m format s now what
+plain_move m format s now kind.Start plain = tt
+plain_move m format s now (kind.Collect bot from upto piece) plain = absurd plain
+plain_move m format s now (kind.FeedEnd bot position) plain = absurd plain
+plain_move m format s now (kind.Take bot instance message) plain = absurd plain
+plain_move m format s now (kind.Done bot instance message bundle sends dumps key line) plain = absurd plain
+plain_move m format s now (kind.Retry bot instance message bundle note) plain = absurd plain
+plain_move m format s now (kind.Fail bot instance message bundle note queues halts) plain = absurd plain
+plain_move m format s now (kind.Reload bundle) plain = tt
+plain_move m format s now (kind.Redo dump) plain = absurd plain
+plain_move m format s now (kind.Round bot) plain = tt
 
 pub plain_staged : (m : Meaning) (s : Base) (now : ℕ) (what : StepKind) → IsPlain what → (staged m s now what).what ≡ what
 plain_staged m s now what plain = plain_stays m s (stamp s now).0 what plain
@@ -76,7 +77,7 @@ opening_due o p what later now opening left latest plain fits shows = record {
   busy = λ none. absurd (never_none what later (sym opening ∙ none));
   left = left;
   next = subst (λ (os : List StepKind). IsNextKind o p.state os (staged o.meaning p.state now what).what) (sym opening) (plain_staged o.meaning p.state now what plain);
-  may = may_stage o.meaning p.state now what latest (plain_fits o.meaning p.state now what plain fits) (plain_move o.meaning p.state (stamp p.state now).0 what plain);
+  may = may_stage o.meaning first_format p.state now what latest (plain_fits o.meaning p.state now what plain fits) (plain_move o.meaning first_format p.state (stamp p.state now).0 what plain);
   moment = (now, shows, refl);
 }
 

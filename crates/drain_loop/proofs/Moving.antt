@@ -53,12 +53,12 @@ find_move : (m : Meaning) (s : Base) (o : Outside) (bot : List ℕ) (at now : �
 find_move m s o bot at now (found.Piece cut) what same legal is = record {
   is = is;
   fits = subst (λ (w : StepKind). first_failing (parts o.meaning s w) ≡ None) (legal.is ∙ sym is) legal.may.fits;
-  carries = λ later. subst (λ (w : StepKind). IsMove o.meaning s later w) (sym is) (subst (Matches o.meaning s legal.step.moment.0) legal.is legal.may.content.what);
+  carries = λ format later. subst (λ (w : StepKind). IsMove o.meaning format s later w) (sym is) (subst (Matches o.meaning s legal.step.moment.0) legal.is legal.may.content.what);
 }
 find_move m s o bot at now found.End what same legal is = record {
   is = is;
   fits = subst (λ (w : StepKind). first_failing (parts o.meaning s w) ≡ None) (legal.is ∙ sym is) legal.may.fits;
-  carries = λ later. subst (λ (w : StepKind). IsMove o.meaning s later w) (sym is) tt;
+  carries = λ format later. subst (λ (w : StepKind). IsMove o.meaning format s later w) (sym is) tt;
 }
 find_move m s o bot at now found.Absent what same legal is = absurd is
 find_move m s o bot at now (found.Short have) what same legal is = absurd is

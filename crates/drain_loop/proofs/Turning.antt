@@ -15,7 +15,7 @@ use Rattle.step_code.specs.declared.step.StepKind.{StepKind}
 use Rattle.step_code.specs.declared.step.StepKind.TheVariants as kind
 use Rattle.step_code.specs.declared.step.StepRefusal.{StepRefusal}
 use Rattle.step_code.specs.After.{acted, after, taken_first}
-use Rattle.step_code.specs.Code.{code_of_step}
+use Rattle.step_code.specs.Code.{code_of_step, first_format}
 use Rattle.step_code.specs.Content.{is_duplicate}
 use Rattle.step_code.specs.Fits.{first_failing, parts, Fits}
 use Rattle.step_code.specs.Rules.{Meaning, Task, last_moment}
@@ -26,7 +26,6 @@ use Rattle.store_image.specs.Stored.{codes_of}
 use Rattle.turn_order.specs.declared.actor.Actor.TheVariants.{Full, Take}
 use Rattle.journal_book.specs.Book.{root_entry, BookView}
 use Rattle.journal_book.specs.Renewing.{full_cause, renewal_cause, renewed, sealed_length, spent_by_renewal, spent_or_full}
-use Rattle.journal_book.specs.declared.renew_fault.RenewFault.{RenewFault}
 use Rattle.journal_book.specs.declared.renew_fault.RenewFault.TheVariants as renewal
 use Rattle.journal_book.specs.Staged.{bytes_with, cause_of, first_cause, screened, staged, stamp, step_cause}
 use Rattle.journal_book.specs.declared.stage_refusal.StageRefusal.{StageRefusal}
@@ -113,7 +112,7 @@ due_is o p turn what now on is move shows = record {
   busy = on.busy;
   left = on.left;
   next = subst (λ (opening : List StepKind). IsNextKind o p.state opening (staged o.meaning p.state now what).what) (sym on.opened) (turn, is, screened_act o.meaning p.state (stamp p.state now).0 turn what move.is);
-  may = may_stage o.meaning p.state now what on.latest (screened_fits o.meaning p.state (stamp p.state now).0 what move.fits) (move.carries (stamp p.state now).0);
+  may = may_stage o.meaning first_format p.state now what on.latest (screened_fits o.meaning p.state (stamp p.state now).0 what move.fits) (move.carries first_format (stamp p.state now).0);
   moment = (now, shows, refl);
 }
 
@@ -170,15 +169,6 @@ pub made_is : {D R : Type 0} (o : Outside) (opening : List StepKind) (book : Boo
 made_is o opening book left step limit whole due none = record { due = due; free = sym (refused_is o opening book left step limit whole due.may.fits) ∙ none }
 
 -- ---- a step that isn't made
-
-no_renewal_breaks : (cause : Option RenewFault) → cause ≢ Some renewal.Broken → as_refusal cause ≢ Some refusal.Broken
-no_renewal_breaks None apart is = cc
-no_renewal_breaks (Some renewal.Broken) apart is = apart refl
-no_renewal_breaks (Some (renewal.Spent next)) apart is = cc
-no_renewal_breaks (Some (renewal.Full bytes)) apart is = cc
-no_renewal_breaks (Some renewal.Disk) apart is = cc
-no_renewal_breaks (Some (renewal.Damaged file at)) apart is = cc
-no_renewal_breaks (Some renewal.OutOfMemory) apart is = cc
 
 -- the causes that refuse a step that is due
 abbrev IsLateCause : Option StageRefusal → Type 0

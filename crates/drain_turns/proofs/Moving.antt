@@ -67,7 +67,7 @@ pub retry_is : (m : Meaning) (s : Base) (bot : List ℕ) (i : ℕ) (hand : Hand)
     → number ≡ hand.message.no → bundle ≡ s.bundle_no → may_retry m s bot i ≡ true → given_of m s bot hand ≡ given.Fault note → IsMoveThat m s (IsWorkOf bot i) (kind.Retry bot i number bundle note)
 retry_is m s bot i hand number bundle note holds fits number_is bundle_is may gives =
     subst (λ (n : ℕ). IsMoveThat m s (IsWorkOf bot i) (kind.Retry bot i n bundle note)) (sym number_is) (subst (λ (b : ℕ). IsMoveThat m s (IsWorkOf bot i) (kind.Retry bot i hand.message.no b note)) (sym bundle_is)
-    (record { is = (refl, refl); fits = retry_fits m s bot i hand.message.no s.bundle_no note fits may; carries = λ now. record { hand = hand; holds = holds; gives = gives } }))
+    (record { is = (refl, refl); fits = retry_fits m s bot i hand.message.no s.bundle_no note fits may; carries = λ format now. record { hand = hand; holds = holds; gives = gives } }))
 
 pub fail_is : (m : Meaning) (s : Base) (bot : List ℕ) (i : ℕ) (hand : Hand) (number bundle : ℕ) (note : FaultNote) (queues : List (List ℕ)) (halts : Bool) → hand_of bot i s ≡ Some hand
     → first_failing (in_hand_parts m s bot i hand.message.no s.bundle_no) ≡ None → number ≡ hand.message.no → bundle ≡ s.bundle_no → may_retry m s bot i ≡ false → given_of m s bot hand ≡ given.Fault note
@@ -77,7 +77,7 @@ fail_is m s bot i hand number bundle note queues halts holds fits number_is bund
     (record {
       is = (refl, refl);
       fits = fail_fits m s bot i hand.message.no s.bundle_no note queues halts fits may;
-      carries = λ now. record { gave = record { hand = hand; holds = holds; gives = gives }; goes = goes; halting = halting };
+      carries = λ format now. record { gave = record { hand = hand; holds = holds; gives = gives }; goes = goes; halting = halting };
     }))
 
 pub done_is : (m : Meaning) (s : Base) (bot : List ℕ) (i : ℕ) (hand : Hand) (number bundle : ℕ) (sends : List (List ℕ × List ℕ)) (dumps : List (List ℕ × FaultNote)) (key : Option (List ℕ)) (line : Bool) → hand_of bot i s ≡ Some hand
@@ -85,4 +85,4 @@ pub done_is : (m : Meaning) (s : Base) (bot : List ℕ) (i : ℕ) (hand : Hand) 
     → IsMoveThat m s (IsWorkOf bot i) (kind.Done bot i number bundle sends dumps key line)
 done_is m s bot i hand number bundle sends dumps key line holds fits number_is bundle_is gives =
     subst (λ (n : ℕ). IsMoveThat m s (IsWorkOf bot i) (kind.Done bot i n bundle sends dumps key line)) (sym number_is) (subst (λ (b : ℕ). IsMoveThat m s (IsWorkOf bot i) (kind.Done bot i hand.message.no b sends dumps key line)) (sym bundle_is)
-    (record { is = (refl, refl); fits = fits; carries = λ now. record { hand = hand; holds = holds; gives = gives } }))
+    (record { is = (refl, refl); fits = fits; carries = λ format now. record { hand = hand; holds = holds; gives = gives } }))

@@ -14,11 +14,11 @@ use Rattle.drain_turns.specs.declared.end.TurnsEnd.{TurnsEnd}
 use Rattle.drain_turns.specs.declared.end.TurnsEnd.TheVariants as end
 use Rattle.drain_turns.specs.declared.turn.Turn.{Turn}
 
--- the move is such a step, it fits, and it carries what the rules give, whenever it is made
+-- the move is such a step, it fits, and it carries what the rules give, whenever and in whichever format it is made
 pub record IsMoveThat (m : Meaning) (s : Base) (Is : StepKind → Type 0) (what : StepKind) : Type 0 where
   pub is : Is what
   pub fits : first_failing (parts m s what) ≡ None
-  pub carries : (now : ℕ) → IsMove m s now what
+  pub carries : (format now : ℕ) → IsMove m format s now what
 
 -- the move is the turn's
 abbrev pub IsMoveOf : Meaning → Base → Turn → StepKind → Type 0

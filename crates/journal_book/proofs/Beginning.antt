@@ -5,8 +5,9 @@ use Rattle.std.specs.List.{AllByRecursion}
 use Rattle.edge_traits.specs.Disk.{DiskView, Image, IsImage, Leaves}
 use Rattle.edge_traits.proofs.Moments.{widened}
 use Rattle.disk_journal.specs.Reads.{OnlyReads}
-use Rattle.disk_journal.specs.GateFile.{heading_of, Heading, HasBodies}
+use Rattle.disk_journal.specs.GateFile.{HasBodies}
 use Rattle.disk_journal.specs.Journal.{JournalView, IsAtRest}
+use Rattle.disk_journal.specs.declared.header.Heading.{Heading}
 use Rattle.step_code.specs.declared.base.Base.{Base}
 use Rattle.step_code.specs.declared.rules.Facts.{Facts}
 use Rattle.step_code.specs.declared.step.Step.{Step}
@@ -22,7 +23,7 @@ use Rattle.step_code.specs.Rules.{Meaning, writes}
 use Rattle.step_code.specs.Sound.{longest_base, IsSound}
 use Rattle.step_code.specs.State.{new_out}
 use Rattle.seal_laws.proofs.Unsealed.{new_unsealed}
-use Rattle.store_image.specs.Files.{generation_file, root_file}
+use Rattle.store_image.specs.Files.{generation_file, root_file, heading_of, written_format}
 use Rattle.store_image.specs.Stands.{origin_of, AreSealedFrom, FrontsStand, IsArchive, IsSealOf, Stands, WhereWhole}
 use Rattle.store_image.specs.Stored.{codes_of, HoldsSteps}
 use Rattle.store_image.proofs.Standing.{stands_by, IsPast}
@@ -96,7 +97,7 @@ first_past_of m bots bundle base whole image is short =
 
 -- whatever a crash leaves of a new store stands for no steps
 pub kept_created : {D R : Type 0} (disk : D → DiskView) (m : Meaning) (bots : List Facts) (bundle : List ℕ) (base : Base) (whole : Bool) (rules : R) (limit : ℕ) (now : D) (root journal : JournalView) (files : Image)
-    → base ≡ first bots bundle → IsImage (disk now).may_leave files → (disk now).told ≡ Some files → AreStoreFiles root journal 0 → IsWritableBase first_format base → length (code_of_base first_format base) ≤ longest_base
+    → base ≡ first bots bundle → IsImage (disk now).may_leave files → (disk now).told ≡ Some files → AreStoreFiles root journal written_format 0 → IsWritableBase first_format base → length (code_of_base first_format base) ≤ longest_base
     → AreAtRest root journal (disk now).may_leave 0 base [] files → IsKept disk m (origin_of base whole) [] (created rules base limit now)
 kept_created disk m bots bundle base whole rules limit now root journal files is honest told stores writable short rest = record {
   files = files;
@@ -111,9 +112,9 @@ kept_created disk m bots bundle base whole rules limit now root journal files is
 
 -- where the first generation's file has the code of a first state alone, it holds that state
 pub first_holds : (m : Meaning) (bots : List Facts) (bundle : List ℕ) (base : Base) (code : List ℕ) (image : Image) → m.facts bundle ≡ Some bots → base ≡ first bots bundle → IsSound m base → IsWritableBase first_format base → code ≡ code_of_base first_format base
-    → HasBodies (heading_of 0) (code ∷ []) (image (generation_file 0)) → HoldsFirst m bundle image
+    → HasBodies (heading_of written_format 0) (code ∷ []) (image (generation_file 0)) → HoldsFirst m bundle image
 first_holds m bots bundle base code image loads is sound writable coded has =
-    let holds : HoldsSteps 0 (image (generation_file 0)) base [] = record { records = []; bodies = subst (λ (c : List ℕ). HasBodies (heading_of 0) (c ∷ []) (image (generation_file 0))) coded has; writable = writable; content = refl } in
+    let holds : HoldsSteps 0 (image (generation_file 0)) base [] = record { format = written_format; known = refl; records = []; bodies = subst (λ (c : List ℕ). HasBodies (heading_of written_format 0) (c ∷ []) (image (generation_file 0))) coded has; writable = writable; content = refl } in
     record {
       bots = bots;
       loads = loads;
@@ -172,5 +173,5 @@ rest_created old now root journal base after None was told untold rests = absurd
 rest_created old now root journal base after (Some files) was told untold rests = rests files after was told
 
 pub view_created : {D R : Type 0} (rules other : R) (base state : Base) (steps : List Step) (limit root : ℕ) (now : D) → other ≡ rules → state ≡ base → steps ≡ [] → root ≡ first_root
-    → (let book : BookView D R = record { disk = now; rules = other; generation = 0; root = root; base = base; steps = steps; kept = 0; state = state; limit = limit; broken = false } in book ≡ created rules base limit now)
-view_created rules other base state steps limit root now same_rules same_state none same_root = λ i. record { disk = now; rules = same_rules i; generation = 0; root = same_root i; base = base; steps = none i; kept = 0; state = same_state i; limit = limit; broken = false }
+    → (let book : BookView D R = record { disk = now; rules = other; format = written_format; generation = 0; root = root; base = base; steps = steps; kept = 0; state = state; limit = limit; broken = false } in book ≡ created rules base limit now)
+view_created rules other base state steps limit root now same_rules same_state none same_root = λ i. record { disk = now; rules = same_rules i; format = written_format; generation = 0; root = same_root i; base = base; steps = none i; kept = 0; state = same_state i; limit = limit; broken = false }

@@ -2,7 +2,7 @@
 use Rattle.std.proofs.Common.{◌≡◌, ℕ, List, ◌∷◌, [], ◌++◌, map, Option, Some, refl, sym, subst, ◌∙◌}
 use Rattle.std.specs.Prelude.{⊤}
 use Rattle.edge_traits.specs.Disk.{Adds, DiskView, Image}
-use Rattle.disk_journal.specs.GateFile.{heading_of, HasBodies}
+use Rattle.disk_journal.specs.GateFile.{HasBodies}
 use Rattle.disk_journal.specs.Journal.{JournalView}
 use Rattle.disk_journal.specs.Reads.{OnlyReads}
 use Rattle.disk_journal.specs.declared.journal.JournalFault.{JournalFault}
@@ -13,7 +13,7 @@ use Rattle.step_code.specs.declared.step.Step.{Step}
 use Rattle.step_code.specs.Code.{code_of_base, first_format}
 use Rattle.step_code.specs.Rules.{Meaning}
 use Rattle.store_image.specs.Damage.{AreNoHistory, IsDamagedFile}
-use Rattle.store_image.specs.Files.{generation_file}
+use Rattle.store_image.specs.Files.{generation_file, heading_of}
 use Rattle.store_image.specs.Stands.{Origin}
 use Rattle.generation_reading.specs.Reading.{AreHistory}
 use Rattle.journal_book.specs.Book.{BookView, IsKept}
@@ -24,16 +24,16 @@ use Rattle.journal_book.proofs.Opened.{rests_read}
 
 -- ---- what is found
 
-pub past_is : (m : Meaning) (g : ℕ) (file : List ℕ) (bodies seen : List (List ℕ)) (base : Base) (steps : List Step) → seen ≡ bodies → HasBodies (heading_of g) bodies file → AreHistory m seen base steps → IsPast m g file base steps
+pub past_is : (m : Meaning) (g : ℕ) (file : List ℕ) (bodies seen : List (List ℕ)) (base : Base) (steps : List Step) → seen ≡ bodies → HasBodies (heading_of first_format g) bodies file → AreHistory m seen base steps → IsPast m g file base steps
 past_is m g file bodies seen base steps same has is = record {
-  holds = record { records = is.records; bodies = subst (λ (bs : List (List ℕ)). HasBodies (heading_of g) bs file) (sym same ∙ is.splits) has; writable = is.writable; content = is.holds.content };
+  holds = record { format = first_format; known = refl; records = is.records; bodies = subst (λ (bs : List (List ℕ)). HasBodies (heading_of first_format g) bs file) (sym same ∙ is.splits) has; writable = is.writable; content = is.holds.content };
   sound = is.sound;
   replays = is.holds.pass;
 }
 
 -- ---- why nothing is found
 
-pub read_fault : (m : Meaning) (told : Option Image) (g : ℕ) (e : JournalFault) → ((files : Image) → told ≡ Some files → IsFileFault (IsDamagedFile (heading_of g) (AreNoHistory m) (files (generation_file g))) e) → IsPastFault m g told (past_fault g e)
+pub read_fault : (m : Meaning) (told : Option Image) (g : ℕ) (e : JournalFault) → ((files : Image) → told ≡ Some files → IsFileFault (IsDamagedFile (heading_of first_format g) (AreNoHistory m) (files (generation_file g))) e) → IsPastFault m g told (past_fault g e)
 read_fault m told g journal.Disk bad = tt
 read_fault m told g (journal.Damaged at) bad = (refl, bad)
 read_fault m told g journal.OutOfMemory bad = tt

@@ -7,14 +7,15 @@ use Rattle.std.proofs.lemmas.Option.{none-some}
 use Rattle.std.proofs.lemmas.Grind.{flat_map-append}
 use Rattle.edge_traits.specs.Disk.{Adds, ChangesOnly, DiskView, Image, IsImage, Leaves, LeavesOthers, Only}
 use Rattle.edge_traits.proofs.Moments.{widened}
-use Rattle.disk_journal.specs.GateFile.{Heading, frame_length, gate_file, longest_journal, heading_of, HasBodies, HasOldOrNew}
+use Rattle.disk_journal.specs.GateFile.{frame_length, gate_file, longest_journal, HasBodies, HasOldOrNew}
 use Rattle.disk_journal.specs.Journal.{JournalView, IsAtRest}
+use Rattle.disk_journal.specs.declared.header.Heading.{Heading}
 use Rattle.stored_types.specs.Code.{number}
 use Rattle.step_code.specs.declared.base.Base.{Base}
 use Rattle.step_code.specs.declared.step.Step.{Step}
 use Rattle.step_code.specs.Code.{code_of_base, code_of_step, first_format, IsWritable, IsWritableBase}
 use Rattle.step_code.specs.Rules.{Meaning}
-use Rattle.store_image.specs.Files.{root_file, out_file, generation_file}
+use Rattle.store_image.specs.Files.{root_file, out_file, generation_file, heading_of}
 use Rattle.store_image.specs.Stands.{Origin, Stands, StandsFor}
 use Rattle.store_image.specs.Stored.{codes_of, IsRecord, AreRecords, NamesLast, HoldsSteps, IsStored}
 use Rattle.store_image.proofs.Standing.{put_file, put_there, put_elsewhere, past_of, records_more, stands_by}
@@ -36,13 +37,17 @@ put_left may_leave file content image left others other = one (other == file) re
     one true is = subst (λ (n : ℕ). may_leave n content) (sym (eqb-true other file is)) left
     one false is = others other (eqb-false other file is)
 
+-- the header of the generation's file is of the only format that is known
+heading_known : {format : ℕ} (root journal : JournalView) (g : ℕ) → AreStoreFiles root journal format g → journal.heading ≡ heading_of first_format g
+heading_known root journal g stores = stores.heading_is ∙ ap (λ (f : ℕ). heading_of f g) stores.known
+
 apart_root : (g : ℕ) → root_file ≢ generation_file g
 apart_root g same = omega (arith, same)
 
 apart_out : (g k : ℕ) → out_file k ≢ generation_file g
 apart_out g k same = omega (arith, same)
 
-module _ (may_leave : ℕ → List ℕ → Type 0) (root journal : JournalView) (g : ℕ) (base : Base) (steps : List Step) (files : Image) (honest : IsImage may_leave files) (stores : AreStoreFiles root journal g) (writable : IsWritableBase first_format base) (rest : AreAtRest root journal may_leave g base steps files) where
+module _ {format : ℕ} (may_leave : ℕ → List ℕ → Type 0) (root journal : JournalView) (g : ℕ) (base : Base) (steps : List Step) (files : Image) (honest : IsImage may_leave files) (stores : AreStoreFiles root journal format g) (writable : IsWritableBase first_format base) (rest : AreAtRest root journal may_leave g base steps files) where
   abbrev gen : ℕ
   gen = generation_file g
 
@@ -64,11 +69,11 @@ module _ (may_leave : ℕ → List ℕ → Type 0) (root journal : JournalView) 
   pub named_in : (image : Image) → Others image → NamesLast (image root_file) g
   named_in image others = subst (λ (c : List ℕ). NamesLast c g) (sym (root_is image others)) named
 
-  has_bodies : HasBodies (heading_of g) (code_of_base first_format base ∷ rest.records) (files gen)
+  has_bodies : HasBodies (heading_of first_format g) (code_of_base first_format base ∷ rest.records) (files gen)
   has_bodies =
       let has = bodies_at_rest journal may_leave (code_of_base first_format base ∷ rest.records) files rest.journal_rests in
       let here = subst (λ (n : ℕ). HasBodies journal.heading (code_of_base first_format base ∷ rest.records) (files n)) stores.file_is has in
-      subst (λ (h : Heading). HasBodies h (code_of_base first_format base ∷ rest.records) (files gen)) stores.heading_is here
+      subst (λ (h : Heading). HasBodies h (code_of_base first_format base ∷ rest.records) (files gen)) (heading_known root journal g stores) here
 
   -- the image with the generation's file as it was at rest
   abbrev before : Image → Image
@@ -82,7 +87,7 @@ module _ (may_leave : ℕ → List ℕ → Type 0) (root journal : JournalView) 
       record {
         named = subst (λ (c : List ℕ). NamesLast c g) (sym (put_elsewhere gen root_file (files gen) image (apart_root g))) (named_in image others);
         holds = subst (λ (c : List ℕ). HoldsSteps g c base steps) (sym (put_there gen (files gen) image))
-            (record { records = rest.records; bodies = has_bodies; writable = writable; content = rest.content });
+            (record { format = first_format; known = refl; records = rest.records; bodies = has_bodies; writable = writable; content = rest.content });
       }
 
   gen_is : (image : Image) → IsImage may_leave image → image gen ≡ files gen
@@ -95,7 +100,7 @@ module _ (may_leave : ℕ → List ℕ → Type 0) (root journal : JournalView) 
   stored_now image left =
       record {
         named = named_in image (λ other apart. left other);
-        holds = subst (λ (c : List ℕ). HoldsSteps g c base steps) (sym (gen_is image left)) (record { records = rest.records; bodies = has_bodies; writable = writable; content = rest.content });
+        holds = subst (λ (c : List ℕ). HoldsSteps g c base steps) (sym (gen_is image left)) (record { format = first_format; known = refl; records = rest.records; bodies = has_bodies; writable = writable; content = rest.content });
       }
 
   -- with so many steps in its generation, an image stands for them
@@ -107,14 +112,14 @@ module _ (may_leave : ℕ → List ℕ → Type 0) (root journal : JournalView) 
         stands_by m origin past more base g (before image) image past_is (λ k. put_elsewhere gen (out_file k) (files gen) image (apart_out g k))
         (λ k below. put_elsewhere gen (generation_file k) (files gen) image (λ same. omega (arith, same, below))) (record { named = named_in image others; holds = holds })
 
-    holds_old : (file : List ℕ) → HasBodies (heading_of g) (code_of_base first_format base ∷ rest.records) file → HoldsSteps g file base steps
-    holds_old file has = record { records = rest.records; bodies = has; writable = writable; content = rest.content }
+    holds_old : (file : List ℕ) → HasBodies (heading_of first_format g) (code_of_base first_format base ∷ rest.records) file → HoldsSteps g file base steps
+    holds_old file has = record { format = first_format; known = refl; records = rest.records; bodies = has; writable = writable; content = rest.content }
 
-    pub holds_new : (file body : List ℕ) (more : List Step) → IsRecord body more → HasBodies (heading_of g) ((code_of_base first_format base ∷ rest.records) ++ body ∷ []) file → HoldsSteps g file base (steps ++ more)
-    holds_new file body more is has = record { records = rest.records ++ body ∷ []; bodies = has; writable = writable; content = records_more rest.records steps body more rest.content is }
+    pub holds_new : (file body : List ℕ) (more : List Step) → IsRecord body more → HasBodies (heading_of first_format g) ((code_of_base first_format base ∷ rest.records) ++ body ∷ []) file → HoldsSteps g file base (steps ++ more)
+    holds_new file body more is has = record { format = first_format; known = refl; records = rest.records ++ body ∷ []; bodies = has; writable = writable; content = records_more rest.records steps body more rest.content is }
 
     -- while one more record is written, an image stands for the steps before it, or for all
-    pub stands_between : (image : Image) → Others image → (body : List ℕ) → IsRecord body waiting → HasOldOrNew (heading_of g) (code_of_base first_format base ∷ rest.records) body (image gen)
+    pub stands_between : (image : Image) → Others image → (body : List ℕ) → IsRecord body waiting → HasOldOrNew (heading_of first_format g) (code_of_base first_format base ∷ rest.records) body (image gen)
         → StandsFor m origin (past ++ steps) waiting image
     stands_between image others body is (inl old) =
         record { count = 0; within = omega arith; stands = subst (λ (h : List Step). Stands m origin image h) (sym (append-nil (past ++ steps))) (stands_with image others steps (holds_old (image gen) old)) }
@@ -128,7 +133,7 @@ module _ (may_leave : ℕ → List ℕ → Type 0) (root journal : JournalView) 
 
 -- ---- a flush
 
-module _ {D R : Type 0} (disk : D → DiskView) (m : Meaning) (book : BookView D R) (root journal : JournalView) (files : Image) (honest : IsImage (disk book.disk).may_leave files) (stores : AreStoreFiles root journal book.generation) (writable : IsWritableBase first_format book.base) (rest : AreAtRest root journal (disk book.disk).may_leave book.generation book.base (durable_steps book) files) (body : List ℕ) (is : IsRecord body (waiting_steps book)) where
+module _ {D R : Type 0} {format : ℕ} (disk : D → DiskView) (m : Meaning) (book : BookView D R) (root journal : JournalView) (files : Image) (honest : IsImage (disk book.disk).may_leave files) (stores : AreStoreFiles root journal format book.generation) (writable : IsWritableBase first_format book.base) (rest : AreAtRest root journal (disk book.disk).may_leave book.generation book.base (durable_steps book) files) (body : List ℕ) (is : IsRecord body (waiting_steps book)) where
   abbrev gen_file : ℕ
   gen_file = generation_file book.generation
 
@@ -145,7 +150,7 @@ module _ {D R : Type 0} (disk : D → DiskView) (m : Meaning) (book : BookView D
           → StandsFor m origin (past ++ durable_steps book) (waiting_steps book) image
       wide image (found, others) =
           let at_file = subst (λ (n : ℕ). HasOldOrNew journal.heading (code_of_base first_format book.base ∷ rest.records) body (image n)) stores.file_is found in
-          let at_heading = subst (λ (h : Heading). HasOldOrNew h (code_of_base first_format book.base ∷ rest.records) body (image gen_file)) stores.heading_is at_file in
+          let at_heading = subst (λ (h : Heading). HasOldOrNew h (code_of_base first_format book.base ∷ rest.records) body (image gen_file)) (heading_known root journal book.generation stores) at_file in
           stands_between (disk book.disk).may_leave root journal book.generation book.base (durable_steps book) files honest stores writable rest m origin past (waiting_steps book) kept.counted kept.each image (others_of image others) body is at_heading
 
   -- where it answered Ok, all steps are durable
@@ -160,8 +165,8 @@ module _ {D R : Type 0} (disk : D → DiskView) (m : Meaning) (book : BookView D
       file_now : later.file ≡ gen_file
       file_now = same_file ∙ stores.file_is
 
-      has_all : HasBodies (heading_of book.generation) all_bodies (after gen_file)
-      has_all = subst (λ (h : Heading). HasBodies h all_bodies (after gen_file)) (same_heading ∙ stores.heading_is)
+      has_all : HasBodies (heading_of first_format book.generation) all_bodies (after gen_file)
+      has_all = subst (λ (h : Heading). HasBodies h all_bodies (after gen_file)) (same_heading ∙ heading_known root journal book.generation stores)
           (subst (λ (n : ℕ). HasBodies later.heading all_bodies (after n)) file_now (bodies_at_rest later (disk now).may_leave all_bodies after rests))
 
       each_now : (image : Image) → IsImage (disk now).may_leave image → StandsFor m origin (past ++ take (length book.steps) book.steps) (drop (length book.steps) book.steps) image
@@ -171,7 +176,7 @@ module _ {D R : Type 0} (disk : D → DiskView) (m : Meaning) (book : BookView D
           let only : Only (after gen_file) ((disk now).may_leave gen_file) = subst (λ (n : ℕ). Only (after n) ((disk now).may_leave n)) file_now rests.durable in
           let same : image gen_file ≡ after gen_file = only (image gen_file) (left gen_file) in
           let holds = holds_new (disk book.disk).may_leave root journal book.generation book.base (durable_steps book) files honest stores writable rest m origin past (waiting_steps book) kept.counted kept.each (image gen_file) body (waiting_steps book) is
-          (subst (λ (c : List ℕ). HasBodies (heading_of book.generation) all_bodies c) (sym same) has_all) in
+          (subst (λ (c : List ℕ). HasBodies (heading_of first_format book.generation) all_bodies c) (sym same) has_all) in
           let stands = stands_with (disk book.disk).may_leave root journal book.generation book.base (durable_steps book) files honest stores writable rest m origin past (waiting_steps book) kept.counted kept.each image others (durable_steps book ++ waiting_steps book) holds in
           let whole : durable_steps book ++ waiting_steps book ≡ take (length book.steps) book.steps = take-append-drop book.kept book.steps ∙ sym (take_all (length book.steps) book.steps (omega arith)) in
           record {
@@ -228,9 +233,9 @@ pub replayed_flushed : (m : Meaning) (base : Base) (steps : List Step) (kept len
 replayed_flushed m base steps kept len state was size =
     record { sound = was.sound; writable = was.writable; behind = was.behind; latest = was.latest; within = omega (arith, size); coded = subst (λ (ss : List Step). AllByRecursion IsWritable ss) (sym (ap (λ n. drop n steps) size ∙ drop_all (length steps) steps (omega arith))) tt }
 
-pub stores_still : (root journal later : JournalView) (g : ℕ) → AreStoreFiles root journal g → later.file ≡ journal.file → later.heading ≡ journal.heading → AreStoreFiles root later g
+pub stores_still : {format : ℕ} (root journal later : JournalView) (g : ℕ) → AreStoreFiles root journal format g → later.file ≡ journal.file → later.heading ≡ journal.heading → AreStoreFiles root later format g
 stores_still root journal later g was same_file same_heading =
-    record { root_file_is = was.root_file_is; root_heading_is = was.root_heading_is; file_is = same_file ∙ was.file_is; heading_is = same_heading ∙ was.heading_is; given = was.given }
+    record { root_file_is = was.root_file_is; root_heading_is = was.root_heading_is; file_is = same_file ∙ was.file_is; heading_is = same_heading ∙ was.heading_is; known = was.known; given = was.given }
 
 abbrev found : Image → Option Image
 found i = Some i
@@ -262,8 +267,8 @@ rests_elsewhere old now journal bodies files after file apart changes told adds 
     let after_is : after ≡ changes.0 = told_is_one now.told after changes.0 told changes.1 in
     rests_same old.may_leave now.may_leave journal bodies files after (ap (λ (i : Image). i journal.file) after_is ∙ changes.2 journal.file apart) (adds journal.file apart) rest
 
-pub rest_flushed : (old now : DiskView) (root journal later : JournalView) (g : ℕ) (base : Base) (steps : List Step) (kept len : ℕ) (body : List ℕ) (after : Image) (told : Option Image)
-    → old.told ≡ told → now.told ≡ Some after → AreStoreFiles root journal g → IsRecord body (drop kept steps) → len ≡ length steps
+pub rest_flushed : {format : ℕ} (old now : DiskView) (root journal later : JournalView) (g : ℕ) (base : Base) (steps : List Step) (kept len : ℕ) (body : List ℕ) (after : Image) (told : Option Image)
+    → old.told ≡ told → now.told ≡ Some after → AreStoreFiles root journal format g → IsRecord body (drop kept steps) → len ≡ length steps
     → (old.told ≡ None → now.told ≡ None)
     → ((files : Image) → old.told ≡ Some files → ChangesOnly files now.told journal.file)
     → Adds old now (λ other. other ≢ journal.file)

@@ -1,7 +1,8 @@
 -- Files whose bodies are bad.
 use Rattle.std.proofs.Common.{◌≡◌, ◌+◌, inr, ℕ, List, [], ◌∷◌, ◌++◌, length, subst, arith, length-append}
-use Rattle.disk_journal.specs.GateFile.{Heading, gate_file, header, open_records, HasBodies}
+use Rattle.disk_journal.specs.GateFile.{gate_file, header, open_records, HasBodies}
 use Rattle.disk_journal.proofs.GateFiles.{length_header}
+use Rattle.disk_journal.specs.declared.header.Heading.{Heading}
 use Rattle.disk_journal.specs.declared.journal.JournalFault.{JournalFault}
 use Rattle.disk_journal.specs.declared.journal.JournalFault.TheVariants as fault
 use Rattle.store_image.specs.Damage.{behind_bodies, IsDamagedFile}

@@ -120,23 +120,23 @@ carried m s bot instance now true bundle message sends dumps key line is given =
 carried m s bot instance now false bundle message sends dumps key line is given =
     record { hand = given.hand; holds = given.holds; given_sends = sends; given_key = key; gives = given.gives; carries = subst (λ (b : Bool). Carries b sends key sends key) (sym is) (refl, refl) }
 
-pub matches : (m : Meaning) (s : Base) (now : ℕ) (what : StepKind) → IsMove m s now what → Matches m s now (screened m s now what)
-matches m s now kind.Start move = tt
-matches m s now (kind.Collect bot from upto piece) move = move
-matches m s now (kind.FeedEnd bot position) move = tt
-matches m s now (kind.Take bot instance message) move = move
-matches m s now (kind.Done bot instance message bundle sends dumps key line) move = carried m s bot instance now (is_duplicate m s bot now key) bundle message sends dumps key line refl move
-matches m s now (kind.Retry bot instance message bundle fault) move = move
-matches m s now (kind.Fail bot instance message bundle fault queues halts) move = move
-matches m s now (kind.Reload bundle) move = tt
-matches m s now (kind.Redo dump) move = tt
-matches m s now (kind.Round bot) move = tt
+pub matches : (m : Meaning) (format : ℕ) (s : Base) (now : ℕ) (what : StepKind) → IsMove m format s now what → Matches m s now (screened m s now what)
+matches m format s now kind.Start move = tt
+matches m format s now (kind.Collect bot from upto piece) move = move
+matches m format s now (kind.FeedEnd bot position) move = tt
+matches m format s now (kind.Take bot instance message) move = move
+matches m format s now (kind.Done bot instance message bundle sends dumps key line) move = carried m s bot instance now (is_duplicate m s bot now key) bundle message sends dumps key line refl move
+matches m format s now (kind.Retry bot instance message bundle fault) move = move
+matches m format s now (kind.Fail bot instance message bundle fault queues halts) move = move
+matches m format s now (kind.Reload bundle) move = tt
+matches m format s now (kind.Redo dump) move = tt
+matches m format s now (kind.Round bot) move = tt
 
 -- a move that the rules gave comes to a step that may be taken, if it fits; the latest moment is one that a step may have
-pub may_stage : (m : Meaning) (s : Base) (now : ℕ) (what : StepKind) → s.latest.0 ≤ last_moment → Fits m s (staged m s now what) → IsMove m s (stamp s now).0 what → May m s (staged m s now what)
-may_stage m s now what latest fits move = record {
+pub may_stage : (m : Meaning) (format : ℕ) (s : Base) (now : ℕ) (what : StepKind) → s.latest.0 ≤ last_moment → Fits m s (staged m s now what) → IsMove m format s (stamp s now).0 what → May m s (staged m s now what)
+may_stage m format s now what latest fits move = record {
   fits = fits;
-  content = record { time = record { order = omega arith; limit = omega (arith, latest) }; what = matches m s (stamp s now).0 what move };
+  content = record { time = record { order = omega arith; limit = omega (arith, latest) }; what = matches m format s (stamp s now).0 what move };
 }
 
 -- nothing refuses a step: it fits, no number is spent, and the limit isn't passed

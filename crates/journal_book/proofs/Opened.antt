@@ -3,7 +3,7 @@ use Rattle.std.proofs.Common.{◌≡◌, ◌≢◌, inl, inr, ◌≤◌, ◌<◌
 use Rattle.std.specs.Prelude.{⊤}
 use Rattle.std.specs.List.{AllByRecursion}
 use Rattle.edge_traits.specs.Disk.{Adds, DiskView, Image}
-use Rattle.disk_journal.specs.GateFile.{gate_file, heading_of, open_record, open_records, HasBodies}
+use Rattle.disk_journal.specs.GateFile.{gate_file, open_record, open_records, HasBodies}
 use Rattle.disk_journal.proofs.Resting.{length_open_record}
 use Rattle.disk_journal.specs.Journal.{IsAtRest, JournalView}
 use Rattle.disk_journal.specs.declared.journal.JournalFault.{JournalFault}
@@ -17,7 +17,7 @@ use Rattle.step_code.specs.History.{replay}
 use Rattle.step_code.specs.Rules.{Meaning}
 use Rattle.step_code.specs.Spent.{last_given}
 use Rattle.store_image.specs.Damage.{AreNoHistory, HasShortOutput, IsDamagedFile, IsShort, NameNone}
-use Rattle.store_image.specs.Files.{root_file, out_file, generation_file}
+use Rattle.store_image.specs.Files.{root_file, out_file, generation_file, heading_of, root_heading}
 use Rattle.store_image.specs.Opens.{AreLong, Opens}
 use Rattle.store_image.specs.Stored.{codes_of, IsStored, NamesLast}
 use Rattle.journal_book.specs.declared.book_fault.BookFault.{BookFault}
@@ -51,13 +51,13 @@ root_apart g same = omega (arith, same)
 pub history_small : (m : Meaning) (base : Base) (steps : List Step) → IsHistory m base steps → IsSmall (replay m base steps)
 history_small m base steps is = small_behind m base steps (small_first m base is.sound) is.replays
 
-pub journal_short : (m : Meaning) (bodies : List (List ℕ)) (base : Base) (steps : List Step) (g len : ℕ) → AreHistory m bodies base steps → len ≡ length (gate_file (heading_of g) bodies 0)
+pub journal_short : (m : Meaning) (bodies : List (List ℕ)) (base : Base) (steps : List Step) (g len : ℕ) → AreHistory m bodies base steps → len ≡ length (gate_file (heading_of first_format g) bodies 0)
     → len ≤ longest_waiting + 2 * length (codes_of steps)
 journal_short m bodies base steps g len is size =
     omega (
       arith,
       size,
-      gate_length (heading_of g) bodies 0,
+      gate_length (heading_of first_format g) bodies 0,
       ap length is.splits,
       ap (λ bs. length (open_records bs)) is.splits,
       length-append (open_record (code_of_base first_format base)) (open_records is.records),
@@ -68,14 +68,16 @@ journal_short m bodies base steps g len is size =
 
 -- what stands in the told files, of which recovering the root and the generation changed nothing else
 module _ (m : Meaning) (files mid last : Image) (g : ℕ) (base : Base) (steps : List Step) (bodies : List (List ℕ)) (named : NamesLast (files root_file) g) (kept : (other : ℕ) → other ≢ root_file → mid other ≡ files other)
-    (has : HasBodies (heading_of g) bodies (mid (generation_file g))) (is : AreHistory m bodies base steps) (still : (other : ℕ) → other ≢ generation_file g → last other ≡ mid other) where
+    (has : HasBodies (heading_of first_format g) bodies (mid (generation_file g))) (is : AreHistory m bodies base steps) (still : (other : ℕ) → other ≢ generation_file g → last other ≡ mid other) where
   stored : IsStored files g base steps
   stored = record {
     named = named;
     holds = record {
+      format = first_format;
+      known = refl;
       records = is.records;
-      bodies = subst (λ (c : List ℕ). HasBodies (heading_of g) (code_of_base first_format base ∷ is.records) c) (kept (generation_file g) (apart_root g))
-          (subst (λ (bs : List (List ℕ)). HasBodies (heading_of g) bs (mid (generation_file g))) is.splits has);
+      bodies = subst (λ (c : List ℕ). HasBodies (heading_of first_format g) (code_of_base first_format base ∷ is.records) c) (kept (generation_file g) (apart_root g))
+          (subst (λ (bs : List (List ℕ)). HasBodies (heading_of first_format g) bs (mid (generation_file g))) is.splits has);
       writable = is.writable;
       content = is.holds.content;
     };
@@ -112,13 +114,13 @@ store_rests named opened looked m root journal g base steps before bodies mid la
 -- ---- why a store can't be opened
 
 pub root_fault : (m : Meaning) (told : Option Image) (e : JournalFault) → ((files : Image) → told ≡ Some files → 0 < length (files root_file))
-    → ((files : Image) → told ≡ Some files → IsFileFault (IsDamagedFile (heading_of 0) NameNone (files root_file)) e) → IsReopenFault m told (in_file root_file e)
+    → ((files : Image) → told ≡ Some files → IsFileFault (IsDamagedFile root_heading NameNone (files root_file)) e) → IsReopenFault m told (in_file root_file e)
 root_fault m told journal.Disk some bad = tt
 root_fault m told (journal.Damaged at) some bad = λ files is. (some files is, inl (refl, bad files is))
 root_fault m told journal.OutOfMemory some bad = tt
 
 pub generation_fault : (m : Meaning) (told : Option Image) (g : ℕ) (e : JournalFault) → ((files : Image) → told ≡ Some files → 0 < length (files root_file)) → ((files : Image) → told ≡ Some files → NamesLast (files root_file) g)
-    → ((files : Image) → told ≡ Some files → IsFileFault (IsDamagedFile (heading_of g) (AreNoHistory m) (files (generation_file g))) e) → IsReopenFault m told (in_file (generation_file g) e)
+    → ((files : Image) → told ≡ Some files → IsFileFault (IsDamagedFile (heading_of first_format g) (AreNoHistory m) (files (generation_file g))) e) → IsReopenFault m told (in_file (generation_file g) e)
 generation_fault m told g journal.Disk some named bad = tt
 generation_fault m told g (journal.Damaged at) some named bad = λ files is. (some files is, inr (g, named files is, inl (refl, bad files is)))
 generation_fault m told g journal.OutOfMemory some named bad = tt

@@ -4,13 +4,14 @@ use Rattle.std.specs.Prelude.{⊤}
 use Rattle.std.proofs.lemmas.Bool.{eqb-true, eqb-false}
 use Rattle.edge_traits.specs.Disk.{Adds, ChangesOnly, DiskView, Elapses, Image, IsImage, Leaves, LeavesOthers}
 use Rattle.edge_traits.proofs.Moments.{run_on, widened}
-use Rattle.disk_journal.specs.GateFile.{gate_file, heading_of, Heading, HaveSameBodies}
+use Rattle.disk_journal.specs.GateFile.{gate_file, HaveSameBodies}
 use Rattle.disk_journal.specs.Reads.{OnlyReads}
+use Rattle.disk_journal.specs.declared.header.Heading.{Heading}
 use Rattle.stored_types.specs.Code.{number}
 use Rattle.step_code.specs.declared.step.Step.{Step}
 use Rattle.step_code.specs.Rules.{Meaning}
 use Rattle.store_image.specs.Stands.{Origin, StandsFor}
-use Rattle.store_image.specs.Files.{root_file, IsStoreFile}
+use Rattle.store_image.specs.Files.{root_file, IsStoreFile, root_heading}
 use Rattle.store_image.proofs.Alike.{alike_put, stands_alike}
 use Rattle.store_image.proofs.Standing.{put_file}
 use Rattle.journal_book.specs.Opening.{KeepsHistories, StandsNow}
@@ -58,7 +59,7 @@ pub some_root : (m : Meaning) (origin : Origin) (steps more : List Step) (image 
 some_root m origin steps more image is =
     let named = is.stands.stored.named in
     let bodies = map number (named.before ++ is.stands.generation ∷ []) in
-    omega (arith, ap length named.bodies.content, length-append (gate_file (heading_of 0) bodies named.bodies.gate) named.bodies.behind, gate_length (heading_of 0) bodies named.bodies.gate)
+    omega (arith, ap length named.bodies.content, length-append (gate_file root_heading bodies named.bodies.gate) named.bodies.behind, gate_length root_heading bodies named.bodies.gate)
 
 -- reads keep histories
 pub reads_keep : {old new : DiskView} → ((image : Image) → old.left_since old.moment image → IsImage old.may_leave image) → OnlyReads old new → KeepsHistories old new

@@ -9,8 +9,9 @@ use Rattle.base_types.proofs.Everywhere.{all-append}
 use Rattle.core_state.specs.Sealing.{sealed_out, sealed_whole}
 use Rattle.edge_traits.specs.Disk.{DiskView, Image, IsImage, Leaves, LeavesOthers, Only}
 use Rattle.edge_traits.proofs.Moments.{run_on, started, widened}
-use Rattle.disk_journal.specs.GateFile.{gate_file, heading_of, HasBodies, HasOldOrNew, Heading}
+use Rattle.disk_journal.specs.GateFile.{gate_file, HasBodies, HasOldOrNew}
 use Rattle.disk_journal.specs.Journal.{JournalView, IsAtRest}
+use Rattle.disk_journal.specs.declared.header.Heading.{Heading}
 use Rattle.stored_types.specs.Code.{number}
 use Rattle.step_code.specs.declared.base.Base.{Base}
 use Rattle.step_code.specs.declared.output.Output.{Output}
@@ -23,7 +24,7 @@ use Rattle.step_code.specs.Spent.{last_given, out_length}
 use Rattle.seal_laws.proofs.Histories.{seals, seals_on}
 use Rattle.seal_laws.proofs.Renewed.{seals_whole, stands_renewed}
 use Rattle.seal_laws.specs.Renewed.{AreAllLines}
-use Rattle.store_image.specs.Files.{generation_file, out_file, root_file}
+use Rattle.store_image.specs.Files.{generation_file, out_file, root_file, heading_of, root_heading, written_format}
 use Rattle.store_image.specs.Opens.{AreLong}
 use Rattle.store_image.specs.Stands.{IsSealOf, Origin, Stands, StandsFor}
 use Rattle.store_image.specs.Stored.{HoldsSteps, IsStored}
@@ -47,10 +48,10 @@ use Rattle.journal_book.proofs.WholeFiles.{before_told}
 
 -- ---- what the book keeps
 
-pub stores_renewed : (root later journal made : JournalView) (g n : ℕ) → AreStoreFiles root journal g → n ≡ suc g → later.file ≡ root.file → later.heading ≡ root.heading → made.file ≡ generation_file n → made.heading ≡ heading_of n → n ≤ last_given
-    → AreStoreFiles later made n
+pub stores_renewed : {format : ℕ} (root later journal made : JournalView) (g n : ℕ) → AreStoreFiles root journal format g → n ≡ suc g → later.file ≡ root.file → later.heading ≡ root.heading → made.file ≡ generation_file n → made.heading ≡ heading_of written_format n → n ≤ last_given
+    → AreStoreFiles later made written_format n
 stores_renewed root later journal made g n was is same_file same_heading file heading given =
-    record { root_file_is = same_file ∙ was.root_file_is; root_heading_is = same_heading ∙ was.root_heading_is; file_is = file; heading_is = heading; given = given }
+    record { root_file_is = same_file ∙ was.root_file_is; root_heading_is = same_heading ∙ was.root_heading_is; file_is = file; heading_is = heading; known = refl; given = given }
 
 few_sealed : (outs : List Output) → length (map sealed_out outs) ≡ length outs
 few_sealed [] = refl
@@ -129,12 +130,12 @@ root_is_no_generation : (g : ℕ) → root_file ≢ generation_file g
 root_is_no_generation g same = omega (arith, same)
 
 -- a file that may be left as it was has its bodies
-root_stays : (may_leave : ℕ → List ℕ → Type 0) (root : JournalView) (bodies : List (List ℕ)) (files image : Image) → root.file ≡ root_file → root.heading ≡ heading_of 0 → IsAtRest root may_leave bodies files → may_leave root_file (image root_file)
-    → HasBodies (heading_of 0) bodies (image root_file)
-root_stays may_leave root bodies files image file heading rest left = left_at_rest root may_leave bodies files root_file (heading_of 0) file heading rest (image root_file) left
+root_stays : (may_leave : ℕ → List ℕ → Type 0) (root : JournalView) (bodies : List (List ℕ)) (files image : Image) → root.file ≡ root_file → root.heading ≡ root_heading → IsAtRest root may_leave bodies files → may_leave root_file (image root_file)
+    → HasBodies root_heading bodies (image root_file)
+root_stays may_leave root bodies files image file heading rest left = left_at_rest root may_leave bodies files root_file root_heading file heading rest (image root_file) left
 
 -- no call
-pub begins_still : (old : DiskView) (root : JournalView) (bodies : List (List ℕ)) (code : List ℕ) (g : ℕ) (files : Image) → root.file ≡ root_file → root.heading ≡ heading_of 0 → IsAtRest root old.may_leave bodies files
+pub begins_still : (old : DiskView) (root : JournalView) (bodies : List (List ℕ)) (code : List ℕ) (g : ℕ) (files : Image) → root.file ≡ root_file → root.heading ≡ root_heading → IsAtRest root old.may_leave bodies files
     → ((image : Image) → old.left_since old.moment image → IsImage old.may_leave image) → Leaves old old (IsBeginning old bodies code g)
 begins_still old root bodies code g files file heading rest only =
     started
@@ -143,7 +144,7 @@ begins_still old root bodies code g files file heading rest only =
     record { others = λ other apart. is other; named = inl (root_stays old.may_leave root bodies files image file heading rest (is root_file)) })
 
 -- the generation's file
-pub begins_made : (old mid : DiskView) (root : JournalView) (bodies : List (List ℕ)) (code : List ℕ) (g : ℕ) (files : Image) → root.file ≡ root_file → root.heading ≡ heading_of 0 → IsAtRest root old.may_leave bodies files
+pub begins_made : (old mid : DiskView) (root : JournalView) (bodies : List (List ℕ)) (code : List ℕ) (g : ℕ) (files : Image) → root.file ≡ root_file → root.heading ≡ root_heading → IsAtRest root old.may_leave bodies files
     → LeavesAlone old mid (λ file. file ≢ generation_file g) → Leaves old mid (IsBeginning old bodies code g)
 begins_made old mid root bodies code g files file heading rest alone =
     widened
@@ -151,8 +152,8 @@ begins_made old mid root bodies code g files file heading rest alone =
     alone.any_moment
 
 -- and then the root
-pub begins_on : (old mid new : DiskView) (root now journal : JournalView) (bodies : List (List ℕ)) (code : List ℕ) (g : ℕ) (files between : Image) → root.file ≡ root_file → root.heading ≡ heading_of 0 → now.file ≡ root.file → now.heading ≡ root.heading
-    → journal.file ≡ generation_file g → journal.heading ≡ heading_of g → IsAtRest root old.may_leave bodies files → IsAtRest journal mid.may_leave (code ∷ []) between → LeavesAlone old mid (λ file. file ≢ generation_file g)
+pub begins_on : (old mid new : DiskView) (root now journal : JournalView) (bodies : List (List ℕ)) (code : List ℕ) (g : ℕ) (files between : Image) → root.file ≡ root_file → root.heading ≡ root_heading → now.file ≡ root.file → now.heading ≡ root.heading
+    → journal.file ≡ generation_file g → journal.heading ≡ heading_of written_format g → IsAtRest root old.may_leave bodies files → IsAtRest journal mid.may_leave (code ∷ []) between → LeavesAlone old mid (λ file. file ≢ generation_file g)
     → Leaves mid new (λ image. HasOldOrNew now.heading bodies (number g) (image now.file) × LeavesOthers mid now.file image) → Leaves old new (IsBeginning old bodies code g)
 begins_on old mid new root now journal bodies code g files between file heading same_file same_heading made_file made_heading rest made alone run = run_on (begins_made old mid root bodies code g files file heading rest alone) (widened wide run)
   where
@@ -160,7 +161,7 @@ begins_on old mid new root now journal bodies code g files between file heading 
     wide image left =
         let others = subst (λ (n : ℕ). LeavesOthers mid n image) (same_file ∙ file) left.1 in
         let found = subst (λ (h : Heading). HasOldOrNew h bodies (number g) (image root_file)) (same_heading ∙ heading) (subst (λ (n : ℕ). HasOldOrNew now.heading bodies (number g) (image n)) (same_file ∙ file) left.0) in
-        let holds = left_at_rest journal mid.may_leave (code ∷ []) between (generation_file g) (heading_of g) made_file made_heading made (image (generation_file g)) (others (generation_file g) (λ same. root_is_no_generation g (sym same))) in
+        let holds = left_at_rest journal mid.may_leave (code ∷ []) between (generation_file g) (heading_of written_format g) made_file made_heading made (image (generation_file g)) (others (generation_file g) (λ same. root_is_no_generation g (sym same))) in
         record {
           others = λ other apart. alone.now other apart.1 (image other) (others other apart.0);
           named = ⊎_elim (λ old_bodies. inl old_bodies) (λ new_bodies. inr (new_bodies, holds)) found;
@@ -248,7 +249,7 @@ pub record MayBegin {D R : Type 0} (book : BookView D R) (generation : ℕ) (cod
 whole_in : (m : Meaning) (first : Base) (history : List Step) (now : DiskView) (files : Image) → now.told ≡ Some files → AreWritten m first history now → AreWhole now.may_leave (replay m first history).outs files
 whole_in m first history now files told written = subst (λ (i : Image). AreWhole now.may_leave (replay m first history).outs i) (told_is_one now.told written.0 files written.1 told) written.2
 
-module _ {D R : Type 0} (disk : D → DiskView) (m : Meaning) (book : BookView D R) (root journal : JournalView) (files : Image) (honest : IsImage (disk book.disk).may_leave files) (stores : AreStoreFiles root journal book.generation)
+module _ {D R : Type 0} {format : ℕ} (disk : D → DiskView) (m : Meaning) (book : BookView D R) (root journal : JournalView) (files : Image) (honest : IsImage (disk book.disk).may_leave files) (stores : AreStoreFiles root journal format book.generation)
     (writable : IsWritableBase first_format book.base) (rest : AreAtRest root journal (disk book.disk).may_leave book.generation book.base (durable_steps book) files) (behind : book.state ≡ replay m book.base book.steps)
     (generation : ℕ) (code : List ℕ) (may : MayBegin book generation code) (origin : Origin) (past : List Step) (kept : IsKept disk m origin past book) (told_here : (disk book.disk).told ≡ Some files)
     (are_written : AreWritten m origin.first (past ++ book.steps) (disk book.disk)) where
@@ -309,21 +310,21 @@ module _ {D R : Type 0} (disk : D → DiskView) (m : Meaning) (book : BookView D
       (subst (λ (ss : List Step). StandsFor m origin (past ++ ss) [] (before image)) durable
       (subst (λ (ss : List Step). StandsFor m origin (past ++ durable_steps book) ss (before image)) none_wait (kept.each (before image) (left_before image begins))))
 
-  stored_old : (image : Image) → Begins image → HasBodies (heading_of 0) bodies (image root_file) → IsStored image book.generation book.base book.steps
+  stored_old : (image : Image) → Begins image → HasBodies root_heading bodies (image root_file) → IsStored image book.generation book.base book.steps
   stored_old image begins old = record {
     named = record { before = rest.before; bodies = old; given = rest.given };
     holds = subst (λ (c : List ℕ). HoldsSteps book.generation c book.base book.steps) (earlier_before image book.generation (omega arith)) (stored_before image begins).holds;
   }
 
-  stored_new : (image : Image) → HasBodies (heading_of 0) (bodies ++ number (suc book.generation) ∷ []) (image root_file)
-      → HasBodies (heading_of (suc book.generation)) (code_of_base first_format (sealed_whole book.state) ∷ []) (image next) → IsStored image (suc book.generation) (sealed_whole book.state) []
+  stored_new : (image : Image) → HasBodies root_heading (bodies ++ number (suc book.generation) ∷ []) (image root_file)
+      → HasBodies (heading_of written_format (suc book.generation)) (code_of_base first_format (sealed_whole book.state) ∷ []) (image next) → IsStored image (suc book.generation) (sealed_whole book.state) []
   stored_new image named holds = record {
     named = record {
       before = rest.before ++ book.generation ∷ [];
-      bodies = subst (λ (bs : List (List ℕ)). HasBodies (heading_of 0) bs (image root_file)) (sym (map-append number (rest.before ++ book.generation ∷ []) (suc book.generation ∷ []))) named;
+      bodies = subst (λ (bs : List (List ℕ)). HasBodies root_heading bs (image root_file)) (sym (map-append number (rest.before ++ book.generation ∷ []) (suc book.generation ∷ []))) named;
       given = all-append (λ k. k ≤ last_given) (rest.before ++ book.generation ∷ []) (suc book.generation ∷ []) rest.given (given, tt);
     };
-    holds = record { records = []; bodies = holds; writable = may.writable; content = refl };
+    holds = record { format = written_format; known = refl; records = []; bodies = holds; writable = may.writable; content = refl };
   }
 
   all_lines : (image : Image) → Begins image → AreAllLines (replay m origin.first (past ++ book.steps)).outs image
@@ -331,7 +332,7 @@ module _ {D R : Type 0} (disk : D → DiskView) (m : Meaning) (book : BookView D
       let whole = written k out is in
       whole.durable (image (out_file k)) (begins.others (out_file k) ((λ same. omega (arith, same)), (λ same. omega (arith, same)))) ∙ whole.content
 
-  stands_old : (image : Image) → Begins image → HasBodies (heading_of 0) bodies (image root_file) → Stands m origin image (past ++ book.steps)
+  stands_old : (image : Image) → Begins image → HasBodies root_heading bodies (image root_file) → Stands m origin image (past ++ book.steps)
   stands_old image begins old =
       let stands = subst (λ (h : List Step). Stands m origin (before image) h) (sym (append-nil (past ++ book.steps))) (stands_before image begins) in
       let was = past_of m origin past book.steps [] book.base book.generation (before image) (stored_before image begins) kept.counted stands in
@@ -387,11 +388,12 @@ module _ {D R : Type 0} (disk : D → DiskView) (m : Meaning) (book : BookView D
 -- the book that begins the next generation, by its parts
 pub view_renewed : {D R : Type 0} (book : BookView D R) (now : D) (rules : R) (generation root : ℕ) (base state : Base) (steps : List Step) → rules ≡ book.rules → generation ≡ suc book.generation → root ≡ book.root + root_entry
     → base ≡ sealed_whole book.state → state ≡ sealed_whole book.state → steps ≡ []
-    → (let new : BookView D R = record { disk = now; rules = rules; generation = generation; root = root; base = base; steps = steps; kept = 0; state = state; limit = book.limit; broken = book.broken } in new ≡ record (renewed book) { disk = now })
+    → (let new : BookView D R = record { disk = now; rules = rules; format = written_format; generation = generation; root = root; base = base; steps = steps; kept = 0; state = state; limit = book.limit; broken = book.broken } in new ≡ record (renewed book) { disk = now })
 view_renewed book now rules generation root base state steps same_rules same_generation same_root same_base same_state none = λ i.
     record {
       disk = now;
       rules = same_rules i;
+      format = written_format;
       generation = same_generation i;
       root = same_root i;
       base = same_base i;

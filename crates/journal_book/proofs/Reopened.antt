@@ -62,10 +62,10 @@ rest_reopened old now root journal g base steps len after None was told untold r
 rest_reopened old now root journal g base steps len after (Some files) was told untold rests size =
     subst (λ (ss : List Step). AreAtRest root journal now.may_leave g base ss after) (sym (all_durable len steps size)) (rests files after was told)
 
-pub view_reopened : {D R : Type 0} (m : Meaning) (rules other : R) (g root : ℕ) (base state : Base) (steps : List Step) (len limit : ℕ) (now : D) → other ≡ rules → state ≡ replay m base steps → len ≡ length steps
-    → (let book : BookView D R = record { disk = now; rules = other; generation = g; root = root; base = base; steps = steps; kept = len; state = state; limit = limit; broken = false } in book ≡ opened m rules g root base steps limit now)
-view_reopened m rules other g root base state steps len limit now same_rules same_state size = λ i.
-    record { disk = now; rules = same_rules i; generation = g; root = root; base = base; steps = steps; kept = size i; state = same_state i; limit = limit; broken = false }
+pub view_reopened : {D R : Type 0} (m : Meaning) (rules other : R) (f g root : ℕ) (base state : Base) (steps : List Step) (len limit : ℕ) (now : D) → other ≡ rules → state ≡ replay m base steps → len ≡ length steps
+    → (let book : BookView D R = record { disk = now; rules = other; format = f; generation = g; root = root; base = base; steps = steps; kept = len; state = state; limit = limit; broken = false } in book ≡ opened m rules f g root base steps limit now)
+view_reopened m rules other f g root base state steps len limit now same_rules same_state size = λ i.
+    record { disk = now; rules = same_rules i; format = f; generation = g; root = root; base = base; steps = steps; kept = size i; state = same_state i; limit = limit; broken = false }
 
 -- ---- what the store stands for
 
@@ -97,7 +97,10 @@ module _ (m : Meaning) (origin : Origin) (before more : List Step) (may_leave : 
     (each : (image : Image) → IsImage may_leave image → StandsFor m origin before more image) (stored : (image : Image) → IsImage may_leave image → IsStored image g base steps) where
   -- what stands in an image that a crash may leave
   one_stored : (image : Image) (left : IsImage may_leave image) → (let stands = (each image left).stands in (stands.generation ≡ g) × (stands.base ≡ base) × (stands.steps ≡ steps))
-  one_stored image left = let stands = (each image left).stands in stored_is_one image stands.generation g stands.base base stands.steps steps stands.stored (stored image left)
+  one_stored image left =
+      let stands = (each image left).stands in
+      let one = stored_is_one image stands.generation g stands.base base stands.steps steps stands.stored (stored image left) in
+      (one.0, one.1, one.2)
 
   abbrev pub past_told : List Step
   past_told = (each files honest).stands.past
@@ -120,10 +123,10 @@ module _ (m : Meaning) (origin : Origin) (before more : List Step) (may_leave : 
       (one_front before more past_told is.stands.past steps (each files honest).count is.count (each files honest).within is.within history_told (is.stands.splits ∙ ap (λ ss. is.stands.past ++ ss) same.2) (omega (arith, counted_told, there)))
       is.stands
 
-pub kept_reopened : {D R : Type 0} (disk : D → DiskView) (m : Meaning) (origin : Origin) (before more : List Step) (rules : R) (limit : ℕ) (now : D) (root journal : JournalView) (g : ℕ) (base : Base) (steps : List Step)
-    → (was : StandsNow m origin before more (disk now)) → IsImage (disk now).may_leave was.files → AreStoreFiles root journal g → IsWritableBase first_format base → AreAtRest root journal (disk now).may_leave g base steps was.files
-    → IsReopened disk m origin before more (opened m rules g root.length base steps limit now)
-kept_reopened disk m origin before more rules limit now root journal g base steps was honest stores writable rest =
+pub kept_reopened : {D R : Type 0} (disk : D → DiskView) (m : Meaning) (origin : Origin) (before more : List Step) (rules : R) (limit : ℕ) (now : D) (root journal : JournalView) (f g : ℕ) (base : Base) (steps : List Step)
+    → (was : StandsNow m origin before more (disk now)) → IsImage (disk now).may_leave was.files → AreStoreFiles root journal f g → IsWritableBase first_format base → AreAtRest root journal (disk now).may_leave g base steps was.files
+    → IsReopened disk m origin before more (opened m rules f g root.length base steps limit now)
+kept_reopened disk m origin before more rules limit now root journal f g base steps was honest stores writable rest =
     let stored : (image : Image) → IsImage (disk now).may_leave image → IsStored image g base steps = stored_now (disk now).may_leave root journal g base steps was.files honest stores writable rest in
     let past = past_told m origin before more (disk now).may_leave g base steps was.files honest was.each stored in
     let all : take (length steps) steps ≡ steps = take_all (length steps) steps (omega arith) in

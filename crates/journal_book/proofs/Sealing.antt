@@ -151,7 +151,7 @@ root_is_no_out k same = omega (arith, same)
 generation_is_no_out : (g : ℕ) → IsNoOut (generation_file g)
 generation_is_no_out g k same = omega (arith, same)
 
-module _ {D R : Type 0} (disk : D → DiskView) (m : Meaning) (book : BookView D R) (root journal : JournalView) (files : Image) (honest : IsImage (disk book.disk).may_leave files) (stores : AreStoreFiles root journal book.generation) (writable : IsWritableBase first_format book.base) (rest : AreAtRest root journal (disk book.disk).may_leave book.generation book.base (durable_steps book) files) (origin : Origin) (past : List Step) (kept : IsKept disk m origin past book) where
+module _ {D R : Type 0} {format : ℕ} (disk : D → DiskView) (m : Meaning) (book : BookView D R) (root journal : JournalView) (files : Image) (honest : IsImage (disk book.disk).may_leave files) (stores : AreStoreFiles root journal format book.generation) (writable : IsWritableBase first_format book.base) (rest : AreAtRest root journal (disk book.disk).may_leave book.generation book.base (durable_steps book) files) (origin : Origin) (past : List Step) (kept : IsKept disk m origin past book) where
   abbrev gen : ℕ
   gen = generation_file book.generation
 
@@ -266,8 +266,8 @@ rests_beside old now outs journal bodies files after apart run was told rest =
     rests_same old.may_leave now.may_leave journal bodies files after (ap (λ (i : Image). i journal.file) (told_is_one now.told after changes.0 told changes.1) ∙ changes.2 journal.file apart) (run.crash_elsewhere journal.file apart) rest
 
 -- root and generation rest
-pub rest_completed : (old now : DiskView) (outs : List Output) (root journal : JournalView) (g : ℕ) (base : Base) (steps : List Step) (after : Image) (told : Option Image)
-    → old.told ≡ told → now.told ≡ Some after → AreStoreFiles root journal g → RunsOut old now outs IsNoOut
+pub rest_completed : {format : ℕ} (old now : DiskView) (outs : List Output) (root journal : JournalView) (g : ℕ) (base : Base) (steps : List Step) (after : Image) (told : Option Image)
+    → old.told ≡ told → now.told ≡ Some after → AreStoreFiles root journal format g → RunsOut old now outs IsNoOut
     → ((files : Image) → old.told ≡ Some files → AreAtRest root journal old.may_leave g base steps files) → AreAtRest root journal now.may_leave g base steps after
 rest_completed old now outs root journal g base steps after None was told stores run rests = absurd (none-some after (sym (run.untold was) ∙ told))
 rest_completed old now outs root journal g base steps after (Some files) was told stores run rests =

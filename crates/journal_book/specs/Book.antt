@@ -6,14 +6,16 @@ use Rattle.step_code.specs.declared.base.Base.{Base}
 use Rattle.step_code.specs.declared.step.Step.{Step}
 use Rattle.step_code.specs.Rules.{Meaning}
 use Rattle.step_code.specs.History.{replay}
+use Rattle.store_image.specs.Files.{written_format}
 use Rattle.store_image.specs.Stands.{IsSealOf, Origin, StandsFor}
 
--- the disk and the rules that it owns; its generation, the length of the root's file, the state with which the generation begins,
--- and the steps behind that state, of which so many are durable; the state behind all of them; the limit of their codes together;
+-- the disk and the rules that it owns; the format of its generation, its generation, the length of the root's file, the state with
+-- which the generation begins, and the steps behind that state, of which so many are durable; the state behind all of them; the limit of their codes together;
 -- and whether the disk has failed it
 pub record BookView (D R : Type 0) : Type 0 where
   pub disk : D
   pub rules : R
+  pub format : ℕ
   pub generation : ℕ
   pub root : ℕ
   pub base : Base
@@ -33,7 +35,7 @@ first_root = header_length + 1 + root_entry
 
 -- the book of a store that begins with this state
 abbrev pub created : {D R : Type 0} → R → Base → ℕ → D → BookView D R
-created rules base limit disk = record { disk = disk; rules = rules; generation = 0; root = first_root; base = base; steps = []; kept = 0; state = base; limit = limit; broken = false }
+created rules base limit disk = record { disk = disk; rules = rules; format = written_format; generation = 0; root = first_root; base = base; steps = []; kept = 0; state = base; limit = limit; broken = false }
 
 -- the steps that are durable, and those that wait for a flush
 abbrev pub durable_steps : {D R : Type 0} → BookView D R → List Step

@@ -2,7 +2,6 @@
 use Rattle.std.specs.Prelude.{◌≡◌, ◌⊎◌, ◌≤◌, ◌+◌, ◌*◌, ◌^◌, ℕ, List, [], ◌∷◌, ◌++◌, length, take, drop, map}
 use Rattle.std.specs.List.{AllByRecursion}
 use Rattle.edge_traits.specs.Disk.{Image}
-use Rattle.disk_journal.specs.GateFile.{heading_of}
 use Rattle.disk_journal.specs.Journal.{JournalView, IsAtRest}
 use Rattle.stored_types.specs.Code.{number}
 use Rattle.step_code.specs.declared.base.Base.{Base}
@@ -13,7 +12,7 @@ use Rattle.step_code.specs.History.{replay}
 use Rattle.step_code.specs.Rules.{last_moment, Meaning}
 use Rattle.step_code.specs.Sound.{IsSound}
 use Rattle.step_code.specs.Spent.{last_given, out_length}
-use Rattle.store_image.specs.Files.{root_file, generation_file}
+use Rattle.store_image.specs.Files.{root_file, generation_file, heading_of, root_heading}
 use Rattle.store_image.specs.Stored.{codes_of, AreRecords}
 use Rattle.journal_book.specs.Staged.{greatest_limit}
 
@@ -26,12 +25,13 @@ pub record AreAtRest (root journal : JournalView) (may_leave : ℕ → List ℕ 
   pub journal_rests : IsAtRest journal may_leave (code_of_base first_format base ∷ records) files
   pub content : AreRecords records steps
 
--- the two files are those of a store and of its generation, which may be given
-pub record AreStoreFiles (root journal : JournalView) (generation : ℕ) : Type 0 where
+-- the two files are those of a store and of its generation, which may be given, in a format that is known
+pub record AreStoreFiles (root journal : JournalView) (format generation : ℕ) : Type 0 where
   pub root_file_is : root.file ≡ root_file
-  pub root_heading_is : root.heading ≡ heading_of 0
+  pub root_heading_is : root.heading ≡ root_heading
   pub file_is : journal.file ≡ generation_file generation
-  pub heading_is : journal.heading ≡ heading_of generation
+  pub heading_is : journal.heading ≡ heading_of format generation
+  pub known : format ≡ first_format
   pub given : generation ≤ last_given
 
 -- the state is the one behind the steps, and the first of them are durable

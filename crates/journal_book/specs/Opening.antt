@@ -1,7 +1,7 @@
 -- What opening a store finds, and what it leaves of the disk.
 use Rattle.std.specs.Prelude.{◌≡◌, ◌≢◌, ◌≤◌, ◌<◌, ℕ, false, List, [], ◌∷◌, ◌++◌, length, map, take, Option, Some, None}
 use Rattle.edge_traits.specs.Disk.{Adds, ChangesOnly, DiskView, Image, IsImage, Leaves, LeavesOthers}
-use Rattle.disk_journal.specs.GateFile.{gate_file, heading_of, HasBodies}
+use Rattle.disk_journal.specs.GateFile.{gate_file, HasBodies}
 use Rattle.disk_journal.specs.declared.journal.JournalFault.{JournalFault}
 use Rattle.disk_journal.specs.declared.journal.JournalFault.TheVariants as journal
 use Rattle.stored_types.specs.Code.{number}
@@ -11,7 +11,7 @@ use Rattle.step_code.specs.declared.step.Step.{Step}
 use Rattle.step_code.specs.History.{replay}
 use Rattle.step_code.specs.Rules.{Meaning}
 use Rattle.store_image.specs.Damage.{IsDamagedStore, IsShort}
-use Rattle.store_image.specs.Files.{root_file}
+use Rattle.store_image.specs.Files.{root_file, root_heading}
 use Rattle.store_image.specs.Opens.{AreLong}
 use Rattle.store_image.specs.Stands.{Origin, StandsFor}
 use Rattle.journal_book.specs.Book.{BookView, IsKept}
@@ -35,9 +35,9 @@ pub record StandsNow (m : Meaning) (origin : Origin) (steps more : List Step) (n
   pub each : (image : Image) → IsImage now.may_leave image → StandsFor m origin steps more image
 
 -- the book of a store that was opened with this state, and with these steps behind it, all of them durable
-abbrev pub opened : {D R : Type 0} → Meaning → R → ℕ → ℕ → Base → List Step → ℕ → D → BookView D R
-opened m rules generation root base steps limit disk =
-    record { disk = disk; rules = rules; generation = generation; root = root; base = base; steps = steps; kept = length steps; state = replay m base steps; limit = limit; broken = false }
+abbrev pub opened : {D R : Type 0} → Meaning → R → ℕ → ℕ → ℕ → Base → List Step → ℕ → D → BookView D R
+opened m rules format generation root base steps limit disk =
+    record { disk = disk; rules = rules; format = format; generation = generation; root = root; base = base; steps = steps; kept = length steps; state = replay m base steps; limit = limit; broken = false }
 
 -- the book goes on with these steps and a front of those behind them, all of which are durable
 pub record IsReopened {D R : Type 0} (disk : D → DiskView) (m : Meaning) (origin : Origin) (steps more : List Step) (book : BookView D R) : Type 0 where
@@ -54,8 +54,8 @@ TellsLong told outs = (files : Image) × (told ≡ Some files) × AreLong 0 outs
 -- the root names generations, this one last, and has this length up to the gate behind them, where it is cut
 pub record IsRootLength (files : Image) (generation root : ℕ) : Type 0 where
   pub before : List ℕ
-  pub bodies : HasBodies (heading_of 0) (map number (before ++ generation ∷ [])) (files root_file)
-  pub is : root ≡ length (gate_file (heading_of 0) (map number (before ++ generation ∷ [])) 0)
+  pub bodies : HasBodies root_heading (map number (before ++ generation ∷ [])) (files root_file)
+  pub is : root ≡ length (gate_file root_heading (map number (before ++ generation ∷ [])) 0)
 
 -- ---- what private contracts cite
 

@@ -1,7 +1,6 @@
 -- What reading an earlier generation finds.
 use Rattle.std.specs.Prelude.{◌≡◌, ℕ, List, Option, Some}
 use Rattle.edge_traits.specs.Disk.{Image}
-use Rattle.disk_journal.specs.GateFile.{heading_of}
 use Rattle.disk_journal.specs.declared.journal.JournalFault.{JournalFault}
 use Rattle.disk_journal.specs.declared.journal.JournalFault.TheVariants as journal
 use Rattle.step_code.specs.declared.base.Base.{Base}
@@ -9,11 +8,12 @@ use Rattle.step_code.specs.declared.step.Step.{Step}
 use Rattle.step_code.specs.Rules.{Meaning}
 use Rattle.step_code.specs.Sound.{IsSound}
 use Rattle.store_image.specs.Damage.{AreNoHistory, IsDamagedFile}
-use Rattle.store_image.specs.Files.{generation_file}
+use Rattle.store_image.specs.Files.{generation_file, heading_of}
 use Rattle.store_image.specs.Opens.{AreReplayable}
 use Rattle.store_image.specs.Stored.{HoldsSteps}
 use Rattle.journal_book.specs.declared.past_fault.PastFault.{PastFault}
 use Rattle.journal_book.specs.declared.past_fault.PastFault.TheVariants as fault
+use Rattle.step_code.specs.Code.{first_format}
 
 -- ---- what public contracts cite
 
@@ -27,7 +27,7 @@ pub record IsPast (m : Meaning) (generation : ℕ) (file : List ℕ) (base : Bas
 abbrev pub IsPastFault : Meaning → ℕ → Option Image → PastFault → Type 0
 IsPastFault m generation told fault.Disk = Unit {0}
 IsPastFault m generation told (fault.Damaged file at) =
-    (file ≡ generation_file generation) × ((files : Image) → told ≡ Some files → IsDamagedFile (heading_of generation) (AreNoHistory m) (files (generation_file generation)) at)
+    (file ≡ generation_file generation) × ((files : Image) → told ≡ Some files → IsDamagedFile (heading_of first_format generation) (AreNoHistory m) (files (generation_file generation)) at)
 IsPastFault m generation told fault.OutOfMemory = Unit {0}
 
 -- ---- what private contracts cite

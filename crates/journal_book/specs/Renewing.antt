@@ -2,7 +2,7 @@
 use Rattle.std.specs.Prelude.{◌≡◌, ◌≢◌, ◌⊎◌, ◌+◌, ℕ, suc, Bool, true, false, List, [], ◌∷◌, ◌++◌, length, min, nat_lt, Option, Some, None, find, if◌then◌else◌}
 use Rattle.base_types.specs.Number.{last_u64}
 use Rattle.edge_traits.specs.Disk.{DiskView, Image}
-use Rattle.disk_journal.specs.GateFile.{heading_of, HasBodies}
+use Rattle.disk_journal.specs.GateFile.{HasBodies}
 use Rattle.stored_types.specs.Code.{number}
 use Rattle.core_state.specs.Sealing.{sealed_whole}
 use Rattle.step_code.specs.declared.base.Base.{Base}
@@ -10,7 +10,7 @@ use Rattle.step_code.specs.declared.output.Output.{Output}
 use Rattle.step_code.specs.Code.{code_of_base, first_format}
 use Rattle.step_code.specs.Sound.{longest_base}
 use Rattle.step_code.specs.Spent.{is_past}
-use Rattle.store_image.specs.Files.{generation_file, root_file}
+use Rattle.store_image.specs.Files.{generation_file, root_file, heading_of, root_heading, written_format}
 use Rattle.journal_book.specs.Alone.{IsNoOut}
 use Rattle.journal_book.specs.Book.{root_entry, BookView}
 use Rattle.journal_book.specs.Outputs.{IsFirstShort}
@@ -21,10 +21,10 @@ use Rattle.journal_book.specs.declared.renew_fault.RenewFault.TheVariants as ref
 
 -- ---- what public contracts cite
 
--- the book whose generation is the next one: it begins with the state in which all lines of outputs are sealed, and has no steps
+-- the book whose generation is the next one, in the format that is written: it begins with the state in which all lines of outputs are sealed, and has no steps
 abbrev pub renewed : {D R : Type 0} → BookView D R → BookView D R
 renewed book =
-    record book { generation = suc book.generation; root = book.root + root_entry; base = sealed_whole book.state; steps = []; kept = 0; state = sealed_whole book.state }
+    record book { format = written_format; generation = suc book.generation; root = book.root + root_entry; base = sealed_whole book.state; steps = []; kept = 0; state = sealed_whole book.state }
 
 -- the length of the code of a state in which all lines of outputs are sealed; where 64 bits don't hold it, their greatest number
 abbrev pub sealed_length : Base → ℕ
@@ -110,5 +110,5 @@ IsBeginFault refusal.OutOfMemory = Unit {0}
 -- the generation behind them, whose file has this body
 pub record IsBeginning (old : DiskView) (bodies : List (List ℕ)) (code : List ℕ) (generation : ℕ) (image : Image) : Type 0 where
   pub others : (other : ℕ) → (other ≢ root_file) × (other ≢ generation_file generation) → old.may_leave other (image other)
-  pub named : HasBodies (heading_of 0) bodies (image root_file)
-      ⊎ (HasBodies (heading_of 0) (bodies ++ number generation ∷ []) (image root_file) × HasBodies (heading_of generation) (code ∷ []) (image (generation_file generation)))
+  pub named : HasBodies root_heading bodies (image root_file)
+      ⊎ (HasBodies root_heading (bodies ++ number generation ∷ []) (image root_file) × HasBodies (heading_of written_format generation) (code ∷ []) (image (generation_file generation)))

@@ -48,18 +48,18 @@ pub record IsGiven (m : Meaning) (s : Base) (bot : List ℕ) (instance : ℕ) (s
   pub holds : hand_of bot instance s ≡ Some hand
   pub gives : m.give (record { bundle = s.bundle; bot = bot }) hand.message.body hand.since.0 ≡ given.Pass sends dumps key line
 
--- what a move carries is what the rules give
-abbrev pub IsMove : Meaning → Base → ℕ → StepKind → Type 0
-IsMove m s now kind.Start = Unit {0}
-IsMove m s now (kind.Collect bot from upto piece) = Matches m s now (kind.Collect bot from upto piece)
-IsMove m s now (kind.FeedEnd bot position) = Unit {0}
-IsMove m s now (kind.Take bot instance message) = Matches m s now (kind.Take bot instance message)
-IsMove m s now (kind.Done bot instance message bundle sends dumps key line) = IsGiven m s bot instance sends dumps key line
-IsMove m s now (kind.Retry bot instance message bundle fault) = Matches m s now (kind.Retry bot instance message bundle fault)
-IsMove m s now (kind.Fail bot instance message bundle fault queues halts) = Matches m s now (kind.Fail bot instance message bundle fault queues halts)
-IsMove m s now (kind.Reload bundle) = Unit {0}
-IsMove m s now (kind.Redo dump) = Unit {0}
-IsMove m s now (kind.Round bot) = Unit {0}
+-- what a move carries is what the rules give, in a generation of this format: each of these moves is of every format
+abbrev pub IsMove : Meaning → ℕ → Base → ℕ → StepKind → Type 0
+IsMove m format s now kind.Start = Unit {0}
+IsMove m format s now (kind.Collect bot from upto piece) = Matches m s now (kind.Collect bot from upto piece)
+IsMove m format s now (kind.FeedEnd bot position) = Unit {0}
+IsMove m format s now (kind.Take bot instance message) = Matches m s now (kind.Take bot instance message)
+IsMove m format s now (kind.Done bot instance message bundle sends dumps key line) = IsGiven m s bot instance sends dumps key line
+IsMove m format s now (kind.Retry bot instance message bundle fault) = Matches m s now (kind.Retry bot instance message bundle fault)
+IsMove m format s now (kind.Fail bot instance message bundle fault queues halts) = Matches m s now (kind.Fail bot instance message bundle fault queues halts)
+IsMove m format s now (kind.Reload bundle) = Unit {0}
+IsMove m format s now (kind.Redo dump) = Unit {0}
+IsMove m format s now (kind.Round bot) = Unit {0}
 
 -- the length of the codes of these steps and of one more together; where 64 bits don't hold it, their greatest number
 abbrev pub bytes_with : List Step → Step → ℕ

@@ -49,6 +49,7 @@ use std::marker::Model;
 use std::snapshot::Snapshot;
 use step_code::{Base, Rules, Step};
 use step_log::StepLog;
+use store_image::WRITTEN_FORMAT;
 
 /// Why staged steps could not be made durable.
 #[derive(Clone, Copy, Debug, PartialEq, Eq)]
@@ -67,6 +68,7 @@ pub struct Book<D: Disk, R: Rules> {
     core: Core<R>,
     root: Journal,
     journal: Journal,
+    format: u32,
     generation: u64,
     // The state that the generation begins with.
     base: Snapshot<Base>,
@@ -88,9 +90,9 @@ impl<D: Disk, R: Rules> Model for Book<D, R> {
 
     ghost Value = { BookView D R };
 
-    ghost view = { λ b. record { disk = b.disk; rules = b.core.rules; generation = b.generation; root = b.root.length; base = b.base.value; steps = b.steps; kept = b.durable; state = b.core.state; limit = b.limit; broken = b.broken } };
+    ghost view = { λ b. record { disk = b.disk; rules = b.core.rules; format = b.format; generation = b.generation; root = b.root.length; base = b.base.value; steps = b.steps; kept = b.durable; state = b.core.state; limit = b.limit; broken = b.broken } };
 
-    ghost invariant = { λ b. AreStoreFiles b.root b.journal b.generation
+    ghost invariant = { λ b. AreStoreFiles b.root b.journal b.format b.generation
         × IsReplayed R.meaning b.base.value b.steps b.durable b.core.state
         × IsPending b.steps b.durable b.pending b.used b.limit b.journal
         × AreShort b.core.state.outs
@@ -160,6 +162,7 @@ impl<D: Disk, R: Rules> Book<D, R> {
                 core,
                 root,
                 journal,
+                format: WRITTEN_FORMAT,
                 generation: 0,
                 base,
                 steps: StepLog::new(),
@@ -190,8 +193,12 @@ impl<D: Disk, R: Rules> Book<D, R> {
         limit: u64,
     ) -> Result<Book<D, R>, (BookFault, D)>
         requires { limit ≤ greatest_limit }
-        ensures book { IfOk result (λ book. book ≡ opened R.meaning rules book.generation book.root book.base book.steps limit book.disk) }
+        ensures book { IfOk result (λ book. book ≡ opened R.meaning rules book.format book.generation book.root book.base book.steps limit book.disk) }
         ensures opens { (files : Image) → (D.disk disk).told ≡ Some files → IfOk result (λ book. Opens R.meaning files book.generation book.base book.steps) }
+
+        // Its format is the one that the header of the generation's file says.
+        ensures format { (files : Image) → (D.disk disk).told ≡ Some files
+            → IfOk result (λ book. (opens : Opens R.meaning files book.generation book.base book.steps) → opens.stored.holds.format ≡ book.format) }
         ensures sound { IfOk result (λ book. IsSound R.meaning book.base) }
         ensures long { (files : Image) → (D.disk disk).told ≡ Some files → IfOk result (λ book. TellsLong (D.disk book.disk).told book.state.outs) }
         ensures root { (files : Image) → (D.disk disk).told ≡ Some files → IfOk result (λ book. IsRootLength files book.generation book.root) }
@@ -224,6 +231,7 @@ impl<D: Disk, R: Rules> Book<D, R> {
                 Reopened {
                     root,
                     journal,
+                    format,
                     generation,
                     history: History { core, base, steps },
                 },
@@ -235,6 +243,7 @@ impl<D: Disk, R: Rules> Book<D, R> {
                     core,
                     root,
                     journal,
+                    format,
                     generation,
                     base,
                     steps,
@@ -271,6 +280,13 @@ impl<D: Disk, R: Rules> Book<D, R> {
         ensures { result ≡ self.now.base.steps + self.now.kept }
     {
         self.core.steps() - (self.steps.len() - self.durable) as u64
+    }
+
+    /// The number of the format of the generation in force.
+    pub fn format(&self) -> u32
+        ensures { result ≡ self.now.format }
+    {
+        self.format
     }
 
     /// The number of the generation in force, from 0.
@@ -326,6 +342,7 @@ impl<D: Disk, R: Rules> Book<D, R> {
             core: _,
             root: _,
             journal: _,
+            format: _,
             generation: _,
             base: _,
             steps: _,
@@ -345,7 +362,7 @@ impl<D: Disk, R: Rules> Book<D, R> {
     ///
     /// What refuses it, in the order of `StageRefusal`. The book is as it was then.
     pub fn stage(&mut self, now: u64, what: Move) -> Result<u64, StageRefusal>
-        requires content { self.old.broken ≡ false → Fits R.meaning self.old.state (staged R.meaning self.old.state now what) → IsMove R.meaning self.old.state (stamp self.old.state now).0 what }
+        requires content { self.old.broken ≡ false → Fits R.meaning self.old.state (staged R.meaning self.old.state now what) → IsMove R.meaning self.old.format self.old.state (stamp self.old.state now).0 what }
         requires few { length (waiting_steps self.old) < most_waiting }
         requires short { length (codes_of (waiting_steps self.old)) < most_waiting_bytes }
         ensures ok { OnOk result (self.new ≡ record self.old { state = after R.meaning self.old.state (staged R.meaning self.old.state now what); steps = self.old.steps ++ staged R.meaning self.old.state now what ∷ [] }) }
@@ -631,6 +648,7 @@ impl<D: Disk, R: Rules> Book<D, R> {
             Ok(journal) => {
                 self.core.seal();
                 self.journal = journal;
+                self.format = WRITTEN_FORMAT;
                 self.generation = number;
                 self.base = base;
                 self.steps = StepLog::new();

@@ -2,7 +2,7 @@
 ghost use Rattle.std.specs.Prelude.{◌≡◌, ◌≢◌, ◌⊎◌, ◌≤◌, ◌<◌, ◌+◌, [], ◌∷◌, ℕ, List, false, length, Option, Some, None, IfOk, IfErr, OnOk, IsErrOf};
 ghost use Rattle.edge_traits.specs.Count.{Rose};
 ghost use Rattle.edge_traits.specs.Disk.{Adds, ChangesOnly, Image, Leaves, LeavesOthers};
-ghost use Rattle.disk_journal.specs.GateFile.{frame_length, header_length, heading_of, HasBodies};
+ghost use Rattle.disk_journal.specs.GateFile.{frame_length, header_length, HasBodies};
 ghost use Rattle.disk_journal.specs.Journal.{IsAtRest};
 ghost use Rattle.stored_types.specs.Code.{number};
 ghost use Rattle.step_code.specs.declared.rules.Facts.{Facts};
@@ -10,7 +10,7 @@ ghost use Rattle.step_code.specs.Code.{code_of_base, first_format, IsWritableBas
 ghost use Rattle.step_code.specs.History.{first};
 ghost use Rattle.step_code.specs.Rules.{Meaning};
 ghost use Rattle.step_code.specs.Sound.{longest_base, IsSound};
-ghost use Rattle.store_image.specs.Files.{generation_file, root_file};
+ghost use Rattle.store_image.specs.Files.{generation_file, heading_of, root_file, written_format};
 ghost use Rattle.journal_book.specs.Alone.{IsBesideNew, LeavesAlone};
 ghost use Rattle.journal_book.specs.Book.{first_root};
 ghost use Rattle.journal_book.specs.Faults.{HasNoFirst, IsCreateFault, Tells};
@@ -22,12 +22,13 @@ use crate::BookFault;
 use crate::files::{ROOT, generation_file};
 use ack_steps::{Core, CoreFault};
 use base_types::Blob;
-use disk_journal::{Journal, JournalFault};
+use disk_journal::{Heading, Journal, JournalFault};
 use edge_traits::Disk;
 use generation_reading::first_state;
 use std::alloc::Global;
 use std::snapshot::Snapshot;
 use step_code::{Base, PlanFault, Rules, encode_base};
+use store_image::{WRITTEN_FORMAT, heading_of, root_heading};
 
 /// What a store is opened with: its state, the files of its root and of its generation, and the state with which the
 /// generation begins.
@@ -74,10 +75,11 @@ fn create_journal<D: Disk>(
     alloc: Global,
     disk: &mut D,
     file: u64,
+    heading: Heading,
     first: &[u8],
 ) -> Result<Journal, BookFault>
     requires small { length first.now ≤ longest_base }
-    ensures journal { IfOk result (λ j. j ≡ record { file = file; heading = heading_of 0; length = header_length + 1 + frame_length + length first.now; room = 0; broken = false }) }
+    ensures journal { IfOk result (λ j. j ≡ record { file = file; heading = heading; length = header_length + 1 + frame_length + length first.now; room = 0; broken = false }) }
     ensures at_rest { (files after : Image) → (D.disk disk.old).told ≡ Some files → (D.disk disk.new).told ≡ Some after
         → IfOk result (λ j. IsAtRest j (D.disk disk.new).may_leave (first.now ∷ []) after) }
     ensures elsewhere { (files : Image) → (D.disk disk.old).told ≡ Some files → ChangesOnly files (D.disk disk.new).told file }
@@ -88,7 +90,7 @@ fn create_journal<D: Disk>(
     ensures failed { IsErrOf result BookFault.Disk → Rose (D.disk disk.old).faults (D.disk disk.new).faults }
     ensures count { (D.disk disk.old).faults ≤ (D.disk disk.new).faults }
 {
-    match Journal::create(alloc, disk, file, 0, first) {
+    match Journal::create(alloc, disk, file, heading, first) {
         Ok(journal) => Ok(journal),
         Err(JournalFault::OutOfMemory) => Err(BookFault::OutOfMemory),
         Err(JournalFault::Disk | JournalFault::Damaged { .. }) => Err(BookFault::Disk),
@@ -102,7 +104,7 @@ fn make_files<D: Disk>(
     code: &[u8],
 ) -> Result<(Journal, Journal), BookFault>
     requires small { length code.now ≤ longest_base }
-    ensures files { IfOk result (λ made. AreStoreFiles made.0 made.1 0) }
+    ensures files { IfOk result (λ made. AreStoreFiles made.0 made.1 written_format 0) }
     ensures whole { IfOk result (λ made. (made.0.broken ≡ false) × (made.1.broken ≡ false)) }
     ensures root_length { IfOk result (λ made. made.0.length ≡ first_root) }
     ensures length { IfOk result (λ made. made.1.length ≤ longest_waiting) }
@@ -115,17 +117,18 @@ fn make_files<D: Disk>(
 
     // The root is left as it was until the generation is durable.
     ensures generation_first { (files : Image) → (D.disk disk.old).told ≡ Some files
-        → Leaves (D.disk disk.old) (D.disk disk.new) (λ image. (D.disk disk.old).may_leave root_file (image root_file) ⊎ HasBodies (heading_of 0) (code.now ∷ []) (image (generation_file 0))) }
+        → Leaves (D.disk disk.old) (D.disk disk.new) (λ image. (D.disk disk.old).may_leave root_file (image root_file) ⊎ HasBodies (heading_of written_format 0) (code.now ∷ []) (image (generation_file 0))) }
     ensures untold { (D.disk disk.old).told ≡ None → (D.disk disk.new).told ≡ None }
     ensures fault { (m : Meaning) (bundle : List ℕ) (told : Option Image) → IfErr result (IsCreateFault m bundle told) }
     ensures failed { IsErrOf result BookFault.Disk → Rose (D.disk disk.old).faults (D.disk disk.new).faults }
     ensures count { (D.disk disk.old).faults ≤ (D.disk disk.new).faults }
 {
-    let journal = match create_journal(alloc, disk, generation_file(0), code) {
+    let heading = heading_of(WRITTEN_FORMAT, 0);
+    let journal = match create_journal(alloc, disk, generation_file(0), heading, code) {
         Ok(journal) => journal,
         Err(fault) => return Err(fault),
     };
-    match create_journal(alloc, disk, ROOT, &0u64.to_be_bytes()) {
+    match create_journal(alloc, disk, ROOT, root_heading(), &0u64.to_be_bytes()) {
         Ok(root) => Ok((root, journal)),
         Err(fault) => Err(fault),
     }
@@ -147,7 +150,7 @@ pub fn make_store<D: Disk, R: Rules>(
     ensures core { IfOk result (λ made. made.core ≡ record { rules = rules; state = made.base.value }) }
     ensures sound { IfOk result (λ made. IsSound R.meaning made.base.value) }
     ensures writable { IfOk result (λ made. IsWritableBase first_format made.base.value) }
-    ensures files { IfOk result (λ made. AreStoreFiles made.root made.journal 0) }
+    ensures files { IfOk result (λ made. AreStoreFiles made.root made.journal written_format 0) }
     ensures whole { IfOk result (λ made. (made.root.broken ≡ false) × (made.journal.broken ≡ false)) }
     ensures root_length { IfOk result (λ made. made.root.length ≡ first_root) }
     ensures length { IfOk result (λ made. made.journal.length ≤ longest_waiting) }

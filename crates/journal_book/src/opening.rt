@@ -3,36 +3,39 @@ ghost use Rattle.std.specs.Prelude.{◌≡◌, ◌≤◌, ◌+◌, ◌*◌, ◌<
 ghost use Rattle.std.specs.List.{AllByRecursion};
 ghost use Rattle.edge_traits.specs.Count.{Rose};
 ghost use Rattle.edge_traits.specs.Disk.{Image};
-ghost use Rattle.disk_journal.specs.GateFile.{gate_file, heading_of, HasBodies, IsDamagedAt};
+ghost use Rattle.disk_journal.specs.GateFile.{gate_file, HasBodies, IsDamagedAt};
 ghost use Rattle.disk_journal.specs.Journal.{IsAtRest, IsFaultOf};
 ghost use Rattle.disk_journal.specs.Reads.{OnlyReads};
 ghost use Rattle.stored_types.specs.Code.{number};
 ghost use Rattle.step_code.specs.History.{replay};
 ghost use Rattle.step_code.specs.Spent.{last_given};
 ghost use Rattle.store_image.specs.Damage.{behind_bodies, AreNoHistory, IsDamagedFile, NameNone};
-ghost use Rattle.store_image.specs.Files.{generation_file, root_file, IsStoreFile};
+ghost use Rattle.store_image.specs.Files.{generation_file, root_file, IsStoreFile, heading_of, root_heading};
 ghost use Rattle.store_image.specs.Opens.{AreLong, Opens};
 ghost use Rattle.store_image.specs.Stored.{codes_of, NamesLast};
 ghost use Rattle.journal_book.specs.Alone.{IsBeside, LeavesAlone};
 ghost use Rattle.journal_book.specs.Keeping.{longest_waiting, AreAtRest, AreStoreFiles};
 ghost use Rattle.journal_book.specs.Opening.{in_file, IsFileFault, IsReopenFault, IsRootLength, IsShortFault, KeepsHistories, Recovers, TellsLong};
 ghost use Rattle.generation_reading.specs.Reading.{AreGenerations, AreHistory, IsHistory};
+ghost use Rattle.step_code.specs.Code.{first_format};
 
 use crate::BookFault;
 use crate::files::{ROOT, generation_file, out_file};
 use ack_steps::Core;
 use base_types::BlobList;
-use disk_journal::{Journal, JournalFault};
+use disk_journal::{Heading, Journal, JournalFault};
 use edge_traits::Disk;
 use generation_reading::{History, generation_named, history_of};
 use std::alloc::Global;
 use step_code::Rules;
+use store_image::{FIRST_FORMAT, heading_of, root_heading};
 
 /// What a store was opened with: the files of its root and of its generation, and what that holds.
 #[derive(Drop)]
 pub struct Reopened<R: Rules> {
     pub root: Journal,
     pub journal: Journal,
+    pub format: u32,
     pub generation: u64,
     pub history: History<R>,
 }
@@ -42,20 +45,20 @@ fn open_journal<D: Disk>(
     alloc: Global,
     disk: &mut D,
     file: u64,
-    generation: u64,
+    heading: Heading,
 ) -> Result<(Journal, BlobList), JournalFault>
-    requires { IsStoreFile file (heading_of generation) }
-    ensures journal { IfOk result (λ found. (found.0.file ≡ file) × (found.0.heading ≡ heading_of generation) × (found.0.room ≡ 0) × (found.0.broken ≡ false)) }
-    ensures length { IfOk result (λ found. found.0.length ≡ length (gate_file (heading_of generation) found.1 0)) }
+    requires { IsStoreFile file heading }
+    ensures journal { IfOk result (λ found. (found.0.file ≡ file) × (found.0.heading ≡ heading) × (found.0.room ≡ 0) × (found.0.broken ≡ false)) }
+    ensures length { IfOk result (λ found. found.0.length ≡ length (gate_file heading found.1 0)) }
     ensures short { IfOk result (λ found. behind_bodies found.1 < 2 ^ 64) }
-    ensures bodies { (files : Image) → (D.disk disk.old).told ≡ Some files → IfOk result (λ found. HasBodies (heading_of generation) found.1 (files file)) }
+    ensures bodies { (files : Image) → (D.disk disk.old).told ≡ Some files → IfOk result (λ found. HasBodies heading found.1 (files file)) }
     ensures at_rest { (files after : Image) → (D.disk disk.old).told ≡ Some files → (D.disk disk.new).told ≡ Some after
         → IfOk result (λ found. IsAtRest found.0 (D.disk disk.new).may_leave found.1 after) }
-    ensures fault { (files : Image) → (D.disk disk.old).told ≡ Some files → IfErr result (IsFaultOf (heading_of generation) (files file)) }
+    ensures fault { (files : Image) → (D.disk disk.old).told ≡ Some files → IfErr result (IsFaultOf heading (files file)) }
     ensures recovers { Recovers file (D.disk disk.old) (D.disk disk.new) }
     ensures failed { IsErrOf result JournalFault.Disk → Rose (D.disk disk.old).faults (D.disk disk.new).faults }
 {
-    match Journal::reopen(alloc, disk, file, generation) {
+    match Journal::reopen(alloc, disk, file, heading) {
         Ok((journal, bodies)) => {
             // The bodies are no longer than a number says.
             let _ = journal.len();
@@ -67,17 +70,17 @@ fn open_journal<D: Disk>(
 
 /// The root, and the generation that it names last.
 fn open_root<D: Disk>(alloc: Global, disk: &mut D) -> Result<(Journal, u64), JournalFault>
-    ensures journal { IfOk result (λ found. (found.0.file ≡ root_file) × (found.0.heading ≡ heading_of 0) × (found.0.broken ≡ false)) }
+    ensures journal { IfOk result (λ found. (found.0.file ≡ root_file) × (found.0.heading ≡ root_heading) × (found.0.broken ≡ false)) }
     ensures given { IfOk result (λ found. found.1 ≤ last_given) }
     ensures named { (files : Image) → (D.disk disk.old).told ≡ Some files → IfOk result (λ found. NamesLast (files root_file) found.1) }
     ensures root { (files : Image) → (D.disk disk.old).told ≡ Some files → IfOk result (λ found. IsRootLength files found.1 found.0.length) }
     ensures at_rest { (files after : Image) → (D.disk disk.old).told ≡ Some files → (D.disk disk.new).told ≡ Some after
         → IfOk result (λ found. (before : List ℕ) × AllByRecursion (λ n. n ≤ last_given) (before ++ found.1 ∷ []) × IsAtRest found.0 (D.disk disk.new).may_leave (map number (before ++ found.1 ∷ [])) after) }
-    ensures fault { (files : Image) → (D.disk disk.old).told ≡ Some files → IfErr result (IsFileFault (IsDamagedFile (heading_of 0) NameNone (files root_file))) }
+    ensures fault { (files : Image) → (D.disk disk.old).told ≡ Some files → IfErr result (IsFileFault (IsDamagedFile root_heading NameNone (files root_file))) }
     ensures recovers { Recovers root_file (D.disk disk.old) (D.disk disk.new) }
     ensures failed { IsErrOf result JournalFault.Disk → Rose (D.disk disk.old).faults (D.disk disk.new).faults }
 {
-    let (journal, bodies) = match open_journal(alloc, disk, ROOT, 0) {
+    let (journal, bodies) = match open_journal(alloc, disk, ROOT, root_heading()) {
         Ok(found) => found,
         Err(fault) => return Err(fault),
     };
@@ -95,14 +98,14 @@ fn open_generation<D: Disk, R: Rules>(
     generation: u64,
 ) -> Result<(Journal, History<R>), JournalFault>
     requires { generation ≤ last_given }
-    ensures journal { IfOk result (λ found. (found.0.file ≡ generation_file generation) × (found.0.heading ≡ heading_of generation) × (found.0.broken ≡ false)) }
+    ensures journal { IfOk result (λ found. (found.0.file ≡ generation_file generation) × (found.0.heading ≡ heading_of first_format generation) × (found.0.broken ≡ false)) }
     ensures core { IfOk result (λ found. found.1.core ≡ record { rules = rules; state = replay R.meaning found.1.base.value found.1.steps }) }
     ensures history { IfOk result (λ found. (bodies : List (List ℕ)) × AreHistory R.meaning bodies found.1.base.value found.1.steps
-        × (found.0.length ≡ length (gate_file (heading_of generation) bodies 0))
-        × ((files : Image) → (D.disk disk.old).told ≡ Some files → HasBodies (heading_of generation) bodies (files (generation_file generation)))
+        × (found.0.length ≡ length (gate_file (heading_of first_format generation) bodies 0))
+        × ((files : Image) → (D.disk disk.old).told ≡ Some files → HasBodies (heading_of first_format generation) bodies (files (generation_file generation)))
         × ((files after : Image) → (D.disk disk.old).told ≡ Some files → (D.disk disk.new).told ≡ Some after → IsAtRest found.0 (D.disk disk.new).may_leave bodies after)) }
     ensures fault { (files : Image) → (D.disk disk.old).told ≡ Some files
-        → IfErr result (IsFileFault (IsDamagedFile (heading_of generation) (AreNoHistory R.meaning) (files (generation_file generation)))) }
+        → IfErr result (IsFileFault (IsDamagedFile (heading_of first_format generation) (AreNoHistory R.meaning) (files (generation_file generation)))) }
     ensures recovers { Recovers (generation_file generation) (D.disk disk.old) (D.disk disk.new) }
     ensures failed { IsErrOf result JournalFault.Disk → Rose (D.disk disk.old).faults (D.disk disk.new).faults }
 {
@@ -110,7 +113,7 @@ fn open_generation<D: Disk, R: Rules>(
         alloc,
         disk,
         generation_file(generation),
-        generation,
+        heading_of(FIRST_FORMAT, generation),
     ) {
         Ok(found) => found,
         Err(fault) => return Err(fault),
@@ -167,7 +170,7 @@ pub fn open_store<D: Disk, R: Rules>(
     disk: &mut D,
     rules: R,
 ) -> Result<Reopened<R>, BookFault>
-    ensures files { IfOk result (λ found. AreStoreFiles found.root found.journal found.generation) }
+    ensures files { IfOk result (λ found. AreStoreFiles found.root found.journal found.format found.generation) }
     ensures whole { IfOk result (λ found. (found.root.broken ≡ false) × (found.journal.broken ≡ false)) }
     ensures core { IfOk result (λ found. found.history.core ≡ record { rules = rules; state = replay R.meaning found.history.base.value found.history.steps }) }
     ensures history { IfOk result (λ found. IsHistory R.meaning found.history.base.value found.history.steps) }
@@ -201,6 +204,7 @@ pub fn open_store<D: Disk, R: Rules>(
         Ok(()) => Ok(Reopened {
             root,
             journal,
+            format: FIRST_FORMAT,
             generation,
             history,
         }),

@@ -2,17 +2,18 @@
 ghost use Rattle.std.specs.Prelude.{◌≡◌, ◌<◌, ◌≤◌, ◌^◌, List, Some, IfOk, IfErr, OnOk, IsErrOf};
 ghost use Rattle.edge_traits.specs.Count.{Rose};
 ghost use Rattle.edge_traits.specs.Disk.{Image};
-ghost use Rattle.disk_journal.specs.GateFile.{heading_of, HasBodies};
+ghost use Rattle.disk_journal.specs.GateFile.{HasBodies};
 ghost use Rattle.disk_journal.specs.Journal.{IsFaultOf};
 ghost use Rattle.disk_journal.specs.Reads.{OnlyReads};
 ghost use Rattle.step_code.specs.declared.base.Base.{Base};
 ghost use Rattle.step_code.specs.declared.step.Step.{Step};
 ghost use Rattle.step_code.specs.Spent.{last_given};
 ghost use Rattle.store_image.specs.Damage.{behind_bodies, AreNoHistory, IsDamagedFile};
-ghost use Rattle.store_image.specs.Files.{generation_file};
+ghost use Rattle.store_image.specs.Files.{generation_file, heading_of};
 ghost use Rattle.generation_reading.specs.Reading.{AreHistory, IsBodyFault};
 ghost use Rattle.journal_book.specs.Opening.{IsFileFault};
 ghost use Rattle.journal_book.specs.Past.{past_fault, IsPast, IsPastFault};
+ghost use Rattle.step_code.specs.Code.{first_format};
 
 use crate::PastFault;
 use crate::files::generation_file;
@@ -22,6 +23,7 @@ use edge_traits::Disk;
 use generation_reading::{Lent, StepList, decode_history, history_of};
 use std::alloc::Global;
 use step_code::{Base, Rules};
+use store_image::{FIRST_FORMAT, heading_of};
 
 /// What a generation holds: the state that it begins with, and the steps behind it.
 #[derive(Drop)]
@@ -38,12 +40,17 @@ fn read_generation<D: Disk>(
 ) -> Result<BlobList, JournalFault>
     requires { generation ≤ last_given }
     ensures short { IfOk result (λ bodies. behind_bodies bodies < 2 ^ 64) }
-    ensures bodies { (files : Image) → (D.disk disk.old).told ≡ Some files → IfOk result (λ bodies. HasBodies (heading_of generation) bodies (files (generation_file generation))) }
-    ensures fault { (files : Image) → (D.disk disk.old).told ≡ Some files → IfErr result (IsFaultOf (heading_of generation) (files (generation_file generation))) }
+    ensures bodies { (files : Image) → (D.disk disk.old).told ≡ Some files → IfOk result (λ bodies. HasBodies (heading_of first_format generation) bodies (files (generation_file generation))) }
+    ensures fault { (files : Image) → (D.disk disk.old).told ≡ Some files → IfErr result (IsFaultOf (heading_of first_format generation) (files (generation_file generation))) }
     ensures reads { OnlyReads (D.disk disk.old) (D.disk disk.new) }
     ensures failed { IsErrOf result JournalFault.Disk → Rose (D.disk disk.old).faults (D.disk disk.new).faults }
 {
-    match read_bodies(alloc, disk, generation_file(generation), generation) {
+    match read_bodies(
+        alloc,
+        disk,
+        generation_file(generation),
+        heading_of(FIRST_FORMAT, generation),
+    ) {
         Ok((bodies, _)) => Ok(bodies),
         Err(fault) => Err(fault),
     }
@@ -86,7 +93,7 @@ fn read_history<D: Disk, R: Rules>(
     requires { generation ≤ last_given }
     ensures past { (files : Image) → (D.disk disk.old).told ≡ Some files → IfOk result (λ past. IsPast R.meaning generation (files (generation_file generation)) past.base past.steps) }
     ensures fault { (files : Image) → (D.disk disk.old).told ≡ Some files
-        → IfErr result (IsFileFault (IsDamagedFile (heading_of generation) (AreNoHistory R.meaning) (files (generation_file generation)))) }
+        → IfErr result (IsFileFault (IsDamagedFile (heading_of first_format generation) (AreNoHistory R.meaning) (files (generation_file generation)))) }
     ensures reads { OnlyReads (D.disk disk.old) (D.disk disk.new) }
     ensures failed { IsErrOf result JournalFault.Disk → Rose (D.disk disk.old).faults (D.disk disk.new).faults }
 {

@@ -3,13 +3,13 @@ ghost use Rattle.std.specs.Prelude.{◌≡◌, ◌≢◌, ◌↔◌, ◌⊎◌, 
 ghost use Rattle.core_state.specs.Sealing.{sealed_whole, HaveSmallOutputs};
 ghost use Rattle.edge_traits.specs.Count.{Rose};
 ghost use Rattle.edge_traits.specs.Disk.{Image, Leaves};
-ghost use Rattle.disk_journal.specs.GateFile.{frame_length, header_length, heading_of, longest_journal};
+ghost use Rattle.disk_journal.specs.GateFile.{frame_length, header_length, longest_journal};
 ghost use Rattle.disk_journal.specs.Journal.{IsAtRest};
 ghost use Rattle.stored_types.specs.Code.{number};
 ghost use Rattle.step_code.specs.Code.{code_of_base, first_format, IsWritableBase};
 ghost use Rattle.step_code.specs.Sound.{longest_base, IsSound};
 ghost use Rattle.step_code.specs.Spent.{last_given};
-ghost use Rattle.store_image.specs.Files.{generation_file, root_file};
+ghost use Rattle.store_image.specs.Files.{generation_file, root_file, heading_of, root_heading, written_format};
 ghost use Rattle.journal_book.specs.Alone.{LeavesAlone};
 ghost use Rattle.journal_book.specs.Book.{root_entry};
 ghost use Rattle.journal_book.specs.Renewing.{full_cause, renew_fault, sealed_length, spent_by_renewal, spent_or_full, IsBeginFault, IsBeginning, IsRefused};
@@ -24,6 +24,7 @@ use edge_traits::Disk;
 use std::alloc::Global;
 use std::snapshot::Snapshot;
 use step_code::{Base, Rules, encode_base};
+use store_image::{WRITTEN_FORMAT, heading_of};
 use stored_types::Coded;
 
 // What a root grows by that names a generation, in bytes.
@@ -127,7 +128,7 @@ fn create_generation<D: Disk>(
 ) -> Result<Journal, RenewFault>
     requires given { generation ≤ last_given }
     requires small { length code.now ≤ longest_base }
-    ensures journal { IfOk result (λ j. j ≡ record { file = generation_file generation; heading = heading_of generation; length = header_length + 1 + frame_length + length code.now; room = 0; broken = false }) }
+    ensures journal { IfOk result (λ j. j ≡ record { file = generation_file generation; heading = heading_of written_format generation; length = header_length + 1 + frame_length + length code.now; room = 0; broken = false }) }
     ensures at_rest { (files after : Image) → (D.disk disk.old).told ≡ Some files → (D.disk disk.new).told ≡ Some after
         → IfOk result (λ j. IsAtRest j (D.disk disk.new).may_leave (code.now ∷ []) after) }
     ensures alone { LeavesAlone (D.disk disk.old) (D.disk disk.new) (λ file. file ≢ generation_file generation) }
@@ -137,7 +138,13 @@ fn create_generation<D: Disk>(
     ensures failed { IsErrOf result RenewFault.Disk → Rose (D.disk disk.old).faults (D.disk disk.new).faults }
     ensures count { (D.disk disk.old).faults ≤ (D.disk disk.new).faults }
 {
-    match Journal::create(alloc, disk, generation_file(generation), generation, code) {
+    match Journal::create(
+        alloc,
+        disk,
+        generation_file(generation),
+        heading_of(WRITTEN_FORMAT, generation),
+        code,
+    ) {
         Ok(journal) => Ok(journal),
         Err(JournalFault::OutOfMemory) => Err(RenewFault::OutOfMemory),
         Err(JournalFault::Disk | JournalFault::Damaged { .. }) => Err(RenewFault::Disk),
@@ -159,11 +166,11 @@ pub fn begin_generation<D: Disk>(
     requires given { generation ≤ last_given }
     requires small { length code.now ≤ longest_base }
     requires file { root.old.file ≡ root_file }
-    requires heading { root.old.heading ≡ heading_of 0 }
+    requires heading { root.old.heading ≡ root_heading }
     requires short { root.old.length + root_entry ≤ longest_journal }
     requires whole { root.old.broken ≡ false }
     requires at_rest { (files : Image) → (D.disk disk.old).told ≡ Some files → (bodies : List (List ℕ)) × IsAtRest root.old (D.disk disk.old).may_leave bodies files }
-    ensures journal { IfOk result (λ j. j ≡ record { file = generation_file generation; heading = heading_of generation; length = header_length + 1 + frame_length + length code.now; room = 0; broken = false }) }
+    ensures journal { IfOk result (λ j. j ≡ record { file = generation_file generation; heading = heading_of written_format generation; length = header_length + 1 + frame_length + length code.now; room = 0; broken = false }) }
     ensures root { OnOk result (root.new ≡ record root.old { length = root.old.length + root_entry; room = root.new.room }) }
     ensures same { IfErr result (λ fault. root.new ≡ record root.old { room = root.new.room; broken = root.new.broken }) }
     ensures still { IfErr result (λ fault. fault ≢ RenewFault.Disk → (disk.new ≡ disk.old) × (root.new.broken ≡ false)) }

@@ -2,7 +2,7 @@
 use Rattle.std.proofs.Common.{◌≡◌, ◌≤◌, ◌↔◌, ◌+◌, ◌-◌, inl, inr, ℕ, suc, Bool, true, false, List, [], ◌∷◌, length, take, drop, get_or, Option, Some, None, Result, IfOk, refl, sym, ap, subst, ◌∙◌, arith}
 use Rattle.std.proofs.lemmas.List.{append-nil, take_all}
 use Rattle.edge_traits.specs.Disk.{DiskView, Image}
-use Rattle.disk_journal.specs.GateFile.{heading_of, HasBodies, HasRecords}
+use Rattle.disk_journal.specs.GateFile.{HasBodies, HasRecords}
 use Rattle.disk_journal.specs.Journal.{IsHeadFault}
 use Rattle.disk_journal.specs.Reads.{OnlyReads}
 use Rattle.disk_journal.specs.declared.journal.JournalFault.{JournalFault}
@@ -15,7 +15,7 @@ use Rattle.step_code.specs.History.{replay}
 use Rattle.step_code.specs.Rules.{Meaning}
 use Rattle.step_code.proofs.StateLaws.{base_law}
 use Rattle.store_image.specs.Damage.{behind_bodies}
-use Rattle.store_image.specs.Files.{generation_file}
+use Rattle.store_image.specs.Files.{generation_file, heading_of}
 use Rattle.generation_reading.specs.Reading.{IsBase}
 use Rattle.generation_reading.proofs.Bodies.{behind_more}
 use Rattle.store_audit.specs.Audit.{AreWrong, ComeTo, Follows, HaveFault, IsWrong}
@@ -69,14 +69,16 @@ module _ (m : Meaning) (image : Image) (g : ℕ) (before : Option Base) (bodies 
         }))
     gone_wrong start there (end.Fault why) is = tt
 
-    pub leads_on : (behind : Base) → HasRecords (heading_of g) bodies cut (image (generation_file g)) → AreThrough m base records cut behind → LeadsTo m image g before behind
+    pub leads_on : (behind : Base) → HasRecords (heading_of first_format g) bodies cut (image (generation_file g)) → AreThrough m base records cut behind → LeadsTo m image g before behind
     leads_on behind has through = record {
       base = base;
       steps = through.steps;
       right = record {
         holds = record {
+          format = first_format;
+          known = refl;
           records = records;
-          bodies = subst (λ (bs : List (List ℕ)). HasBodies (heading_of g) bs (image (generation_file g))) as_code (subst (λ (c : Option ℕ). HasRecords (heading_of g) bodies c (image (generation_file g))) through.whole has);
+          bodies = subst (λ (bs : List (List ℕ)). HasBodies (heading_of first_format g) bs (image (generation_file g))) as_code (subst (λ (c : Option ℕ). HasRecords (heading_of first_format g) bodies c (image (generation_file g))) through.whole has);
           writable = begun.writable;
           content = through.hold.content;
         };
@@ -88,10 +90,10 @@ module _ (m : Meaning) (image : Image) (g : ℕ) (before : Option Base) (bodies 
     }
 
 -- what is wrong with the records of a file is wrong with the generation
-pub records_wrong : (m : Meaning) (image : Image) (g : ℕ) (before : Option Base) (bodies given : List (List ℕ)) (cut : Option ℕ) (file : ℕ) → file ≡ generation_file g → given ≡ bodies → HasRecords (heading_of g) bodies cut (image file)
+pub records_wrong : (m : Meaning) (image : Image) (g : ℕ) (before : Option Base) (bodies given : List (List ℕ)) (cut : Option ℕ) (file : ℕ) → file ≡ generation_file g → given ≡ bodies → HasRecords (heading_of first_format g) bodies cut (image file)
     → (e : End) → IsEnd (AreWrong m image g before given cut) e → IsEnd (IsWrong m image g before) e
 records_wrong m image g before bodies given cut file there same has (end.Found found) is =
-    inr (bodies, cut, subst (λ (f : ℕ). HasRecords (heading_of g) bodies cut (image f)) there has, subst (λ (bs : List (List ℕ)). AreWrong m image g before bs cut found) same is)
+    inr (bodies, cut, subst (λ (f : ℕ). HasRecords (heading_of first_format g) bodies cut (image f)) there has, subst (λ (bs : List (List ℕ)). AreWrong m image g before bs cut found) same is)
 records_wrong m image g before bodies given cut file there same has (end.Fault why) is = tt
 
 -- ---- one generation behind the other
@@ -152,6 +154,6 @@ verdict_by P (end.Fault why) r is holds = subst (λ (x : Result Verdict AuditFau
 
 -- a file without records
 pub headless_wrong : (m : Meaning) (image : Image) (g : ℕ) (before : Option Base) (e : JournalFault) (at place file : ℕ) → e ≡ fault.Damaged at → place ≡ at → file ≡ generation_file g
-    → IsHeadFault (heading_of g) (image file) e → IsWrong m image g before (verdict.Damaged file place)
+    → IsHeadFault (heading_of first_format g) (image file) e → IsWrong m image g before (verdict.Damaged file place)
 headless_wrong m image g before e at place file is same there head =
-    inl (at, subst (λ (f : ℕ). IsHeadFault (heading_of g) (image f) (fault.Damaged at)) there (subst (IsHeadFault (heading_of g) (image file)) is head), (λ i. verdict.Damaged (there i) (same i)))
+    inl (at, subst (λ (f : ℕ). IsHeadFault (heading_of first_format g) (image f) (fault.Damaged at)) there (subst (IsHeadFault (heading_of first_format g) (image file)) is head), (λ i. verdict.Damaged (there i) (same i)))

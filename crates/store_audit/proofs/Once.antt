@@ -1,20 +1,20 @@
 -- All generations of a store come to one thing.
 use Rattle.std.proofs.Common.{◌≡◌, ◌+◌, inl, inr, ℕ, zero, suc, List, [], ◌∷◌, Option, Some, None, sym, ap, subst, ◌∙◌}
 use Rattle.edge_traits.specs.Disk.{Image}
-use Rattle.disk_journal.specs.GateFile.{heading_of}
 use Rattle.disk_journal.proofs.GateFiles.{has_records_once, headless_at_one_place, headless_has_no_records}
+use Rattle.disk_journal.specs.GateFile.{HasBodies}
 use Rattle.step_code.specs.declared.base.Base.{Base}
 use Rattle.step_code.specs.declared.step.Step.{Step}
-use Rattle.step_code.specs.Code.{code_of_base, first_format}
+use Rattle.step_code.specs.Code.{code_of_base, first_format, IsWritableBase}
 use Rattle.step_code.specs.History.{replay}
 use Rattle.step_code.specs.Rules.{Meaning}
 use Rattle.store_image.specs.Damage.{behind_bodies, StopAt}
-use Rattle.store_image.specs.Files.{generation_file, root_file}
+use Rattle.store_image.specs.Files.{generation_file, root_file, heading_of}
 use Rattle.store_image.specs.Opens.{AreAlong, IsReplayable}
 use Rattle.store_image.specs.Stored.{AreRecords}
 use Rattle.store_image.proofs.Damaged.{same_bases, stop_of, stops_alike, stops_at_once}
 use Rattle.store_image.proofs.Stops.{records_hold}
-use Rattle.store_image.proofs.Stored.{held_is_one, named_is_one}
+use Rattle.store_image.proofs.Stored.{held_is_one, known_bodies, known_writable, named_is_one}
 use Rattle.store_audit.specs.Audit.{state_at, AreWrong, BeginsWrong, ComeTo, GoWrong, HaveFault, HaveIllegal, HaveNoStep, IsAllowed, IsAudited, IsRight, IsWrong}
 use Rattle.store_audit.specs.declared.verdict.Verdict.{Verdict}
 use Rattle.store_audit.specs.declared.verdict.Verdict.TheVariants as verdict
@@ -88,28 +88,34 @@ module _ (m : Meaning) (image : Image) (g : ℕ) (before : Option Base) where
 
   wrong_once : (v w : Verdict) → IsWrong m image g before v → IsWrong m image g before w → v ≡ w
   wrong_once v w (inl (at, a, is)) (inl (place, b, other)) =
-      is ∙ ap (verdict.Damaged (generation_file g)) (headless_at_one_place (heading_of g) at place (image (generation_file g)) a b) ∙ sym other
-  wrong_once v w (inl (at, a, is)) (inr (bodies, cut, has, b)) = absurd (headless_has_no_records (heading_of g) at bodies cut (image (generation_file g)) a has)
-  wrong_once v w (inr (bodies, cut, has, a)) (inl (at, b, is)) = absurd (headless_has_no_records (heading_of g) at bodies cut (image (generation_file g)) b has)
+      is ∙ ap (verdict.Damaged (generation_file g)) (headless_at_one_place (heading_of first_format g) at place (image (generation_file g)) a b) ∙ sym other
+  wrong_once v w (inl (at, a, is)) (inr (bodies, cut, has, b)) = absurd (headless_has_no_records (heading_of first_format g) at bodies cut (image (generation_file g)) a has)
+  wrong_once v w (inr (bodies, cut, has, a)) (inl (at, b, is)) = absurd (headless_has_no_records (heading_of first_format g) at bodies cut (image (generation_file g)) b has)
   wrong_once v w (inr (bodies, cut, has, a)) (inr (others, end, have, b)) =
-      let same = has_records_once (heading_of g) bodies others cut end (image (generation_file g)) has have in
+      let same = has_records_once (heading_of first_format g) bodies others cut end (image (generation_file g)) has have in
       are_wrong_once others end v w (subst (λ (e : Option ℕ). AreWrong m image g before others e v) same.1 (subst (λ (bs : List (List ℕ)). AreWrong m image g before bs cut v) same.0 a)) b
 
   module _ (base : Base) (steps : List Step) (right : IsRight m image g before base steps) where
+    writable : IsWritableBase first_format base
+    writable = known_writable g (image (generation_file g)) base steps right.holds
+
+    has_right : HasBodies (heading_of first_format g) (code_of_base first_format base ∷ right.holds.records) (image (generation_file g))
+    has_right = known_bodies g (image (generation_file g)) base steps right.holds
+
     -- what a right generation holds isn't wrong
     are_right : (v : Verdict) → AreWrong m image g before (code_of_base first_format base ∷ right.holds.records) None v → ⊥
     are_right v (inl a) = let none = a.0 in absurd (cc)
-    are_right v (inr (inl a)) = a.0.wrong base right.holds.writable right.sound right.follows (let same = a.0.splits in cc)
+    are_right v (inr (inl a)) = a.0.wrong base writable right.sound right.follows (let same = a.0.splits in cc)
     are_right v (inr (inr a)) =
-        let same = same_bases a.base base a.records right.holds.records a.writable right.holds.writable (sym a.splits) in
+        let same = same_bases a.base base a.records right.holds.records a.writable writable (sym a.splits) in
         let moved = subst (λ (bs : List (List ℕ)). HaveFault m g base (behind_bodies (code_of_base first_format base ∷ [])) bs None v) same.1
         (subst (λ (s : Base). HaveFault m g s (behind_bodies (code_of_base first_format s ∷ [])) a.records None v) same.0 a.fault) in
         no_fault m base (behind_bodies (code_of_base first_format base ∷ [])) right.holds.records g steps v right.holds.content right.allowed moved
 
     right_or_wrong : (v : Verdict) → IsWrong m image g before v → ⊥
-    right_or_wrong v (inl (at, a, is)) = headless_has_no_records (heading_of g) at (code_of_base first_format base ∷ right.holds.records) None (image (generation_file g)) a right.holds.bodies
+    right_or_wrong v (inl (at, a, is)) = headless_has_no_records (heading_of first_format g) at (code_of_base first_format base ∷ right.holds.records) None (image (generation_file g)) a has_right
     right_or_wrong v (inr (bodies, cut, has, a)) =
-        let same = has_records_once (heading_of g) bodies (code_of_base first_format base ∷ right.holds.records) cut None (image (generation_file g)) has right.holds.bodies in
+        let same = has_records_once (heading_of first_format g) bodies (code_of_base first_format base ∷ right.holds.records) cut None (image (generation_file g)) has has_right in
         are_right v (subst (λ (e : Option ℕ). AreWrong m image g before (code_of_base first_format base ∷ right.holds.records) e v) same.1 (subst (λ (bs : List (List ℕ)). AreWrong m image g before bs cut v) same.0 a))
 
 -- ---- a store

@@ -1,18 +1,9 @@
 -- Steps of a generation that are gone through, up to the first that isn't allowed.
-use Rattle.std.proofs.Common.{◌≡◌, ◌+◌, ℕ, List, [], ◌∷◌, ◌++◌, length, Option, Some, None, find, refl, ◌∙◌, arith}
-use Rattle.base_types.specs.declared.message.Moment.{Moment}
-use Rattle.base_types.specs.declared.message.Msg.{Msg}
-use Rattle.base_types.specs.Name.{queue_name}
-use Rattle.stored_types.specs.declared.message.Dump.{Dump}
+use Rattle.std.proofs.Common.{◌≡◌, ◌+◌, ℕ, List, [], ◌∷◌, ◌++◌, length, refl, ◌∙◌, arith}
 use Rattle.step_code.specs.declared.base.Base.{Base}
 use Rattle.step_code.specs.declared.step.Step.{Step}
-use Rattle.step_code.specs.declared.step.StepKind.{StepKind}
-use Rattle.step_code.specs.declared.step.StepKind.TheVariants as kind
-use Rattle.step_code.specs.After.{after, redone, taken_first}
 use Rattle.step_code.specs.History.{replay}
 use Rattle.step_code.specs.Rules.{Meaning}
-use Rattle.step_code.specs.State.{is_dump, waiting}
-use Rattle.ack_steps.specs.Core.{IsNoReload}
 use Rattle.store_image.specs.Damage.{BeginsWithNone, StopAt, StopsAt}
 use Rattle.store_image.specs.Stored.{codes_of}
 use Rattle.generation_reading.proofs.Replays.{HasReplayed, HaveReplayed}
@@ -20,27 +11,6 @@ use Rattle.store_audit.specs.Audit.{IsAllowed}
 use Rattle.store_audit.specs.Walks.{AreStop, IsBodyStop, IsStepStop}
 use Rattle.store_audit.specs.declared.steps.StepStop.{StepStop}
 use Rattle.store_audit.specs.declared.steps.StepStop.TheVariants as stop
-
--- a step that puts no bundle in force leaves the one that is
-pub bundle_stays : (m : Meaning) (s : Base) (now : Moment) (what : StepKind) → IsNoReload what → (after m s (record { moment = now; what = what })).bundle ≡ s.bundle
-bundle_stays m s now kind.Start is = refl
-bundle_stays m s now (kind.Collect bot from upto piece) is = refl
-bundle_stays m s now (kind.FeedEnd bot position) is = refl
-bundle_stays m s now (kind.Take bot instance message) is = go (waiting (queue_name bot) s)
-  where
-    go : (messages : List Msg) → (taken_first bot instance now messages (record s { steps = s.steps + 1; latest = now })).bundle ≡ s.bundle
-    go [] = refl
-    go (x ∷ xs) = refl
-bundle_stays m s now (kind.Done bot instance message bundle sends dumps key line) is = refl
-bundle_stays m s now (kind.Retry bot instance message bundle fault) is = refl
-bundle_stays m s now (kind.Fail bot instance message bundle fault queues halts) is = refl
-bundle_stays m s now (kind.Reload bundle) is = absurd is
-bundle_stays m s now (kind.Redo dump) is = go (find (is_dump dump) s.dumps)
-  where
-    go : (found : Option Dump) → (redone dump found (record s { steps = s.steps + 1; latest = now })).bundle ≡ s.bundle
-    go None = refl
-    go (Some d) = refl
-bundle_stays m s now (kind.Round bot) is = refl
 
 -- ---- a body
 

@@ -2,7 +2,7 @@
 use Rattle.std.specs.Prelude.{◌≡◌, ◌≢◌, ◌≤◌, ◌⊎◌, ◌+◌, ◌-◌, ℕ, zero, suc, true, List, [], ◌∷◌, ◌++◌, length, take, drop, Option, Some, None}
 use Rattle.std.specs.List.{AllByRecursion}
 use Rattle.edge_traits.specs.Disk.{Image}
-use Rattle.disk_journal.specs.GateFile.{frame_length, header_length, heading_of, HasRecords, IsHeadless}
+use Rattle.disk_journal.specs.GateFile.{frame_length, header_length, HasRecords, IsHeadless}
 use Rattle.out_files.specs.Output.{lines_text}
 use Rattle.step_code.specs.declared.base.Base.{Base}
 use Rattle.step_code.specs.declared.output.Output.{Output}
@@ -15,7 +15,7 @@ use Rattle.step_code.specs.Rules.{Meaning}
 use Rattle.step_code.specs.Sound.{longest_base, IsSound}
 use Rattle.step_code.specs.Spent.{NothingIsSpent}
 use Rattle.store_image.specs.Damage.{behind_bodies, BeginsWithNoStep, StopAt}
-use Rattle.store_image.specs.Files.{generation_file, out_file, root_file}
+use Rattle.store_image.specs.Files.{generation_file, out_file, root_file, heading_of}
 use Rattle.store_image.specs.Opens.{AreAlong, IsReplayable}
 use Rattle.store_image.specs.Stands.{origin_of, IsSealOf, Stands}
 use Rattle.store_image.specs.Stored.{AreRecords, HoldsSteps, NamesLast}
@@ -126,8 +126,8 @@ AreWrong m image generation before bodies cut found =
 -- the fault of a generation: its file has no records, or wrong ones
 abbrev pub IsWrong : Meaning → Image → ℕ → Option Base → Verdict → Type 0
 IsWrong m image generation before found =
-    ((at : ℕ) × IsHeadless (heading_of generation) (image (generation_file generation)) at × (found ≡ verdict.Damaged (generation_file generation) at))
-    ⊎ ((bodies : List (List ℕ)) × (cut : Option ℕ) × HasRecords (heading_of generation) bodies cut (image (generation_file generation)) × AreWrong m image generation before bodies cut found)
+    ((at : ℕ) × IsHeadless (heading_of first_format generation) (image (generation_file generation)) at × (found ≡ verdict.Damaged (generation_file generation) at))
+    ⊎ ((bodies : List (List ℕ)) × (cut : Option ℕ) × HasRecords (heading_of first_format generation) bodies cut (image (generation_file generation)) × AreWrong m image generation before bodies cut found)
 
 -- ---- a store
 

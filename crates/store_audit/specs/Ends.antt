@@ -2,7 +2,7 @@
 use Rattle.std.specs.Prelude.{◌≡◌, ◌≢◌, ◌-◌, ◌+◌, ℕ, List, Option, None, Some, Result, Ok, Err}
 use Rattle.edge_traits.specs.Disk.{DiskView, Image}
 use Rattle.disk_journal.specs.Reads.{OnlyReads}
-use Rattle.disk_journal.specs.GateFile.{frame_length, header_length, heading_of}
+use Rattle.disk_journal.specs.GateFile.{frame_length, header_length}
 use Rattle.step_code.specs.declared.base.Base.{Base}
 use Rattle.step_code.specs.declared.step.Step.{Step}
 use Rattle.step_code.specs.Code.{code_of_base, first_format, IsWritableBase}
@@ -10,7 +10,7 @@ use Rattle.step_code.specs.History.{replay}
 use Rattle.step_code.specs.Rules.{Meaning}
 use Rattle.step_code.specs.Sound.{IsSound}
 use Rattle.store_image.specs.Damage.{IsDamagedFile, NameNone}
-use Rattle.store_image.specs.Files.{generation_file, root_file}
+use Rattle.store_image.specs.Files.{generation_file, root_file, root_heading}
 use Rattle.generation_reading.specs.Reading.{HoldAlong}
 use Rattle.store_audit.specs.Audit.{ComeTo, Follows, IsAllowed, IsRight}
 use Rattle.store_audit.specs.declared.generation.End.{End}
@@ -21,7 +21,7 @@ use Rattle.store_audit.specs.declared.verdict.Verdict.TheVariants as verdict
 
 -- the root is damaged
 abbrev pub IsDamagedRoot : Image → Type 0
-IsDamagedRoot files = (at : ℕ) × IsDamagedFile (heading_of 0) NameNone (files root_file) at
+IsDamagedRoot files = (at : ℕ) × IsDamagedFile root_heading NameNone (files root_file) at
 
 -- a verdict that is found passes; a fault says nothing of the files
 abbrev pub IsEnd : (Verdict → Type 0) → End → Type 0

@@ -2,11 +2,12 @@
 ghost use Rattle.std.specs.Prelude.{◌≡◌, ◌≢◌, ◌↔◌, ◌+◌, ◌<◌, ◌≤◌, ◌^◌, true, length, Some, Err, option_map, IfOk, IfErr, IsErrOf, OnOk};
 ghost use Rattle.edge_traits.specs.Count.{Rose};
 ghost use Rattle.edge_traits.specs.Disk.{Image};
-ghost use Rattle.disk_journal.specs.GateFile.{header_length, heading_of, open_records, HasRecords};
+ghost use Rattle.disk_journal.specs.GateFile.{header_length, open_records, HasRecords};
 ghost use Rattle.disk_journal.specs.Reads.{OnlyReads};
+ghost use Rattle.step_code.specs.Code.{first_format};
 ghost use Rattle.step_code.specs.Sound.{IsSound};
 ghost use Rattle.step_code.specs.Spent.{last_given};
-ghost use Rattle.store_image.specs.Files.{generation_file};
+ghost use Rattle.store_image.specs.Files.{generation_file, heading_of};
 ghost use Rattle.store_audit.specs.Audit.{AreWrong, Follows, HaveFault, IsWrong};
 ghost use Rattle.store_audit.specs.Ends.{AreThrough, IsBegun, IsEnd, IsUnbegun, LeadsTo};
 
@@ -21,6 +22,7 @@ use edge_traits::Disk;
 use generation_reading::{FRAME, HEADER, base_of};
 use std::alloc::Global;
 use step_code::Rules;
+use store_image::{FIRST_FORMAT, heading_of};
 use stored_types::CodeFault;
 
 /// Why a generation isn't gone through to its end: what its store comes to, or why there is no verdict.
@@ -126,7 +128,7 @@ fn go_through_bodies<D: Disk, R: Rules>(
 ) -> Result<Core<R>, End>
     requires generation { generation ≤ last_given }
     requires short { header_length + length (open_records bodies.now) + 1 < 2 ^ 64 }
-    ensures right { (files : Image) → (D.disk disk.old).told ≡ Some files → HasRecords (heading_of generation) bodies.now cut (files (generation_file generation))
+    ensures right { (files : Image) → (D.disk disk.old).told ≡ Some files → HasRecords (heading_of first_format generation) bodies.now cut (files (generation_file generation))
         → IfOk result (λ core. LeadsTo R.meaning files generation (option_map (λ core. core.now.state) before.entry) core.state) }
     ensures wrong { (files : Image) → (D.disk disk.old).told ≡ Some files
         → IfErr result (IsEnd (AreWrong R.meaning files generation (option_map (λ core. core.now.state) before.entry) bodies.now cut)) }
@@ -170,7 +172,8 @@ pub(crate) fn audit_generation<D: Disk, R: Rules>(
     ensures failed { IsErrOf result (End.Fault AuditFault.Disk) → Rose (D.disk disk.old).faults (D.disk disk.new).faults }
 {
     let file = generation_file(generation);
-    let (bodies, cut) = match read_records(alloc, disk, file, generation) {
+    let heading = heading_of(FIRST_FORMAT, generation);
+    let (bodies, cut) = match read_records(alloc, disk, file, heading) {
         Ok(found) => found,
         Err(JournalFault::Damaged { at }) => return Err(End::Found(Verdict::Damaged { file, at })),
         Err(JournalFault::Disk) => return Err(End::Fault(AuditFault::Disk)),

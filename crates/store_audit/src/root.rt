@@ -16,6 +16,7 @@ use disk_journal::{JournalFault, read_records};
 use edge_traits::Disk;
 use generation_reading::generation_named;
 use std::alloc::Global;
+use store_image::root_heading;
 
 const ROOT: u64 = 0;
 
@@ -43,7 +44,7 @@ pub(crate) fn generation_in_force<D: Disk>(
     ensures reads { OnlyReads (D.disk disk.old) (D.disk disk.new) }
     ensures failed { IsErrOf result AuditFault.Disk → Rose (D.disk disk.old).faults (D.disk disk.new).faults }
 {
-    let (bodies, cut) = match read_records(alloc, disk, ROOT, 0) {
+    let (bodies, cut) = match read_records(alloc, disk, ROOT, root_heading()) {
         Ok(found) => found,
         Err(JournalFault::Damaged { .. }) => return Ok(None),
         Err(JournalFault::Disk) => return Err(AuditFault::Disk),

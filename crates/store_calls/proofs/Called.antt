@@ -34,7 +34,7 @@ narrow m origin steps more rest n image within none stands =
 
 -- a store that was opened, by what opening says of it
 pub opened_so : {D R : Type 0} {disk : D → DiskView} {m : Meaning} (origin : Origin) (steps more : List Step) (old : D) (rules : R) (limit : ℕ) (book : BookView D R)
-    → book ≡ opened m rules book.generation book.root book.base book.steps limit book.disk → IsReopened disk m origin steps more book → Leaves (disk old) (disk book.disk) (StandsFor m origin steps more)
+    → book ≡ opened m rules book.format book.generation book.root book.base book.steps limit book.disk → IsReopened disk m origin steps more book → Leaves (disk old) (disk book.disk) (StandsFor m origin steps more)
     → IsOpened disk m origin steps more old book
 opened_so {D = D} {R = R} origin steps more old rules limit book is reopened any_moment = record {
   all = ap (λ (b : BookView D R). b.kept) is;

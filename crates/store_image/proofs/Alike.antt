@@ -1,26 +1,35 @@
 -- Files of a store that differ only behind their records.
-use Rattle.std.proofs.Common.{◌≡◌, inl, inr, ◌==◌, ℕ, suc, Bool, true, false, List, [], ◌∷◌, refl, sym, subst, arith, if◌then◌else◌}
+use Rattle.std.proofs.Common.{◌≡◌, inl, inr, ◌==◌, ℕ, suc, Bool, true, false, List, [], ◌∷◌, refl, sym, ap, ◌∙◌, subst, arith, if◌then◌else◌}
 use Rattle.std.proofs.lemmas.Bool.{eqb-true}
 use Rattle.edge_traits.specs.Disk.{Image}
-use Rattle.disk_journal.specs.GateFile.{Heading, heading_of, HasBodies, HaveSameBodies}
+use Rattle.disk_journal.specs.declared.header.Heading.{Heading}
+use Rattle.disk_journal.specs.GateFile.{HasBodies, HaveSameBodies}
 use Rattle.disk_journal.proofs.GateFiles.{bodies_are_one}
 use Rattle.step_code.specs.declared.base.Base.{Base}
 use Rattle.step_code.specs.declared.step.Step.{Step}
+use Rattle.step_code.specs.Code.{first_format}
 use Rattle.step_code.specs.History.{replay}
 use Rattle.step_code.specs.Rules.{Meaning}
-use Rattle.store_image.specs.Files.{root_file, out_file, generation_file, IsStoreFile}
+use Rattle.store_image.specs.Files.{root_file, out_file, generation_file, heading_of, root_heading, IsStoreFile}
 use Rattle.store_image.specs.Stands.{AreArchived, IsArchive, Origin, StandsFor, WhereWhole}
 use Rattle.store_image.specs.Stored.{HoldsSteps, IsStored}
 use Rattle.store_image.proofs.Standing.{put_file, put_there, put_elsewhere, fronts_same}
 
 -- the same records in the root and in each generation, and the same outputs
 pub record AreAlike (a b : Image) : Type 0 where
-  pub root : (bodies : List (List ℕ)) → HasBodies (heading_of 0) bodies (a root_file) → HasBodies (heading_of 0) bodies (b root_file)
-  pub generations : (g : ℕ) (bodies : List (List ℕ)) → HasBodies (heading_of g) bodies (a (generation_file g)) → HasBodies (heading_of g) bodies (b (generation_file g))
+  pub root : (bodies : List (List ℕ)) → HasBodies root_heading bodies (a root_file) → HasBodies root_heading bodies (b root_file)
+  pub generations : (format g : ℕ) (bodies : List (List ℕ)) → format ≡ first_format → HasBodies (heading_of format g) bodies (a (generation_file g)) → HasBodies (heading_of format g) bodies (b (generation_file g))
   pub outs : (k : ℕ) → a (out_file k) ≡ b (out_file k)
 
 holds_alike : (a b : Image) → AreAlike a b → (g : ℕ) (base : Base) (steps : List Step) → HoldsSteps g (a (generation_file g)) base steps → HoldsSteps g (b (generation_file g)) base steps
-holds_alike a b alike g base steps is = record { records = is.records; bodies = alike.generations g _ is.bodies; writable = is.writable; content = is.content }
+holds_alike a b alike g base steps is = record {
+  format = is.format;
+  known = is.known;
+  records = is.records;
+  bodies = alike.generations is.format g _ is.known is.bodies;
+  writable = is.writable;
+  content = is.content;
+}
 
 stored_alike : (a b : Image) → AreAlike a b → (g : ℕ) (base : Base) (steps : List Step) → IsStored a g base steps → IsStored b g base steps
 stored_alike a b alike g base steps is = record {
@@ -61,24 +70,26 @@ has_same : (heading : Heading) (bodies : List (List ℕ)) (a b : List ℕ) → H
 has_same heading bodies a b same has = subst (λ (bs : List (List ℕ)). HasBodies heading bs b) (bodies_are_one heading same.bodies bodies a same.first has) same.second
 
 module _ (content : List ℕ) (image : Image) where
-  alike_root : HaveSameBodies (heading_of 0) content (image root_file) → AreAlike (put_file root_file content image) image
+  alike_root : HaveSameBodies root_heading content (image root_file) → AreAlike (put_file root_file content image) image
   alike_root same = record {
-    root = λ bodies has. has_same (heading_of 0) bodies content (image root_file) same (subst (λ (c : List ℕ). HasBodies (heading_of 0) bodies c) (put_there root_file content image) has);
-    generations = λ g bodies has. subst (λ (c : List ℕ). HasBodies (heading_of g) bodies c) (put_elsewhere root_file (generation_file g) content image (λ e. omega (arith, e))) has;
+    root = λ bodies has. has_same root_heading bodies content (image root_file) same (subst (λ (c : List ℕ). HasBodies root_heading bodies c) (put_there root_file content image) has);
+    generations = λ format g bodies known has. subst (λ (c : List ℕ). HasBodies (heading_of format g) bodies c) (put_elsewhere root_file (generation_file g) content image (λ e. omega (arith, e))) has;
     outs = λ k. put_elsewhere root_file (out_file k) content image (λ e. omega (arith, e));
   }
 
-  has_either : (g h : ℕ) (bodies : List (List ℕ)) (is : Bool) → (generation_file h == generation_file g) ≡ is → HaveSameBodies (heading_of g) content (image (generation_file g))
-      → HasBodies (heading_of h) bodies (if is then content else image (generation_file h)) → HasBodies (heading_of h) bodies (image (generation_file h))
+  has_either : (g h : ℕ) (bodies : List (List ℕ)) (is : Bool) → (generation_file h == generation_file g) ≡ is → HaveSameBodies (heading_of first_format g) content (image (generation_file g))
+      → HasBodies (heading_of first_format h) bodies (if is then content else image (generation_file h)) → HasBodies (heading_of first_format h) bodies (image (generation_file h))
   has_either g h bodies true is same has =
       let one : g ≡ h = omega (arith, eqb-true (generation_file h) (generation_file g) is) in
-      has_same (heading_of h) bodies content (image (generation_file h)) (subst (λ (n : ℕ). HaveSameBodies (heading_of n) content (image (generation_file n))) one same) has
+      has_same (heading_of first_format h) bodies content (image (generation_file h)) (subst (λ (n : ℕ). HaveSameBodies (heading_of first_format n) content (image (generation_file n))) one same) has
   has_either g h bodies false is same has = has
 
-  alike_generation : (g : ℕ) → HaveSameBodies (heading_of g) content (image (generation_file g)) → AreAlike (put_file (generation_file g) content image) image
+  alike_generation : (g : ℕ) → HaveSameBodies (heading_of first_format g) content (image (generation_file g)) → AreAlike (put_file (generation_file g) content image) image
   alike_generation g same = record {
-    root = λ bodies has. subst (λ (c : List ℕ). HasBodies (heading_of 0) bodies c) (put_elsewhere (generation_file g) root_file content image (λ e. omega (arith, e))) has;
-    generations = λ h bodies has. has_either g h bodies (generation_file h == generation_file g) refl same has;
+    root = λ bodies has. subst (λ (c : List ℕ). HasBodies root_heading bodies c) (put_elsewhere (generation_file g) root_file content image (λ e. omega (arith, e))) has;
+    generations = λ format h bodies known has.
+        subst (λ (f : ℕ). HasBodies (heading_of f h) bodies (image (generation_file h))) (sym known)
+        (has_either g h bodies (generation_file h == generation_file g) refl same (subst (λ (f : ℕ). HasBodies (heading_of f h) bodies (put_file (generation_file g) content image (generation_file h))) known has));
     outs = λ k. put_elsewhere (generation_file g) (out_file k) content image (λ e. omega (arith, e));
   }
 
@@ -87,6 +98,6 @@ module _ (content : List ℕ) (image : Image) where
   alike_put file heading (inl (is, head)) =
       subst (λ (n : ℕ). HaveSameBodies heading content (image n) → AreAlike (put_file n content image) image) (sym is)
       (λ same. alike_root (subst (λ (h : Heading). HaveSameBodies h content (image root_file)) head same))
-  alike_put file heading (inr (g, is, head)) =
+  alike_put file heading (inr (format, g, known, is, head)) =
       subst (λ (n : ℕ). HaveSameBodies heading content (image n) → AreAlike (put_file n content image) image) (sym is)
-      (λ same. alike_generation g (subst (λ (h : Heading). HaveSameBodies h content (image (generation_file g))) head same))
+      (λ same. alike_generation g (subst (λ (h : Heading). HaveSameBodies h content (image (generation_file g))) (head ∙ ap (λ (f : ℕ). heading_of f g) known) same))

@@ -3,7 +3,8 @@ use Rattle.std.proofs.Common.{◌≡◌, ◌≢◌, ◌≤◌, ◌+◌, inl, inr
 use Rattle.std.specs.List.{AllByRecursion}
 use Rattle.std.proofs.lemmas.List.{append-nil, append_cancel_left}
 use Rattle.edge_traits.specs.Disk.{Image}
-use Rattle.disk_journal.specs.GateFile.{Heading, frame_length, heading_of, open_records, HasBodies}
+use Rattle.disk_journal.specs.declared.header.Heading.{Heading}
+use Rattle.disk_journal.specs.GateFile.{frame_length, open_records, HasBodies}
 use Rattle.disk_journal.proofs.GateFiles.{bodies_are_one, damage_is_at_one_place, damaged_has_no_bodies}
 use Rattle.stored_types.specs.Code.{number}
 use Rattle.stored_types.proofs.Readers.{one_code}
@@ -17,11 +18,11 @@ use Rattle.step_code.specs.Sound.{IsSound}
 use Rattle.step_code.specs.Spent.{last_given}
 use Rattle.step_code.proofs.StateLaws.{base_law}
 use Rattle.store_image.specs.Damage.{behind_bodies, BeginsWithNone, AreNoHistory, AreNoSteps, HasShortOutput, HoldNoSteps, StopAt, IsDamagedFile, IsDamagedGeneration, IsDamagedStore, IsNoBase, IsShort, NameNone}
-use Rattle.store_image.specs.Files.{root_file, generation_file}
+use Rattle.store_image.specs.Files.{root_file, generation_file, heading_of, root_heading}
 use Rattle.store_image.specs.Opens.{AreAlong, AreLong, AreReplayable, IsReplayable, Opens}
 use Rattle.store_image.specs.Stored.{codes_of, AreRecords, HoldsSteps, IsStored, NamesLast}
 use Rattle.store_image.proofs.Stops.{records_hold, same_front, stops_once, Stop}
-use Rattle.store_image.proofs.Stored.{named_is_one, records_are_one, stored_is_one}
+use Rattle.store_image.proofs.Stored.{known_bodies, known_writable, named_is_one, records_are_one, stored_is_one}
 
 -- ---- a file
 
@@ -77,8 +78,8 @@ module _ (root : List ℕ) (generation : ℕ) (named : NamesLast root generation
       let there = named_there (named.before ++ generation ∷ []) stop.before stop.body stop.later named.given stop.splits in
       stop.bad there.0 there.1 there.2
 
-  whole_root : (at : ℕ) → IsDamagedFile (heading_of 0) NameNone root at → ⊥
-  whole_root at damaged = whole_file (heading_of 0) NameNone root (map number (named.before ++ generation ∷ [])) at named.bodies (names_some at) damaged
+  whole_root : (at : ℕ) → IsDamagedFile root_heading NameNone root at → ⊥
+  whole_root at damaged = whole_file root_heading NameNone root (map number (named.before ++ generation ∷ [])) at named.bodies (names_some at) damaged
 
 -- ---- a generation
 
@@ -152,9 +153,9 @@ module _ (m : Meaning) where
       (stop_of m (IsReplayable m) bad.base (behind_bodies (code_of_base first_format bad.base ∷ [])) bad.records at bad.bad)
 
   whole_generation : (generation : ℕ) (file : List ℕ) (base : Base) (steps : List Step) (at : ℕ) → HoldsSteps generation file base steps → IsSound m base → AreReplayable m base steps
-      → IsDamagedFile (heading_of generation) (AreNoHistory m) file at → ⊥
+      → IsDamagedFile (heading_of first_format generation) (AreNoHistory m) file at → ⊥
   whole_generation generation file base steps at holds sound replays damaged =
-      whole_file (heading_of generation) (AreNoHistory m) file (code_of_base first_format base ∷ holds.records) at holds.bodies (history_there base holds.records steps at holds.writable sound holds.content replays) damaged
+      whole_file (heading_of first_format generation) (AreNoHistory m) file (code_of_base first_format base ∷ holds.records) at (known_bodies generation file base steps holds) (history_there base holds.records steps at (known_writable generation file base steps holds) sound holds.content replays) damaged
 
 -- ---- the outputs
 
@@ -183,15 +184,15 @@ module _ (m : Meaning) (image : Image) where
   opens_whole generation base steps file at opens (inr (other, named, inl damaged)) =
       let same = named_is_one (image root_file) other generation named opens.stored.named in
       whole_generation m generation (image (generation_file generation)) base steps at opens.stored.holds opens.sound opens.replays
-      (subst (λ (g : ℕ). IsDamagedFile (heading_of g) (AreNoHistory m) (image (generation_file g)) at) same damaged.1)
+      (subst (λ (g : ℕ). IsDamagedFile (heading_of first_format g) (AreNoHistory m) (image (generation_file g)) at) same damaged.1)
   opens_whole generation base steps file at opens (inr (other, named, inr short)) = short_or_long generation other file at base steps opens.stored opens.long short
 
-  short_is_whole : (g file at place : ℕ) → HasShortOutput m image g file at → IsDamagedFile (heading_of g) (AreNoHistory m) (image (generation_file g)) place → ⊥
+  short_is_whole : (g file at place : ℕ) → HasShortOutput m image g file at → IsDamagedFile (heading_of first_format g) (AreNoHistory m) (image (generation_file g)) place → ⊥
   short_is_whole g file at place short damaged = whole_generation m g (image (generation_file g)) short.base short.steps place short.stored.holds short.sound short.replays damaged
 
   generation_once : (g file at other place : ℕ) → IsDamagedGeneration m image g file at → IsDamagedGeneration m image g other place → (file ≡ other) × (at ≡ place)
   generation_once g file at other place (inl a) (inl b) =
-      (a.0 ∙ sym b.0, damaged_once (heading_of g) (AreNoHistory m) (image (generation_file g)) (no_history_once m) at place a.1 b.1)
+      (a.0 ∙ sym b.0, damaged_once (heading_of first_format g) (AreNoHistory m) (image (generation_file g)) (no_history_once m) at place a.1 b.1)
   generation_once g file at other place (inl a) (inr b) = absurd (short_is_whole g other place at b a.1)
   generation_once g file at other place (inr a) (inl b) = absurd (short_is_whole g file at place a b.1)
   generation_once g file at other place (inr a) (inr b) =
@@ -199,7 +200,7 @@ module _ (m : Meaning) (image : Image) where
       short_once 0 (replay m b.base b.steps).outs image file at other place (subst (λ (s : Base). IsShort 0 s.outs image file at) (λ i. replay m (same.1 i) (same.2 i)) a.short) b.short
 
   pub damaged_in_one_place : (file at other place : ℕ) → IsDamagedStore m image file at → IsDamagedStore m image other place → (file ≡ other) × (at ≡ place)
-  damaged_in_one_place file at other place (inl a) (inl b) = (a.0 ∙ sym b.0, damaged_once (heading_of 0) NameNone (image root_file) names_none_once at place a.1 b.1)
+  damaged_in_one_place file at other place (inl a) (inl b) = (a.0 ∙ sym b.0, damaged_once root_heading NameNone (image root_file) names_none_once at place a.1 b.1)
   damaged_in_one_place file at other place (inl a) (inr (g, named, b)) = absurd (whole_root (image root_file) g named at a.1)
   damaged_in_one_place file at other place (inr (g, named, a)) (inl b) = absurd (whole_root (image root_file) g named place b.1)
   damaged_in_one_place file at other place (inr (g, named, a)) (inr (h, again, b)) =

@@ -3,7 +3,7 @@ use Rattle.std.proofs.Common.{◌≡◌, ◌≢◌, ◌≤◌, inl, inr, ℕ, ze
 use Rattle.std.specs.List.{AllByRecursion}
 use Rattle.std.proofs.lemmas.Bool.{cases_lt}
 use Rattle.edge_traits.specs.Disk.{Image}
-use Rattle.disk_journal.specs.GateFile.{heading_of, HasBodies}
+use Rattle.disk_journal.specs.GateFile.{HasBodies}
 use Rattle.disk_journal.proofs.Either.{bodies_or_damage}
 use Rattle.stored_types.specs.Code.{number}
 use Rattle.step_code.specs.declared.base.Base.{Base}
@@ -16,7 +16,7 @@ use Rattle.step_code.specs.Rules.{Meaning}
 use Rattle.step_code.specs.Sound.{IsSound}
 use Rattle.step_code.specs.Spent.{last_given}
 use Rattle.store_image.specs.Damage.{AreNoHistory, IsDamagedFile, IsDamagedStore, IsNoStep, IsShort, NameNone}
-use Rattle.store_image.specs.Files.{root_file, generation_file, out_file}
+use Rattle.store_image.specs.Files.{root_file, generation_file, out_file, heading_of, root_heading}
 use Rattle.store_image.specs.Opens.{AreLong, AreReplayable, IsReplayable, Opens}
 use Rattle.store_image.specs.Stored.{codes_of, AreRecords, HoldsSteps, IsRecord, NamesLast}
 use Rattle.store_image.proofs.Standing.{replay-append}
@@ -47,20 +47,20 @@ last_of : (n : ℕ) (named : List ℕ) → HasLast (n ∷ named)
 last_of n [] = record { before = []; last = n; is = refl }
 last_of n (k ∷ named) = let rest = last_of k named in record { before = n ∷ rest.before; last = rest.last; is = ap (λ l. n ∷ l) rest.is }
 
-module _ (root : List ℕ) (has_none : (generation : ℕ) → NamesLast root generation → ⊥) (is_whole : (at : ℕ) → IsDamagedFile (heading_of 0) NameNone root at → ⊥) where
-  all_named : (bodies : List (List ℕ)) → HasBodies (heading_of 0) bodies root → (named : List ℕ) → bodies ≡ map number named → AreGiven named → ⊥
+module _ (root : List ℕ) (has_none : (generation : ℕ) → NamesLast root generation → ⊥) (is_whole : (at : ℕ) → IsDamagedFile root_heading NameNone root at → ⊥) where
+  all_named : (bodies : List (List ℕ)) → HasBodies root_heading bodies root → (named : List ℕ) → bodies ≡ map number named → AreGiven named → ⊥
   all_named bodies has [] same given = is_whole 16 (inr (bodies, has, inl (same, refl)))
   all_named bodies has (n ∷ named) same given =
       let found = last_of n named in
       has_none found.last (record {
         before = found.before;
-        bodies = subst (λ (bs : List (List ℕ)). HasBodies (heading_of 0) bs root) (same ∙ ap (map number) found.is) has;
+        bodies = subst (λ (bs : List (List ℕ)). HasBodies root_heading bs root) (same ∙ ap (map number) found.is) has;
         given = subst AreGiven found.is given;
       })
 
   root_either : ⊥
   root_either =
-      bodies_or_damage (heading_of 0) root
+      bodies_or_damage root_heading root
       (λ bodies has. names_either bodies (all_named bodies has)
       (λ before body later splits given bad. is_whole _ (inr (bodies, has, inr (record { before = before; body = body; later = later; splits = splits; given = given; bad = bad; place = refl })))))
       (λ at damaged. is_whole at (inl damaged))
@@ -171,12 +171,12 @@ module _ (m : Meaning) where
         is_none 25 (inr (inl (record { body = body; records = records; splits = same; bad = none; place = refl })))
 
   generation_either : (generation : ℕ) (file : List ℕ) → ((base : Base) (steps : List Step) → HoldsSteps generation file base steps → IsSound m base → AreReplayable m base steps → ⊥)
-      → ((at : ℕ) → IsDamagedFile (heading_of generation) (AreNoHistory m) file at → ⊥) → ⊥
+      → ((at : ℕ) → IsDamagedFile (heading_of first_format generation) (AreNoHistory m) file at → ⊥) → ⊥
   generation_either generation file has_none is_whole =
-      bodies_or_damage (heading_of generation) file
+      bodies_or_damage (heading_of first_format generation) file
       (λ bodies has. history_either bodies (λ at none. is_whole at (inr (bodies, has, none))) bodies refl
       (λ base records steps splits writable sound content replays.
-      has_none base steps (record { records = records; bodies = subst (λ (bs : List (List ℕ)). HasBodies (heading_of generation) bs file) splits has; writable = writable; content = content }) sound replays))
+      has_none base steps (record { format = first_format; known = refl; records = records; bodies = subst (λ (bs : List (List ℕ)). HasBodies (heading_of first_format generation) bs file) splits has; writable = writable; content = content }) sound replays))
       (λ at damaged. is_whole at (inl damaged))
 
 -- ---- the outputs

@@ -1,19 +1,21 @@
 -- What is stored is one.
-use Rattle.std.proofs.Common.{◌≡◌, ◌≤◌, ℕ, List, [], ◌∷◌, ◌++◌, length, map, refl, sym, ap, subst, ◌∙◌, arith, length-append}
+use Rattle.std.proofs.Common.{◌≡◌, ◌≤◌, ◌<◌, ◌^◌, codes, ℕ, List, [], ◌∷◌, ◌++◌, length, map, refl, sym, ap, subst, ◌∙◌, arith, length-append}
+use Rattle.std.specs.Int.{from_be_bytes, to_be_bytes, w32, w64}
 use Rattle.std.specs.List.{AllByRecursion}
 use Rattle.std.proofs.lemmas.List.{append-nil}
+use Rattle.std.proofs.lemmas.Nat.{from_be_bytes-to_be_bytes_4}
 use Rattle.edge_traits.specs.Disk.{Image}
-use Rattle.disk_journal.specs.GateFile.{heading_of}
-use Rattle.disk_journal.proofs.GateFiles.{bodies_are_one, word_is_one}
+use Rattle.disk_journal.specs.GateFile.{header, open_records, HasBodies}
+use Rattle.disk_journal.proofs.GateFiles.{bodies_are_one, file_split, parted, word_is_one}
 use Rattle.stored_types.specs.Code.{number}
 use Rattle.stored_types.proofs.Readers.{one_code}
 use Rattle.step_code.specs.declared.base.Base.{Base}
 use Rattle.step_code.specs.declared.step.Step.{Step}
-use Rattle.step_code.specs.Code.{code_of_base, code_of_step, first_format, IsWritable}
+use Rattle.step_code.specs.Code.{code_of_base, code_of_step, first_format, IsWritable, IsWritableBase}
 use Rattle.step_code.specs.Spent.{last_given}
 use Rattle.step_code.proofs.StateLaws.{base_law}
 use Rattle.step_code.proofs.StepLaws.{step_law}
-use Rattle.store_image.specs.Files.{root_file, generation_file}
+use Rattle.store_image.specs.Files.{root_file, generation_file, heading_of, root_heading}
 use Rattle.store_image.specs.Stored.{codes_of, AreRecords, NamesLast, HoldsSteps, IsStored}
 
 -- a step's code isn't empty
@@ -49,18 +51,42 @@ numbers_last (n ∷ m ∷ ms) [] g h small_g small_h same = absurd (cc)
 numbers_last (n ∷ ns) (o ∷ os) g h small_g small_h same = numbers_last ns os g h small_g.1 small_h.1 (cc)
 
 pub named_is_one : (root : List ℕ) (g h : ℕ) → NamesLast root g → NamesLast root h → g ≡ h
-named_is_one root g h a b = numbers_last a.before b.before g h a.given b.given (bodies_are_one (heading_of 0) _ _ root a.bodies b.bodies)
+named_is_one root g h a b = numbers_last a.before b.before g h a.given b.given (bodies_are_one root_heading _ _ root a.bodies b.bodies)
+
+-- what a file of steps holds, in the only format that is known
+pub known_bodies : (g : ℕ) (file : List ℕ) (base : Base) (steps : List Step) (is : HoldsSteps g file base steps) → HasBodies (heading_of first_format g) (code_of_base first_format base ∷ is.records) file
+known_bodies g file base steps is = subst (λ (f : ℕ). HasBodies (heading_of f g) (code_of_base f base ∷ is.records) file) is.known is.bodies
+
+pub known_writable : (g : ℕ) (file : List ℕ) (base : Base) (steps : List Step) → HoldsSteps g file base steps → IsWritableBase first_format base
+known_writable g file base steps is = subst (λ (f : ℕ). IsWritableBase f base) is.known is.writable
 
 pub held_is_one : (g : ℕ) (file : List ℕ) (a b : Base) (s t : List Step) → HoldsSteps g file a s → HoldsSteps g file b t → (a ≡ b) × (s ≡ t)
 held_is_one g file a b s t one other =
-    let bodies : code_of_base first_format a ∷ one.records ≡ code_of_base first_format b ∷ other.records = bodies_are_one (heading_of g) _ _ file one.bodies other.bodies in
+    let bodies : code_of_base first_format a ∷ one.records ≡ code_of_base first_format b ∷ other.records =
+    bodies_are_one (heading_of first_format g) _ _ file (known_bodies g file a s one) (known_bodies g file b t other) in
     let codes : code_of_base first_format a ≡ code_of_base first_format b = cc in
     let records : one.records ≡ other.records = cc in
-    let base = one_code base_law a b [] [] one.writable other.writable (append-nil (code_of_base first_format a) ∙ codes ∙ sym (append-nil (code_of_base first_format b))) in
+    let base = one_code base_law a b [] [] (known_writable g file a s one) (known_writable g file b t other) (append-nil (code_of_base first_format a) ∙ codes ∙ sym (append-nil (code_of_base first_format b))) in
     (base.0, records_are_one other.records s t (subst (λ (rs : List (List ℕ)). AreRecords rs s) records one.content) other.content)
 
-pub stored_is_one : (image : Image) (g h : ℕ) (a b : Base) (s t : List Step) → IsStored image g a s → IsStored image h b t → (g ≡ h) × (a ≡ b) × (s ≡ t)
+-- so is the format, which the header says
+formats_are_one : (f g x y : ℕ) (bodies others : List (List ℕ)) (file : List ℕ) → f < 2 ^ 32 → g < 2 ^ 32 → HasBodies (heading_of f x) bodies file → HasBodies (heading_of g y) others file → f ≡ g
+formats_are_one f g x y bodies others file small_f small_g one other =
+    let one_front : file ≡ header (heading_of f x) ++ (open_records bodies ++ one.gate ∷ one.behind) = one.content ∙ file_split (heading_of f x) bodies one.gate one.behind in
+    let other_front : file ≡ header (heading_of g y) ++ (open_records others ++ other.gate ∷ other.behind) = other.content ∙ file_split (heading_of g y) others other.gate other.behind in
+    let headers = parted (header (heading_of f x)) (header (heading_of g y)) _ _ refl (sym one_front ∙ other_front) in
+    let fronts = parted (codes "IMQJ" ++ to_be_bytes w32 f) (codes "IMQJ" ++ to_be_bytes w32 g) (to_be_bytes w64 x) (to_be_bytes w64 y) refl headers.0 in
+    let words = parted (codes "IMQJ") (codes "IMQJ") (to_be_bytes w32 f) (to_be_bytes w32 g) refl fronts.0 in
+    sym (from_be_bytes-to_be_bytes_4 f small_f) ∙ ap (from_be_bytes w32) words.1 ∙ from_be_bytes-to_be_bytes_4 g small_g
+
+pub stored_is_one : (image : Image) (g h : ℕ) (a b : Base) (s t : List Step) (one : IsStored image g a s) (other : IsStored image h b t) → (g ≡ h) × (a ≡ b) × (s ≡ t) × (one.holds.format ≡ other.holds.format)
 stored_is_one image g h a b s t one other =
     let same = named_is_one (image root_file) g h one.named other.named in
     let held = held_is_one h (image (generation_file h)) a b s t (subst (λ (n : ℕ). HoldsSteps n (image (generation_file n)) a s) same one.holds) other.holds in
-    (same, held.0, held.1)
+    let bodies = code_of_base other.holds.format b ∷ other.holds.records in
+    let there : HasBodies (heading_of other.holds.format g) bodies (image (generation_file g)) =
+    subst (λ (n : ℕ). HasBodies (heading_of other.holds.format n) bodies (image (generation_file n))) (sym same) other.holds.bodies in
+    let small : one.holds.format < 2 ^ 32 = omega (arith, one.holds.known) in
+    let other_small : other.holds.format < 2 ^ 32 = omega (arith, other.holds.known) in
+    let formats = formats_are_one one.holds.format other.holds.format g g (code_of_base one.holds.format a ∷ one.holds.records) bodies (image (generation_file g)) small other_small one.holds.bodies there in
+    (same, held.0, held.1, formats)

@@ -3,7 +3,8 @@
 use Rattle.std.specs.Prelude.{◌≡◌, ◌≢◌, ◌⊎◌, ◌≤◌, ◌<◌, ◌+◌, ℕ, suc, List, [], ◌∷◌, ◌++◌, length, map}
 use Rattle.std.specs.List.{AllByRecursion}
 use Rattle.edge_traits.specs.Disk.{Image}
-use Rattle.disk_journal.specs.GateFile.{Heading, frame_length, heading_of, header_length, open_records, HasBodies, IsDamagedAt}
+use Rattle.disk_journal.specs.declared.header.Heading.{Heading}
+use Rattle.disk_journal.specs.GateFile.{frame_length, header_length, open_records, HasBodies, IsDamagedAt}
 use Rattle.stored_types.specs.Code.{number}
 use Rattle.step_code.specs.declared.base.Base.{Base}
 use Rattle.step_code.specs.declared.output.Output.{Output}
@@ -13,7 +14,7 @@ use Rattle.step_code.specs.History.{replay}
 use Rattle.step_code.specs.Rules.{Meaning}
 use Rattle.step_code.specs.Sound.{IsSound}
 use Rattle.step_code.specs.Spent.{last_given}
-use Rattle.store_image.specs.Files.{root_file, out_file, generation_file}
+use Rattle.store_image.specs.Files.{root_file, out_file, generation_file, heading_of, root_heading}
 use Rattle.store_image.specs.Opens.{AreAlong, AreReplayable, IsReplayable}
 use Rattle.store_image.specs.Stored.{codes_of, AreRecords, NamesLast, IsStored}
 
@@ -132,11 +133,11 @@ pub record HasShortOutput (m : Meaning) (image : Image) (generation file at : �
 -- opening the store finds this damage in the file of its generation, or of an output
 abbrev pub IsDamagedGeneration : Meaning → Image → ℕ → ℕ → ℕ → Type 0
 IsDamagedGeneration m image generation file at =
-    ((file ≡ generation_file generation) × IsDamagedFile (heading_of generation) (AreNoHistory m) (image (generation_file generation)) at)
+    ((file ≡ generation_file generation) × IsDamagedFile (heading_of first_format generation) (AreNoHistory m) (image (generation_file generation)) at)
     ⊎ HasShortOutput m image generation file at
 
 -- opening the store finds this damage
 abbrev pub IsDamagedStore : Meaning → Image → ℕ → ℕ → Type 0
 IsDamagedStore m image file at =
-    ((file ≡ root_file) × IsDamagedFile (heading_of 0) NameNone (image root_file) at)
+    ((file ≡ root_file) × IsDamagedFile root_heading NameNone (image root_file) at)
     ⊎ ((generation : ℕ) × NamesLast (image root_file) generation × IsDamagedGeneration m image generation file at)

@@ -2,13 +2,13 @@
 use Rattle.std.specs.Prelude.{◌≡◌, ◌≤◌, ℕ, List, [], ◌∷◌, ◌++◌, length, map, flat_map}
 use Rattle.std.specs.List.{AllByRecursion}
 use Rattle.edge_traits.specs.Disk.{Image}
-use Rattle.disk_journal.specs.GateFile.{heading_of, HasBodies}
+use Rattle.disk_journal.specs.GateFile.{HasBodies}
 use Rattle.stored_types.specs.Code.{number}
 use Rattle.step_code.specs.declared.base.Base.{Base}
 use Rattle.step_code.specs.declared.step.Step.{Step}
 use Rattle.step_code.specs.Code.{code_of_base, code_of_step, first_format, IsWritable, IsWritableBase}
 use Rattle.step_code.specs.Spent.{last_given}
-use Rattle.store_image.specs.Files.{root_file, generation_file}
+use Rattle.store_image.specs.Files.{root_file, generation_file, heading_of, root_heading}
 
 -- the codes of steps, one behind the other
 abbrev pub codes_of : List Step → List ℕ
@@ -28,14 +28,16 @@ AreRecords (body ∷ bodies) steps = (front : List Step) × (rest : List Step) �
 -- the root names generations, and this one last
 pub record NamesLast (root : List ℕ) (generation : ℕ) : Type 0 where
   pub before : List ℕ
-  pub bodies : HasBodies (heading_of 0) (map number (before ++ generation ∷ [])) root
+  pub bodies : HasBodies root_heading (map number (before ++ generation ∷ [])) root
   pub given : AllByRecursion (λ n. n ≤ last_given) (before ++ generation ∷ [])
 
--- a generation's file holds a state, and steps behind it
+-- a generation's file holds a state, and steps behind it, in a format that is known
 pub record HoldsSteps (generation : ℕ) (file : List ℕ) (base : Base) (steps : List Step) : Type 0 where
+  pub format : ℕ
+  pub known : format ≡ first_format
   pub records : List (List ℕ)
-  pub bodies : HasBodies (heading_of generation) (code_of_base first_format base ∷ records) file
-  pub writable : IsWritableBase first_format base
+  pub bodies : HasBodies (heading_of format generation) (code_of_base format base ∷ records) file
+  pub writable : IsWritableBase format base
   pub content : AreRecords records steps
 
 -- what the files of a store hold

@@ -9,9 +9,10 @@ ghost use Rattle.store_image.specs.Stored.{IsStored};
 
 use step_code::{Base, Step};
 
-/// The files of a store hold one generation, one state, and one list of steps.
+/// The files of a store hold one generation, one state, and one list of steps, in one format.
 pub fn what_is_stored_is_one()
-    ensures { (image : Image) (g h : ℕ) (a b : Base) (s t : List Step) → IsStored image g a s → IsStored image h b t → (g ≡ h) × (a ≡ b) × (s ≡ t) }
+    ensures { (image : Image) (g h : ℕ) (a b : Base) (s t : List Step) (one : IsStored image g a s) (other : IsStored image h b t)
+        → (g ≡ h) × (a ≡ b) × (s ≡ t) × (one.holds.format ≡ other.holds.format) }
 {}
 
 /// Where all generations of a store are looked at, its files hold the history that they stand for.

@@ -48,13 +48,14 @@ fn flush_and_renew<D: Disk, R: Rules>(book: &mut Book<D, R>) -> Answer {
     }
 }
 
-// The number of the generation in force, and the bytes of its steps.
+// The number of the generation in force, its format, and the bytes of its steps.
 fn check_generation<D: Disk, R: Rules>(
     rt: &impl Abort,
     book: &Book<D, R>,
     number: u64,
     bytes: u64,
 ) {
+    same(rt, book.format(), 1u32);
     same(rt, book.generation(), number);
     same(rt, book.step_bytes(), bytes);
 }
@@ -86,10 +87,11 @@ pub fn renewed_three<D: Disk + Drop, R: Rules>(
     Ok(book.into_disk())
 }
 
-// What is found in a store that opens: its generation, the bytes of its steps, how many steps its state counts, and of each output all
-// bytes and all lines, sealed or not.
+// What is found in a store that opens: its format, its generation, the bytes of its steps, how many steps its state counts, and of
+// each output all bytes and all lines, sealed or not.
 #[derive(Drop)]
 struct Found {
+    format: u32,
     generation: u64,
     step_bytes: u64,
     counts: String,
@@ -120,6 +122,7 @@ fn counts_in(alloc: Global, base: &Base) -> Result<String, Fail> {
 
 fn found_of<D: Disk, R: Rules>(alloc: Global, book: &Book<D, R>) -> Result<Found, Fail> {
     Ok(Found {
+        format: book.format(),
         generation: book.generation(),
         step_bytes: book.step_bytes(),
         counts: counts_in(alloc, &book.state().base()?)?,
@@ -151,6 +154,7 @@ fn steps_are_counted_on_behind_a_renewal(rt: HostRuntime) -> Result<(), Fail> {
 }
 
 fn check_found(rt: &impl Abort, found: &Found) {
+    same(rt, found.format, 1u32);
     same(rt, found.generation, 1);
     same(rt, found.step_bytes, 9);
     same(rt, found.counts.as_str(), "4 steps, 0 0");

@@ -2,7 +2,7 @@
 
 use crate::same::same_in;
 use base_types::Blob;
-use disk_journal::Journal;
+use disk_journal::{Heading, Journal};
 use edge_memory::MemDisk;
 use edge_traits::Disk;
 use journal_book::BookFault;
@@ -26,7 +26,11 @@ pub fn make_file<D: Disk>(alloc: Global, disk: &mut D, file: u64, body: &[u8]) -
     if body.len() > 1_000_000 {
         return Err(Fail::from("a long state"));
     }
-    match Journal::create(alloc, disk, file, 0, body) {
+    let heading = Heading {
+        format: 1,
+        generation: 0,
+    };
+    match Journal::create(alloc, disk, file, heading, body) {
         Ok(_) => Ok(()),
         Err(_) => Err(Fail::from("the disk")),
     }

@@ -82,7 +82,7 @@ pub fn waiting_codes<D: Disk, R: Rules>(alloc: Global, book: &Book<D, R>) -> Res
 
 /// Stages a step that carries nothing of the rules, when the clock shows this moment.
 pub fn stage<D: Disk, R: Rules>(book: &mut Book<D, R>, now: u64, what: Move) -> Answer
-    requires { (moment : ℕ) → IsMove R.meaning book.old.state moment what }
+    requires { (format moment : ℕ) → IsMove R.meaning format book.old.state moment what }
     ensures { book.new.broken ≡ book.old.broken }
 {
     let (steps, bytes) = book.unflushed();

@@ -1,5 +1,5 @@
 use base_types::{Blob, NumberList};
-use disk_journal::Journal;
+use disk_journal::{Heading, Journal};
 use edge_memory::{MemDisk, MemSink};
 use std::alloc::Global;
 use std::test::Fail;
@@ -23,7 +23,11 @@ fn make_file(alloc: Global, disk: &mut MemDisk, file: u64, body: &[u8]) -> Resul
     if body.len() > 1_000_000 {
         return Err(Fail::from("a long state"));
     }
-    match Journal::create(alloc, disk, file, 0, body) {
+    let heading = Heading {
+        format: 1,
+        generation: 0,
+    };
+    match Journal::create(alloc, disk, file, heading, body) {
         Ok(_) => Ok(()),
         Err(_) => Err(Fail::from("the disk")),
     }

@@ -100,7 +100,7 @@ fn mark_of<D: Disk + Counted, R: Rules>(
 // Commits a step that carries nothing of the rules. Answers that the disk is whole.
 fn commit<D: Disk, R: Rules>(book: &mut Book<D, R>, what: Move) -> Result<bool, Fail>
     requires whole { book.old.broken ≡ false }
-    requires plain { (moment : ℕ) → IsMove R.meaning book.old.state moment what }
+    requires plain { (format moment : ℕ) → IsMove R.meaning format book.old.state moment what }
     ensures { IfOk result (λ whole. whole ≡ true → book.new.broken ≡ false) }
 {
     match stage(book, NOW, what) {

@@ -8,11 +8,16 @@ use crate::disks::{
 use crate::same::{holds_in, same, same_in};
 use crate::untold::{ShortRead, UntoldDisk};
 use base_types::BlobList;
-use disk_journal::{AppendFault, Journal, JournalFault};
+use disk_journal::{AppendFault, Heading, Journal, JournalFault};
 use edge_memory::{Choice, MemDisk};
 use std::alloc::Global;
 use std::process::Abort;
 use std::test::Fail;
+
+const HEADING: Heading = Heading {
+    format: 1,
+    generation: 0,
+};
 
 // A journal of generation 0 with the body `z`.
 const CREATED: &[u8] = b"IMQJ\0\0\0\x01\0\0\0\0\0\0\0\0\x01\0\0\0\0\0\0\0\x01z\0";
@@ -31,7 +36,7 @@ const GATE: usize = 26;
 fn create(alloc: Global, disk: &mut MemDisk) -> Result<Journal, JournalFault>
     ensures { IfOk result (λ journal. IsUsable journal disk.new) }
 {
-    let journal = Journal::create(alloc, disk, FILE, 0, b"z")?;
+    let journal = Journal::create(alloc, disk, FILE, HEADING, b"z")?;
     Ok(journal)
 }
 
@@ -70,13 +75,13 @@ fn list_text(alloc: Global, bodies: &BlobList) -> Result<Vec<u8>, Fail> {
 
 // Opens the journal and gives its bodies.
 fn reopened(alloc: Global, disk: &mut MemDisk) -> Result<Vec<u8>, Fail> {
-    let (_, bodies) = Journal::reopen(alloc, disk, FILE, 0)?;
+    let (_, bodies) = Journal::reopen(alloc, disk, FILE, HEADING)?;
     list_text(alloc, &bodies)
 }
 
 // Where the journal is damaged, if it is.
 fn damage(alloc: Global, disk: &mut MemDisk) -> Result<Option<u64>, Fail> {
-    match Journal::reopen(alloc, disk, FILE, 0) {
+    match Journal::reopen(alloc, disk, FILE, HEADING) {
         Ok(_) => Ok(None),
         Err(JournalFault::Damaged { at }) => Ok(Some(at)),
         Err(_) => Err(Fail::from("neither opened nor damaged")),
@@ -97,8 +102,12 @@ fn a_new_journal_has_a_header_and_a_record(rt: HostRuntime) -> Result<(), Fail> 
 fn a_journal_is_made_anew(rt: HostRuntime) -> Result<(), Fail> {
     let alloc = rt.alloc();
     let mut disk = disk_with(alloc, APPENDED)?;
-    let _journal = Journal::create(alloc, &mut disk, FILE, 0x0102_0304_0506_0708, b"")?;
-    let want = b"IMQJ\0\0\0\x01\x01\x02\x03\x04\x05\x06\x07\x08\x01\0\0\0\0\0\0\0\0\0";
+    let heading = Heading {
+        format: 0x0A0B_0C0D,
+        generation: 0x0102_0304_0506_0708,
+    };
+    let _journal = Journal::create(alloc, &mut disk, FILE, heading, b"")?;
+    let want = b"IMQJ\x0a\x0b\x0c\x0d\x01\x02\x03\x04\x05\x06\x07\x08\x01\0\0\0\0\0\0\0\0\0";
     same(&rt, disk.file(alloc, FILE)?.as_slice(), want.as_slice());
     assert!(rt; !disk.starved());
     Ok(())
@@ -538,7 +547,7 @@ fn check_failed_opening(
     disk: &mut MemDisk,
     number: u64,
 ) -> Result<(), Fail> {
-    assert!(rt; is_disk(Journal::reopen(alloc, disk, FILE, 0)));
+    assert!(rt; is_disk(Journal::reopen(alloc, disk, FILE, HEADING)));
     same(rt, disk.calls(), number);
     let bodies = reopened(alloc, disk)?;
     same(rt, bodies.as_slice(), b"z,ab,".as_slice());
@@ -575,7 +584,7 @@ fn run(alloc: Global, disk: &mut MemDisk) -> Result<usize, Fail> {
         }
         acknowledged += 1;
     }
-    let _ = Journal::reopen(alloc, disk, FILE, 0);
+    let _ = Journal::reopen(alloc, disk, FILE, HEADING);
     Ok(acknowledged)
 }
 
@@ -588,7 +597,7 @@ fn check_opened(
 ) -> Result<(), Fail> {
     if acknowledged == 0 {
         // Any answer may come.
-        let _ = Journal::reopen(alloc, disk, FILE, 0);
+        let _ = Journal::reopen(alloc, disk, FILE, HEADING);
         return Ok(());
     }
     let bodies = reopened(alloc, disk)?;
@@ -743,7 +752,7 @@ fn what_is_read_short_is_damaged(rt: HostRuntime) -> Result<(), Fail> {
 }
 
 fn damaged_at(alloc: Global, disk: &mut UntoldDisk) -> Option<u64> {
-    match Journal::reopen(alloc, disk, FILE, 0) {
+    match Journal::reopen(alloc, disk, FILE, HEADING) {
         Err(JournalFault::Damaged { at }) => Some(at),
         _ => None,
     }
@@ -753,7 +762,7 @@ fn damaged_at(alloc: Global, disk: &mut UntoldDisk) -> Option<u64> {
 fn a_journal_opens_on_a_disk_that_tells_nothing(rt: HostRuntime) -> Result<(), Fail> {
     let alloc = rt.alloc();
     let mut disk = UntoldDisk::new(alloc, APPENDED);
-    let (mut journal, bodies) = Journal::reopen(alloc, &mut disk, FILE, 0)?;
+    let (mut journal, bodies) = Journal::reopen(alloc, &mut disk, FILE, HEADING)?;
     check_bodies(&rt, alloc, &bodies)?;
     same(&rt, journal.len(), APPENDED.len() as u64);
     same(&rt, disk.trace(), b"slrrrrrrcs".as_slice());
@@ -800,7 +809,7 @@ fn create_and_append_untold(
     alloc: Global,
     disk: &mut UntoldDisk,
 ) -> Result<(), Fail> {
-    let Ok(mut journal) = Journal::create(alloc, disk, FILE, 0, b"z") else {
+    let Ok(mut journal) = Journal::create(alloc, disk, FILE, HEADING, b"z") else {
         return Ok(());
     };
     journal.reserve(2)?;
@@ -827,7 +836,7 @@ fn a_failed_sync_ends_an_opening(rt: HostRuntime) {
     for (number, trace) in [(1, "s"), (2, "slrrrrrrcs")] {
         let mut disk = UntoldDisk::new(rt.alloc(), APPENDED);
         disk.fail_sync(number);
-        assert!(rt; is_disk(Journal::reopen(rt.alloc(), &mut disk, FILE, 0)));
+        assert!(rt; is_disk(Journal::reopen(rt.alloc(), &mut disk, FILE, HEADING)));
         same(&rt, disk.trace(), trace.as_bytes());
     }
 }

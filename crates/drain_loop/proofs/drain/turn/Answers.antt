@@ -4,6 +4,7 @@ use Rattle.ack_steps.specs.Core.{CoreView}
 use Rattle.store_image.proofs.Numbers.{number_small}
 use Rattle.journal_book.specs.Book.{BookView}
 use Rattle.journal_book.specs.Staged.{staged, stamp}
+use Rattle.book_runs.specs.Commit.{readied}
 use Rattle.book_runs.proofs.Going.{goes_nowhere}
 use Rattle.turn_order.specs.Turn.{is_idle}
 use Rattle.drain_turns.specs.Drained.{Ends}
@@ -56,7 +57,7 @@ commit-requires g c =
     let m = g.R.Rules.meaning in let s = c.args.book.now.state in let shelf = g.H.Shelf.shelf c.args.shelf.now in
     let same = ap (λ (v : CoreView _). v.state) c.state-core.ensures.core in
     let next = subst (λ (b : Base). IsNextMove (outside m shelf None 0) b c.in-Ok.what) same (c.in-Ok.ensures.next shelf None 0 refl) in
-    record { content = λ whole fits. next.2.carries (stamp s c.now.result).0 }
+    record { content = λ whole fits. next.2.carries (readied c.args.book.now).format (stamp s c.now.result).0 }
 
 pub end_of-requires : goal.end_of-requires
 end_of-requires g c =

@@ -17,6 +17,6 @@ returns g c =
       is = record {
         is = (c.in-Some.message, refl);
         fits = takes_fit g.R.Rules.meaning s c.args.bot c.args.instance c.in-Some.message c.requires.free;
-        carries = λ now. is_front (waiting (queue_name c.args.bot) s) c.in-Some.message (sym c.front_no.ensures ∙ c.in-Some.is);
+        carries = λ format now. is_front (waiting (queue_name c.args.bot) s) c.in-Some.message (sym c.front_no.ensures ∙ c.in-Some.is);
       };
     }

@@ -1,11 +1,11 @@
 use Rattle.std.proofs.Common.{◌≡◌, ◌≢◌, inl, inr, [], ◌∷◌, List, ℕ, ◌∙◌, ap, subst, arith}
 use Rattle.edge_traits.proofs.Moments.{run_on, widened}
-use Rattle.disk_journal.specs.GateFile.{heading_of}
 use Rattle.disk_journal.specs.Journal.{IsAtRest}
 use Rattle.journal_book.proofs.Alone.{alone_narrower, alone_on, one_alone}
 use Rattle.journal_book.proofs.Beginning.{left_at_rest}
 use Rattle.journal_book.proofs.Flushing.{rests_elsewhere}
 use Rattle.journal_book.proofs.create.make_files.Goals as goal
+use Rattle.store_image.specs.Files.{heading_of, written_format}
 
 pub returns-in-Ok-create_journal-clause-root : goal.returns-in-Ok-create_journal-clause-root
 returns-in-Ok-create_journal-clause-root g c = λ files after told now.
@@ -45,7 +45,7 @@ returns-in-Ok-create_journal-clause-generation_first g c = λ files told.
     run_on (widened (λ image left. inl (left 0 (root_apart _ c.generation_file.ensures))) c.create_journal.ensures.others_any_moment)
     (widened
     (λ image left.
-    inr (left_at_rest c.in-Ok.journal (g.D.Disk.disk c.create_journal.new.disk).may_leave (c.args.code.now ∷ []) mid.0 17 (heading_of 0) (ap (λ j. j.file) journal ∙ c.generation_file.ensures) (ap (λ j. j.heading) journal) (c.in-Ok.ensures.at_rest files mid.0 told mid.1) (image 17) (left 17 (λ same. omega (arith, same)))))
+    inr (left_at_rest c.in-Ok.journal (g.D.Disk.disk c.create_journal.new.disk).may_leave (c.args.code.now ∷ []) mid.0 17 (heading_of written_format 0) (ap (λ j. j.file) journal ∙ c.generation_file.ensures) (ap (λ j. j.heading) journal ∙ c.heading_of-heading.ensures) (c.in-Ok.ensures.at_rest files mid.0 told mid.1) (image 17) (left 17 (λ same. omega (arith, same)))))
     c.create_journal-2.ensures.others_any_moment)
 
 pub returns-in-Err-create_journal-clause-others : goal.returns-in-Err-create_journal-clause-others
@@ -61,5 +61,5 @@ returns-in-Err-create_journal-clause-generation_first g c = λ files told.
     run_on (widened (λ image left. inl (left 0 (root_apart _ c.generation_file.ensures))) c.create_journal.ensures.others_any_moment)
     (widened
     (λ image left.
-    inr (left_at_rest c.in-Ok.journal (g.D.Disk.disk c.create_journal.new.disk).may_leave (c.args.code.now ∷ []) mid.0 17 (heading_of 0) (ap (λ j. j.file) journal ∙ c.generation_file.ensures) (ap (λ j. j.heading) journal) (c.in-Ok.ensures.at_rest files mid.0 told mid.1) (image 17) (left 17 (λ same. omega (arith, same)))))
+    inr (left_at_rest c.in-Ok.journal (g.D.Disk.disk c.create_journal.new.disk).may_leave (c.args.code.now ∷ []) mid.0 17 (heading_of written_format 0) (ap (λ j. j.file) journal ∙ c.generation_file.ensures) (ap (λ j. j.heading) journal ∙ c.heading_of-heading.ensures) (c.in-Ok.ensures.at_rest files mid.0 told mid.1) (image 17) (left 17 (λ same. omega (arith, same)))))
     c.create_journal-2.ensures.others_any_moment)

@@ -1,9 +1,8 @@
 use Rattle.std.proofs.Common.{◌∙◌, List, ℕ, sym, ap, subst}
-use Rattle.disk_journal.specs.GateFile.{heading_of}
 use Rattle.step_code.specs.declared.output.Output.{Output}
 use Rattle.step_code.specs.History.{replay}
 use Rattle.store_image.specs.Damage.{AreNoHistory, IsDamagedFile}
-use Rattle.store_image.specs.Files.{generation_file}
+use Rattle.store_image.specs.Files.{generation_file, heading_of}
 use Rattle.store_image.specs.Opens.{AreLong}
 use Rattle.journal_book.specs.declared.book_fault.BookFault.{BookFault}
 use Rattle.journal_book.specs.Opening.{in_file, IsFileFault, IsReopenFault, IsShortFault}
@@ -12,6 +11,7 @@ use Rattle.journal_book.proofs.Alone.{alone_narrower, alone_on, reads_alone, rec
 use Rattle.journal_book.proofs.Opened.{generation_fault, journal_short, opens_with, outs_fault, root_apart, root_fault, short_with, some_bytes, store_rests}
 use Rattle.journal_book.proofs.Recovering.{call_reads, keeps_on, reads_keep}
 use Rattle.journal_book.proofs.opening.open_store.Goals as goal
+use Rattle.step_code.specs.Code.{first_format}
 
 pub returns-in-Err-clause-fault : goal.returns-in-Err-clause-fault
 returns-in-Err-clause-fault g c =
@@ -32,7 +32,7 @@ returns-in-Err-open_generation-clause-fault g c =
     (λ files told. c.in-Ok.ensures.named files (c.len.ensures.told ∙ told))
     (λ files told.
     let mid = c.open_root.ensures.recovers.elsewhere files (c.len.ensures.told ∙ told) in
-    subst (λ (content : List ℕ). IsFileFault (IsDamagedFile (heading_of gen) (AreNoHistory g.R.Rules.meaning) content) c.in-Err-open_generation.fault) (mid.2 (generation_file gen) (λ same. root_apart gen (sym same)))
+    subst (λ (content : List ℕ). IsFileFault (IsDamagedFile (heading_of first_format gen) (AreNoHistory g.R.Rules.meaning) content) c.in-Err-open_generation.fault) (mid.2 (generation_file gen) (λ same. root_apart gen (sym same)))
     (c.in-Err-open_generation.ensures.fault mid.0 mid.1)))
 
 pub returns-in-Err-open_generation-clause-histories : goal.returns-in-Err-open_generation-clause-histories

@@ -5,6 +5,7 @@ use Rattle.stored_types.specs.Code.{number}
 use Rattle.step_code.specs.declared.base.Base.{Base}
 use Rattle.step_code.specs.Code.{code_of_base, first_format, IsWritableBase}
 use Rattle.step_code.specs.Sound.{IsSound}
+use Rattle.store_image.specs.Files.{written_format}
 use Rattle.store_image.specs.Opens.{AreLong}
 use Rattle.store_image.specs.Stands.{StandsFor}
 use Rattle.journal_book.specs.Book.{BookView, IsKept}
@@ -54,7 +55,7 @@ invariant_of-self-in-Err-1 g c =
     let same = c.in-Err.ensures.same in
     let before : i.broken ≡ false = ap (λ b. b.broken) c.self.view_is ∙ c.requires.whole in
     let still : c.is_disk_fault-self-inside.result ≡ false → (c.begin_generation.new.disk ≡ i.disk) × (c.begin_generation.new.root.broken ≡ false) = λ no. c.in-Err.ensures.still (λ is. absurd (cc (c.is_disk_fault-self-inside.ensures.1 is, no))) in (
-      record { root_file_is = ap (λ j. j.file) same ∙ c.self.invariant.0.root_file_is; root_heading_is = ap (λ j. j.heading) same ∙ c.self.invariant.0.root_heading_is; file_is = c.self.invariant.0.file_is; heading_is = c.self.invariant.0.heading_is; given = c.self.invariant.0.given },
+      record { root_file_is = ap (λ j. j.file) same ∙ c.self.invariant.0.root_file_is; root_heading_is = ap (λ j. j.heading) same ∙ c.self.invariant.0.root_heading_is; file_is = c.self.invariant.0.file_is; heading_is = c.self.invariant.0.heading_is; known = c.self.invariant.0.known; given = c.self.invariant.0.given },
       c.self.invariant.1,
       c.self.invariant.2,
       c.self.invariant.3,
@@ -72,7 +73,7 @@ pub returns-in-Ok-clause-kept : goal.returns-in-Ok-clause-kept
 returns-in-Ok-clause-kept g c = λ origin past kept written.
     let m = g.R.Rules.meaning in
     let i = c.self.inside in
-    let inside : BookView g.row.D.Denot g.row.R.Denot = record { disk = i.disk; rules = i.core.rules; generation = i.generation; root = i.root.length; base = i.base.value; steps = i.steps; kept = i.durable; state = i.core.state; limit = i.limit; broken = i.broken } in
+    let inside : BookView g.row.D.Denot g.row.R.Denot = record { disk = i.disk; rules = i.core.rules; format = i.format; generation = i.generation; root = i.root.length; base = i.base.value; steps = i.steps; kept = i.durable; state = i.core.state; limit = i.limit; broken = i.broken } in
     let here = subst (λ (b : BookView g.row.D.Denot g.row.R.Denot). IsKept g.D.Disk.disk m origin past b) (sym c.self.view_is) kept in
     let lines = subst (λ (b : BookView g.row.D.Denot g.row.R.Denot). AreWritten m origin.first (past ++ b.steps) (g.D.Disk.disk b.disk)) (sym c.self.view_is) written in
     let may = subst (λ (b : BookView g.row.D.Denot g.row.R.Denot). MayBegin b c.args.number c.bytes.result.now) (sym c.self.view_is)
@@ -89,6 +90,7 @@ returns-in-Ok-clause-kept g c = λ origin past kept written.
     record {
       disk = c.begin_generation.new.disk;
       rules = c.seal.new.self.rules;
+      format = written_format;
       generation = c.args.number;
       root = c.begin_generation.new.root.length;
       base = c.args.base.value;
@@ -126,7 +128,7 @@ returns-in-Err-clause-kept_err g c = λ origin past kept written.
     let after = (c.begin_generation.ensures.alone here.files here.tells).told here.files here.tells in
     let behind = kept_unrenewed g.D.Disk.disk m _ i.root i.journal here.files (g.met.D.Disk.honest i.disk here.files here.tells) c.self.invariant.0 c.self.invariant.1.writable rest c.self.invariant.1.behind c.args.number c.bytes.result.now may origin past here here.tells lines
     c.begin_generation.new.disk c.is_disk_fault-self-inside.result after.0 after.1 (λ image le left. g.met.D.Disk.counts_now c.begin_generation.new.disk _ image le left) run in
-    subst (λ (n : ℕ). IsKept g.D.Disk.disk m origin past (record { disk = c.begin_generation.new.disk; rules = i.core.rules; generation = i.generation; root = n; base = i.base.value; steps = i.steps; kept = i.durable; state = i.core.state; limit = i.limit; broken = c.is_disk_fault-self-inside.result }))
+    subst (λ (n : ℕ). IsKept g.D.Disk.disk m origin past (record { disk = c.begin_generation.new.disk; rules = i.core.rules; format = i.format; generation = i.generation; root = n; base = i.base.value; steps = i.steps; kept = i.durable; state = i.core.state; limit = i.limit; broken = c.is_disk_fault-self-inside.result }))
     (sym (ap (λ j. j.length) c.in-Err.ensures.same)) behind
 
 pub returns-in-Err-clause-any_moment : goal.returns-in-Err-clause-any_moment

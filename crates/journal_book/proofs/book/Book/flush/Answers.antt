@@ -69,7 +69,7 @@ returns-in-Ok-clause-kept g c = λ origin past kept.
     _ is origin past c.append.new.disk changes.0 c.append.new.self here changes.1 c.in-Ok.ensures.crash_elsewhere (ap (λ j. j.file) grown) (ap (λ j. j.heading) grown)
     (c.in-Ok.ensures.at_rest here.files changes.0 _ here.tells changes.1 rest.journal_rests) in
     subst (λ (n : ℕ). IsKept g.D.Disk.disk g.R.Rules.meaning origin past
-    (record { disk = c.append.new.disk; rules = i.core.rules; generation = i.generation; root = i.root.length; base = i.base.value; steps = i.steps; kept = n; state = i.core.state; limit = i.limit; broken = i.broken }))
+    (record { disk = c.append.new.disk; rules = i.core.rules; format = i.format; generation = i.generation; root = i.root.length; base = i.base.value; steps = i.steps; kept = n; state = i.core.state; limit = i.limit; broken = i.broken }))
     (sym c.len-self-inside.ensures) flushed
 
 pub returns-in-Ok-clause-any_moment : goal.returns-in-Ok-clause-any_moment

@@ -1,4 +1,4 @@
-use Rattle.std.proofs.Common.{refl, sym, ap, subst}
+use Rattle.std.proofs.Common.{refl, sym, ◌∙◌, ap, subst}
 use Rattle.step_code.specs.declared.base.Base.{Base}
 use Rattle.journal_book.specs.Book.{BookView}
 use Rattle.journal_book.specs.Keeping.{AreShort}
@@ -31,12 +31,15 @@ pub returns-in-Ok-clause-kept : goal.returns-in-Ok-clause-kept
 returns-in-Ok-clause-kept g c = λ origin steps more was.
     let m = g.R.Rules.meaning in
     let now = c.open_store.ensures.histories.now m origin steps more was in
-    let kept = kept_reopened g.D.Disk.disk m origin steps more c.args.rules c.args.limit c.open_store.new.disk _ _ _ _ _ now
+    let kept = kept_reopened g.D.Disk.disk m origin steps more c.args.rules c.args.limit c.open_store.new.disk _ _ _ _ _ _ now
     (g.met.D.Disk.honest c.open_store.new.disk now.files now.tells) c.in-Ok.ensures.files c.in-Ok.ensures.history.writable (c.in-Ok.ensures.at_rest was.files now.files was.tells now.tells) in
     subst (λ (b : BookView g.row.D.Denot g.row.R.Denot). IsReopened g.D.Disk.disk m origin steps more b)
-    (sym (view_reopened m c.args.rules _ _ _ _ _ _ c.len-durable.result c.args.limit c.open_store.new.disk (ap (λ core. core.rules) c.in-Ok.ensures.core)
+    (sym (view_reopened m c.args.rules _ _ _ _ _ _ _ c.len-durable.result c.args.limit c.open_store.new.disk (ap (λ core. core.rules) c.in-Ok.ensures.core)
     (ap (λ core. core.state) c.in-Ok.ensures.core) c.len-durable.ensures))
     kept
+
+pub returns-in-Ok-clause-format : goal.returns-in-Ok-clause-format
+returns-in-Ok-clause-format g c = λ files told opens. opens.stored.holds.known ∙ sym c.in-Ok.ensures.files.known
 
 pub returns-in-Ok-clause-any_moment : goal.returns-in-Ok-clause-any_moment
 returns-in-Ok-clause-any_moment g c = λ origin steps more was. c.open_store.ensures.histories.run g.R.Rules.meaning origin steps more was

@@ -25,13 +25,13 @@ on_any (Ok number) p = p
 on_any (Err refusal) p = tt
 
 -- what the rules gave of a move shows that its step may be taken, as nothing refuses it
-allowed : (m : Meaning) (s now : Base) (steps : List Step) (limit moment : ℕ) (what : StepKind) (step : Step) (whole : Bool) → s ≡ now → s.latest.0 ≤ last_moment → whole ≡ false
+allowed : (m : Meaning) (format : ℕ) (s now : Base) (steps : List Step) (limit moment : ℕ) (what : StepKind) (step : Step) (whole : Bool) → s ≡ now → s.latest.0 ≤ last_moment → whole ≡ false
     → step_cause m now steps limit (staged m now moment what) ≡ None → step ≡ staged m now moment what
-    → (whole ≡ false → Fits m now (staged m now moment what) → IsMove m now (stamp now moment).0 what) → May m now step
-allowed m s now steps limit moment what step whole same latest sound causes is content =
+    → (whole ≡ false → Fits m now (staged m now moment what) → IsMove m format now (stamp now moment).0 what) → May m now step
+allowed m format s now steps limit moment what step whole same latest sound causes is content =
     let fits = (nothing_refuses m now steps limit (staged m now moment what) causes).0 in
     let early : now.latest.0 ≤ last_moment = subst (λ (b : Base). b.latest.0 ≤ last_moment) same latest in
-    subst (λ (it : Step). May m now it) (sym is) (may_stage m now moment what early fits (content sound fits))
+    subst (λ (it : Step). May m now it) (sym is) (may_stage m format now moment what early fits (content sound fits))
 
 none_stops : (broken : Bool) (step : Option StageRefusal) → broken ≡ false → step ≡ None → cause_of broken step ≡ None
 none_stops broken step whole none = subst (λ b. cause_of b step ≡ None) (sym whole) none
@@ -49,7 +49,7 @@ returns-in-Ok-clause-causes g c =
 pub commit-requires-clause-may : goal.commit-requires-clause-may
 commit-requires-clause-may g c =
     let i = c.self.inside in
-    allowed g.R.Rules.meaning i.core.state c.args.self.now.state i.steps i.limit c.args.now c.args.what c.in-Ok.step c.args.self.now.broken (ap (λ b. b.state) c.self.view_is) c.self.invariant.1.latest
+    allowed g.R.Rules.meaning c.args.self.now.format i.core.state c.args.self.now.state i.steps i.limit c.args.now c.args.what c.in-Ok.step c.args.self.now.broken (ap (λ b. b.state) c.self.view_is) c.self.invariant.1.latest
     (sym (ap (λ b. b.broken) c.self.view_is) ∙ c.if-self.false)
     (subst (λ (s : Base). step_cause g.R.Rules.meaning s i.steps i.limit (staged g.R.Rules.meaning s c.args.now c.args.what) ≡ None) (ap (λ b. b.state) c.self.view_is) (c.in-Ok.ensures.ok i.steps c.code_len.ensures))
     (c.in-Ok.ensures.step ∙ ap (λ (s : Base). staged g.R.Rules.meaning s c.args.now c.args.what) (ap (λ b. b.state) c.self.view_is)) c.requires.content
@@ -58,7 +58,7 @@ pub returns-in-Ok-clause-may : goal.returns-in-Ok-clause-may
 returns-in-Ok-clause-may g c =
     let i = c.self.inside in
     on_any c.commit.result
-    (allowed g.R.Rules.meaning i.core.state c.args.self.now.state i.steps i.limit c.args.now c.args.what _ c.args.self.now.broken (ap (λ b. b.state) c.self.view_is) c.self.invariant.1.latest
+    (allowed g.R.Rules.meaning c.args.self.now.format i.core.state c.args.self.now.state i.steps i.limit c.args.now c.args.what _ c.args.self.now.broken (ap (λ b. b.state) c.self.view_is) c.self.invariant.1.latest
     (sym (ap (λ b. b.broken) c.self.view_is) ∙ c.if-self.false)
     (subst (λ (s : Base). step_cause g.R.Rules.meaning s i.steps i.limit (staged g.R.Rules.meaning s c.args.now c.args.what) ≡ None) (ap (λ b. b.state) c.self.view_is) (c.in-Ok.ensures.ok i.steps c.code_len.ensures))
     refl c.requires.content)
