@@ -2,6 +2,7 @@
 #![tactic(auto)]
 
 use std::fs;
+use std::io::IsTerminal;
 use std::process::ExitCode;
 use system_run::run;
 
@@ -14,5 +15,6 @@ fn main(rt: HostRuntime) -> ExitCode {
     let _first = fs::open(&rt, NO_FILE);
     let _second = fs::open(&rt, NO_FILE);
     let _third = fs::open(&rt, NO_FILE);
-    ExitCode::from(run(&rt))
+    let is_terminal = rt.stderr().is_terminal();
+    ExitCode::from(run(&rt, is_terminal))
 }

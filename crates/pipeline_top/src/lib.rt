@@ -1,17 +1,17 @@
 //! The top calls: what the program does for each command.
 #![tactic(auto)]
 
-mod auditing;
-mod beginning;
+mod audit;
 mod buffer;
-mod checking;
+mod check;
 mod convert;
-mod converting;
-mod draining;
-mod drilling;
+mod drain;
+mod drill;
 mod halt;
+mod init;
 mod line;
-mod showing;
+mod pieces;
+mod show;
 mod statuses;
 mod tool;
 

@@ -4,10 +4,14 @@
 mod clock;
 mod command_line;
 mod counts;
+mod progress;
 mod shelf;
 mod sink;
+mod watched;
 
 pub use clock::SystemClock;
 pub use command_line::run;
+pub use progress::Progress;
 pub use shelf::FileShelf;
 pub use sink::WriterSink;
+pub use watched::Watched;

@@ -107,7 +107,7 @@ const ROWS: [Row; 4] = [
 
 // Converts the feed, and looks at what is printed.
 fn check_printed(rt: &impl Abort, machine: &Machine, row: &Row) -> Result<(), Fail> {
-    assert_eq!(rt; run(machine), row.status, "{}", row.told);
+    assert_eq!(rt; run(machine, false), row.status, "{}", row.told);
     let told = machine.told.try_borrow()?;
     assert_eq!(rt; told.as_slice(), row.told.as_bytes());
     let output = machine.output.try_borrow()?;

@@ -4,7 +4,7 @@ ghost use Rattle.std.specs.Prelude.{◌≤◌, length};
 use crate::world::{Place, World, unsupported};
 use file_disk::TryLock;
 use std::alloc::{Allocator, Global};
-use std::cell::{RefCell, RefMut};
+use std::cell::{Cell, RefCell, RefMut};
 use std::env::FillError;
 use std::fmt::Display;
 use std::fs::{Metadata, OpenFile, OpenOptions};
@@ -118,6 +118,9 @@ pub struct Machine<'w> {
     world: &'w RefCell<World>,
     // How many bytes a read in order gives.
     most: usize,
+    // How many seconds each look at the clock takes, and how many passed.
+    pace: u64,
+    passed: Cell<u64>,
     pub output: RefCell<Vec<u8>>,
     pub told: RefCell<Vec<u8>>,
 }
@@ -134,9 +137,16 @@ impl<'w> Machine<'w> {
             words,
             world,
             most,
+            pace: 0,
+            passed: Cell::new(0),
             output: RefCell::new(Vec::new(alloc)),
             told: RefCell::new(Vec::new(alloc)),
         }
+    }
+
+    /// The same, and each look at its clock takes so many seconds.
+    pub fn with_pace(self, pace: u64) -> Machine<'w> {
+        Machine { pace, ..self }
     }
 }
 
@@ -210,7 +220,9 @@ impl rt::Clock for Machine<'_> {
     }
 
     fn since_1970(&self) -> io::Result<Duration> {
-        Ok(Duration::from_millis(1_700_000_000_900))
+        let passed = self.passed.get();
+        self.passed.set(passed.saturating_add(self.pace));
+        Ok(Duration::from_millis(1_700_000_000_900).saturating_add(Duration::from_secs(passed)))
     }
 }
 

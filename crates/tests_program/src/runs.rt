@@ -37,7 +37,7 @@ fn printed(all: &RefCell<Vec<u8>>, alloc: Global) -> Result<String, Fail> {
 // The status and what is printed, where the files are read three bytes at a time.
 fn outcome<'w>(alloc: Global, words: &'w str, world: &'w RefCell<World>) -> Result<String, Fail> {
     let machine = Machine::new(alloc, words, world, 3);
-    let status = run(&machine);
+    let status = run(&machine, false);
     let output = printed(&machine.output, alloc)?;
     let told = printed(&machine.told, alloc)?;
     Ok(format!(in alloc; "{status} [{output}] [{told}]")?)
@@ -67,7 +67,7 @@ fn runs_of_the_program(rt: HostRuntime) -> Result<(), Fail> {
 }
 
 // The numbers of the statuses, each as the help has it.
-const STATUSES: &str = "0 1 2 3 4 5 6 7 8 9 10 11 12 13 14 15 17 18";
+const STATUSES: &str = "0 1 2 3 4 5 6 7 8 9 10 11 12 13 14 15 16 17 18";
 
 #[test]
 fn help_names_each_status(rt: HostRuntime) -> Result<(), Fail> {
@@ -154,5 +154,30 @@ fn a_clock_counts_whole_seconds(rt: HostRuntime) -> Result<(), Fail> {
     let world = RefCell::new(World::new(rt.alloc(), &[])?);
     let machine = Machine::new(rt.alloc(), "", &world, 3);
     assert_eq!(rt; SystemClock::new(&machine).now(), 1_700_000_000);
+    Ok(())
+}
+
+// Whether standard error is a terminal, and what is told there where a bad line of two bytes is converted and each look at the clock takes a
+// second.
+const TOLD: [(bool, &str); 2] = [
+    (false, "intelpipe: bad line 1\n"),
+    (
+        true,
+        "\r\x1b[Kfeed.json 0 bytes, 1 s\r\x1b[Kfeed.json 2 bytes, 2 s\r\x1b[Kintelpipe: bad line 1\n",
+    ),
+];
+
+#[test]
+fn a_long_command_says_on_a_terminal_how_far_it_is(rt: HostRuntime) -> Result<(), Fail> {
+    let mut world = World::new(rt.alloc(), &[])?;
+    world.put(rt.alloc(), "feed.json", b"[\n")?;
+    let world = RefCell::new(world);
+    'rows: for (is_terminal, wanted) in TOLD {
+        let words = "intelpipe any convert --feed feed.json";
+        let machine = Machine::new(rt.alloc(), words, &world, 3).with_pace(1);
+        assert_eq!(rt; run(&machine, is_terminal), 17);
+        let told = machine.told.try_borrow()?;
+        assert_eq!(rt; told.as_slice(), wanted.as_bytes(), "{is_terminal}");
+    }
     Ok(())
 }

@@ -32,7 +32,7 @@ fn run_failing<'w>(
     call: u64,
 ) -> Result<u8, Fail> {
     world.try_borrow_mut()?.fail(call);
-    Ok(run(&Machine::new(alloc, words, world, usize::MAX)))
+    Ok(run(&Machine::new(alloc, words, world, usize::MAX), false))
 }
 
 // Nothing was changed ahead of what it rests on.

@@ -6,7 +6,7 @@ use Rattle.pipeline_top.specs.Convert.{line_of, converted, behind_line}
 use Rattle.pipeline_top.specs.Line.{PutLine}
 use Rattle.pipeline_top.proofs.LineEnds.{Moved-line, end_line}
 use Rattle.pipeline_top.proofs.Writing.{ConvertsPiece}
-use Rattle.pipeline_top.proofs.convert.convert_piece.Goals as goal
+use Rattle.pipeline_top.proofs.pieces.convert_piece.Goals as goal
 
 pub put_converted-requires-clause-short : goal.put_converted-requires-clause-short
 put_converted-requires-clause-short g c =

@@ -4,7 +4,7 @@ use Rattle.journal_book.specs.Alone.{IsBesideNew}
 use Rattle.journal_book.proofs.Alone.{alone_still}
 use Rattle.store_commands.specs.declared.end.StoreEnd.TheVariants as end
 use Rattle.pipeline_top.proofs.Still.{still_here}
-use Rattle.pipeline_top.proofs.drilling.drill.Goals as goal
+use Rattle.pipeline_top.proofs.drill.drill.Goals as goal
 
 pub returns-in-Err-clause-drilled : goal.returns-in-Err-clause-drilled
 returns-in-Err-clause-drilled g c = λ shelf shelf_now. record {

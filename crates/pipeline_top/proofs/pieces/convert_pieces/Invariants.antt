@@ -1,7 +1,7 @@
 use Rattle.std.proofs.Common.{◌-◌}
 use Rattle.pipeline_top.specs.Convert.{longest_feed}
 use Rattle.pipeline_top.proofs.Writing.{ConvertsFeed}
-use Rattle.pipeline_top.proofs.convert.convert_pieces.Given as goal
+use Rattle.pipeline_top.proofs.pieces.convert_pieces.Given as goal
 
 abbrev pub invariant-pieces : goal.invariant-pieces
 invariant-pieces g l = ConvertsFeed (g.S.Sink.sink l.initial.out) (g.S.Sink.sink l.out) l.initial.buffer l.initial.reader l.reader l.buffer l.place

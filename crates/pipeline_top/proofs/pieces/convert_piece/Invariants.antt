@@ -1,6 +1,6 @@
 use Rattle.std.proofs.Common.{length}
 use Rattle.pipeline_top.proofs.Writing.{ConvertsPiece}
-use Rattle.pipeline_top.proofs.convert.convert_piece.Given as goal
+use Rattle.pipeline_top.proofs.pieces.convert_piece.Given as goal
 
 abbrev pub invariant-lines : goal.invariant-lines
 invariant-lines g l = ConvertsPiece (g.S.Sink.sink l.initial.out) (g.S.Sink.sink l.out) l.initial.buffer l.piece l.fn.first l.buffer l.rest l.place

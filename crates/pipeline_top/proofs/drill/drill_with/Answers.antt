@@ -8,7 +8,7 @@ use Rattle.store_commands.specs.declared.end.StoreEnd.{StoreEnd}
 use Rattle.store_commands.specs.declared.end.StoreEnd.TheVariants as end
 use Rattle.pipeline_top.specs.Commands.{no_ask, IsDrainedBy, IsDrillEnd}
 use Rattle.pipeline_top.proofs.Still.{ends_sink, no_rise, not_drilled}
-use Rattle.pipeline_top.proofs.drilling.drill_with.Goals as goal
+use Rattle.pipeline_top.proofs.drill.drill_with.Goals as goal
 
 pub returns-then-lacks_store-clause-drilled : goal.returns-then-lacks_store-clause-drilled
 returns-then-lacks_store-clause-drilled g c = λ other other_now lines number is.

@@ -5,7 +5,7 @@ use Rattle.journal_book.specs.Alone.{IsBesideNew}
 use Rattle.journal_book.proofs.Alone.{alone_still}
 use Rattle.store_commands.specs.declared.end.StoreEnd.TheVariants as end
 use Rattle.pipeline_top.proofs.Still.{still_here}
-use Rattle.pipeline_top.proofs.beginning.make.Goals as goal
+use Rattle.pipeline_top.proofs.init.make.Goals as goal
 
 pub returns-in-Err-clause-made : goal.returns-in-Err-clause-made
 returns-in-Err-clause-made g c = λ seen before after. record {

@@ -8,7 +8,7 @@ ghost use Rattle.status_texts.specs.declared.status.FeedWhy.TheVariants.{Failed 
 ghost use Rattle.pipeline_top.specs.Commands.{IsDrilled};
 
 use crate::Status;
-use crate::draining::drain_with;
+use crate::drain::drain_with;
 use crate::statuses::store_status;
 use base_types::{Blob, OutOfMemory};
 use bot_rules::IntelRules;

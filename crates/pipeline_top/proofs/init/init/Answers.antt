@@ -1,5 +1,5 @@
 use Rattle.std.proofs.Common.{Err, refl}
-use Rattle.pipeline_top.proofs.beginning.init.Goals as goal
+use Rattle.pipeline_top.proofs.init.init.Goals as goal
 
 pub returns-in-Err-clause-begun : goal.returns-in-Err-clause-begun
 returns-in-Err-clause-begun g c = λ clock. record {

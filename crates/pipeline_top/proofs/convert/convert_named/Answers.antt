@@ -1,6 +1,6 @@
 use Rattle.pipeline_top.specs.Convert.{conversion}
 use Rattle.pipeline_top.proofs.Halting.{wrote_front}
-use Rattle.pipeline_top.proofs.converting.convert_named.Goals as goal
+use Rattle.pipeline_top.proofs.convert.convert_named.Goals as goal
 
 pub returns-in-Err-clause-written : goal.returns-in-Err-clause-written
 returns-in-Err-clause-written g c = λ content told.

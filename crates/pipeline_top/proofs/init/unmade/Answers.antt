@@ -4,7 +4,7 @@ use Rattle.edge_traits.proofs.Outputs.{Took-nothing}
 use Rattle.bot_rules.specs.Intel.{intel}
 use Rattle.store_image.specs.Files.{root_file}
 use Rattle.journal_book.proofs.Beginning.{is_nothing}
-use Rattle.pipeline_top.proofs.beginning.unmade.Goals as goal
+use Rattle.pipeline_top.proofs.init.unmade.Goals as goal
 
 nothing : (before after : SinkView) → after ≡ before → Took before after []
 nothing before after same = subst (λ (s : SinkView). Took before s []) (sym same) (Took-nothing before)

@@ -11,7 +11,7 @@ use Rattle.pipeline_top.specs.Line.{converted_unless, end_unless}
 use Rattle.status_texts.specs.declared.status.Status.TheVariants as status
 use Rattle.pipeline_top.proofs.Ahead.{ahead_here, piece_comes, long_comes}
 use Rattle.pipeline_top.proofs.LineEnds.{Moved-then, line_of-long}
-use Rattle.pipeline_top.proofs.convert.convert_pieces.Goals as goal
+use Rattle.pipeline_top.proofs.pieces.convert_pieces.Goals as goal
 
 pub returns-in_err-end-in-Piece-clause-front : goal.returns-in_err-end-in-Piece-clause-front
 returns-in_err-end-in-Piece-clause-front g c = λ content told.
