@@ -1,3 +1,3 @@
 mod Keeps
 mod Positions
-mod Prefixes
+pub mod Prefixes

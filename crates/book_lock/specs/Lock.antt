@@ -12,7 +12,7 @@ below k n = if nat_lt k n then 1 else 0
 
 module _ {E : Type 0} where
   abbrev pub view : ℕ → Bool → List E → List (ℕ × E) → List E → View E
-  view parts turn seen mine list = record { parts = parts; has_turn = turn; seen = seen; mine = mine; list = list }
+  view parts turn seen mine list = record { parts = parts; has_turn = turn; seen = seen; front = []; mine = mine; list = list }
 
   -- the first seat has every part, and has seen the opening list
   abbrev pub opening_view : List E → View E
@@ -46,9 +46,13 @@ module _ {E : Type 0} where
   abbrev pub longer : List E → List E → List E
   longer xs ys = if nat_lt (length xs) (length ys) then ys else xs
 
+  -- the shorter of two lists
+  abbrev pub shorter : List E → List E → List E
+  shorter xs ys = if nat_lt (length xs) (length ys) then xs else ys
+
   -- a seat that took another in, and what is left of that
   abbrev pub merged : View E → View E → View E
-  merged v w = view (v.parts + w.parts) false (longer v.seen w.seen) (v.mine ++ w.mine) []
+  merged v w = record { parts = v.parts + w.parts; has_turn = false; seen = longer v.seen w.seen; front = shorter v.seen w.seen; mine = v.mine ++ w.mine; list = [] }
 
   abbrev pub spent : View E
   spent = view 0 false [] [] []
@@ -80,9 +84,10 @@ module _ {E : Type 0} where
   AllAt list [] = Unit {0}
   AllAt list (p ∷ ps) = (slice_get list p.0 ≡ Some p.1) × AllAt list ps
 
-  -- the list begins with what the seat has seen, and has the seat's entries at their positions
+  -- the list begins with what the seat has seen, which has the front for a beginning, and has the seat's entries at their positions
   pub record Knows (list : List E) (v : View E) : Type 0 where
     pub seen : IsPrefix v.seen list
+    pub front : IsPrefix v.front v.seen
     pub mine : AllAt list v.mine
 
   abbrev pub AllKnow : List E → List (View E) → Type 0
@@ -128,6 +133,7 @@ module _ {V E : Type 0} (entries : V → List E) where
   abbrev pub Released : Step (Option V) → Me (Option V) (View E) → ℕ → Me (Option V) (View E) → Type 0
   Released st m r n = n ≡ (resting m.0, [])
 
-  -- nothing changed; the seat has no more parts than there are, and none of its positions stands twice
+  -- nothing changed; the seat has no more parts than there are, none of its positions stands twice, and what it has seen has the front
+  -- for a beginning
   abbrev pub Looked : Step (Option V) → Me (Option V) (View E) → ℕ → Me (Option V) (View E) → Type 0
-  Looked st m r n = (n ≡ m) × (m.0.parts ≤ 4294967296) × AreApart m.0.mine
+  Looked st m r n = (n ≡ m) × (m.0.parts ≤ 4294967296) × AreApart m.0.mine × IsPrefix m.0.front m.0.seen

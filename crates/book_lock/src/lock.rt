@@ -194,13 +194,15 @@ impl<V: Grows> BookLock<V> {
         )
     }
 
-    /// Puts two seats together: their parts, and the entries that they added. It takes no memory.
+    /// Puts two seats together: their parts, and the entries that they added. Each of the two has seen a beginning of what the one has
+    /// seen that is left. It takes no memory.
     pub fn join(&self, a: Seat<V>, b: Seat<V>) -> Seat<V>
         requires first { IsSeatOf self.now a }
         requires second { IsSeatOf self.now b }
         ensures lock { IsSeatOf self.now result }
         ensures both { knows result ≡ together (knows a) (knows b) }
         ensures apart { AreApart (knows result).mine }
+        ensures seen { IsPrefix (knows a).seen (knows result).seen × IsPrefix (knows b).seen (knows result).seen }
     {
         let Seat { mut pass, parts } = a;
         let Seat {

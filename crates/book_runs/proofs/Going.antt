@@ -11,8 +11,8 @@ use Rattle.step_code.specs.Content.{May}
 use Rattle.step_code.specs.History.{replay, Legal}
 use Rattle.step_code.specs.Rules.{Meaning}
 use Rattle.step_code.specs.Spent.{NothingIsSpent, StaysSmall}
-use Rattle.seal_laws.proofs.Histories.{legal_whole, seals, seals_on, seals_self, small_whole}
-use Rattle.seal_laws.proofs.Renewed.{seals_whole}
+use Rattle.store_image.proofs.Histories.{legal_whole, seals, seals_on, seals_self, small_whole}
+use Rattle.store_image.proofs.Renewed.{seals_whole}
 use Rattle.store_image.specs.Files.{generation_file}
 use Rattle.store_image.specs.Stands.{IsSealOf, Origin, Stands, StandsFor}
 use Rattle.store_image.proofs.Standing.{replay-append}

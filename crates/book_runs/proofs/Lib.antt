@@ -1,2 +1,5 @@
+pub mod Called
 pub mod Going
+pub mod Replayed
 pub mod Ways
+mod BroughtUp

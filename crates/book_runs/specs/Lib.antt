@@ -1,2 +1,3 @@
+pub mod Calls
 pub mod Commit
 pub mod GoesOn

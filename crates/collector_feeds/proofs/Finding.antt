@@ -13,7 +13,7 @@ use Rattle.feed_reader.specs.Ahead.{ahead_of}
 use Rattle.feed_reader.specs.declared.ahead.Ahead.TheVariants as ahead
 use Rattle.feed_reader.specs.declared.ahead.ReaderFault.{ReaderFault}
 use Rattle.collector_feeds.specs.Found.{IsAhead, MayFind, found_at, rule_of, within_limit}
-use Rattle.collector_feeds.specs.Tries.{IsThere}
+use Rattle.collector_feeds.specs.Open.{IsThere}
 use Rattle.collector_feeds.specs.declared.found.Found.{Found}
 use Rattle.collector_feeds.specs.declared.found.Found.TheVariants as found
 

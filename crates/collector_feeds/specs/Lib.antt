@@ -1,6 +1,6 @@
 -- what public contracts cite
 pub mod Found
+pub mod Open
 pub mod Standing
 -- what only private contracts cite
 pub mod Stage
-pub mod Tries

@@ -1,11 +1,12 @@
 -- A collector's feed during a call, as contracts see it.
-use Rattle.std.specs.Prelude.{◌≡◌, ◌⊎◌, ◌≤◌, ◌+◌, ℕ, false, List, length, Option, Some, None, IfSome}
+use Rattle.std.specs.Prelude.{◌≡◌, ◌⊎◌, ◌≤◌, ◌+◌, ℕ, false, List, Option, Some, None, IfSome}
 use Rattle.edge_traits.specs.Count.{last_count}
 use Rattle.edge_traits.specs.Shelf.{ShelfView, content_of, count_on, lacks, IsListed}
 use Rattle.edge_traits.specs.Source.{SourceView}
 use Rattle.report_cut.specs.declared.piece.Cut.{Cut}
 use Rattle.step_code.specs.declared.rules.FeedFacts.{FeedFacts}
 use Rattle.collector_feeds.specs.Found.{MayFind}
+use Rattle.collector_feeds.specs.Open.{IsReadWithin}
 use Rattle.collector_feeds.specs.declared.found.Found.TheVariants as found
 
 -- the collector; the file and how it is cut; how often a fetch or a read may be tried again, and how often one failed; the
@@ -47,10 +48,6 @@ pub record IsFetched (shelf : ShelfView) (file : List ℕ) (source : SourceView)
 -- what was fetched, if anything was, is of the shelf, and can be given back to it
 abbrev pub IsOf : ShelfView → FeedView → Type 0
 IsOf shelf feed = IfSome feed.source (IsFetched shelf feed.facts.file)
-
--- what was read isn't more than there is
-abbrev pub IsReadWithin : List ℕ → Option ℕ → Type 0
-IsReadWithin content read = IfSome read (λ upto. upto ≤ length content)
 
 -- the feed may be looked at: what was fetched is of the shelf, and no more of it was read than there is; and a piece that was
 -- put back is one that the collector may find there

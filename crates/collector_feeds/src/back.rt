@@ -27,8 +27,7 @@ pub fn give_back<H: Shelf>(feed: CollectorFeed<H::Src>, shelf: &mut H)
     } = feed;
     match stage {
         Stage::Closed => {}
-        Stage::Fetched { source } => shelf.take_back(&facts.file, source),
-        Stage::Reading { reader } => shelf.take_back(&facts.file, reader.into_source()),
+        Stage::Open { feed } => shelf.take_back(&facts.file, feed.into_source()),
     }
 }
 

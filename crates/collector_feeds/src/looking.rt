@@ -1,24 +1,20 @@
-ghost use Rattle.std.specs.Prelude.{◌≡◌, ◌≢◌, ◌≤◌, ◌<◌, ◌+◌, List, ℕ, length, Some, None, Err, IfOk, IfSome, IsErrOf, true, false};
-ghost use Rattle.base_types.specs.Lists.{AreBytes};
+ghost use Rattle.std.specs.Prelude.{◌≡◌, ◌≢◌, ◌≤◌, ◌<◌, ◌+◌, List, ℕ, Some, None, Err, IfOk, IfSome, IsErrOf, true, false};
 ghost use Rattle.edge_traits.specs.Count.{Rose};
 ghost use Rattle.edge_traits.specs.Shelf.{content_of, count_on, IsListed};
-ghost use Rattle.report_cut.specs.Pieces.{longest_line, next, Piece};
-ghost use Rattle.feed_reader.specs.Ahead.{IsOnwardPiece};
-ghost use Rattle.step_code.specs.declared.rules.FeedFacts.{FeedFacts};
+ghost use Rattle.report_cut.specs.Pieces.{longest_line};
 ghost use Rattle.step_code.specs.Sound.{last_number};
-ghost use Rattle.collector_feeds.specs.Found.{found_at, rule_of, within_limit, IsAhead, MayFind};
+ghost use Rattle.collector_feeds.specs.Found.{MayFind};
+ghost use Rattle.collector_feeds.specs.Open.{IsReadWithin};
 ghost use Rattle.collector_feeds.specs.Stage.{read_in, source_in, HasRule};
-ghost use Rattle.collector_feeds.specs.Standing.{all_faults, faults_in, IsFetched, IsReadWithin, IsReady, RoseBy};
-ghost use Rattle.collector_feeds.specs.Tries.{GoesOn, IsOpenOf, IsThere};
+ghost use Rattle.collector_feeds.specs.Standing.{all_faults, faults_in, IsFetched, IsReady, RoseBy};
 
 use crate::stage::Stage;
-use crate::{CollectorFeed, Found};
+use crate::{CollectorFeed, Found, OpenFeed, find_in};
 use edge_traits::{Shelf, ShelfFault, Source};
-use feed_reader::{Ahead, Beginning, FeedReader, ReaderFault, begin_at};
-use report_cut::{Cut, CutRule};
+use feed_reader::ReaderFault;
 use std::alloc::Global;
 use std::mem;
-use step_code::{FeedFacts, LONGEST_FEED};
+use step_code::FeedFacts;
 
 /// Why a feed wasn't looked at.
 #[derive(Clone, Copy, Debug, PartialEq, Eq)]
@@ -100,7 +96,6 @@ fn try_once<H: Shelf>(
     ensures stay_listed { (other : List ℕ) → IsListed (H.shelf shelf.old) other → IsListed (H.shelf shelf.new) other }
 {
     let stage = mem::replace(&mut feed.stage, Stage::Closed);
-    let stage = standing_at(stage, at);
     let (stage, found) = find_from(alloc, shelf, &feed.facts, stage, at);
     let before = mem::replace(&mut feed.stage, stage);
     end_closed(before);
@@ -110,35 +105,12 @@ fn try_once<H: Shelf>(
     found
 }
 
-// A feed that was read up to another offset is read anew.
-fn standing_at<S: Source>(stage: Stage<S>, at: u64) -> Stage<S>
-    ensures source { source_in S.source result ≡ source_in S.source stage }
-    ensures read { IfSome (read_in result) (λ read. read ≡ at) }
-    ensures within { (content : List ℕ) → IsReadWithin content (read_in stage) → IsReadWithin content (read_in result) }
-    ensures rule { (facts : FeedFacts) → HasRule facts stage → HasRule facts result }
-{
-    match stage {
-        Stage::Closed => Stage::Closed,
-        Stage::Fetched { source } => Stage::Fetched { source },
-        Stage::Reading { reader } => {
-            if reader.at() == at {
-                Stage::Reading { reader }
-            } else {
-                Stage::Fetched {
-                    source: reader.into_source(),
-                }
-            }
-        }
-    }
-}
-
 fn end_closed<S: Source>(stage: Stage<S>)
     requires { stage ≡ Stage.Closed }
 {
     match stage {
         Stage::Closed => {}
-        Stage::Fetched { source: _source } => unreachable!(),
-        Stage::Reading { reader: _reader } => unreachable!(),
+        Stage::Open { feed: _feed } => unreachable!(),
     }
 }
 
@@ -158,7 +130,6 @@ fn find_from<H: Shelf>(
     at: u64,
 ) -> (Stage<H::Src>, Result<Found, ReaderFault>)
     requires of { IfSome (source_in H.Src.source stage) (IsFetched (H.shelf shelf.old) facts.now.file) }
-    requires read { IfSome (read_in stage) (λ read. read ≡ at) }
     requires within { (content : List ℕ) → content_of (H.shelf shelf.old) facts.now.file ≡ Some content → IsReadWithin content (read_in stage) }
     requires rule { HasRule facts.now stage }
     requires near { at ≤ last_number }
@@ -178,90 +149,17 @@ fn find_from<H: Shelf>(
 {
     match stage {
         Stage::Closed => match shelf.fetch(alloc, &facts.file) {
-            Ok(source) => begin(alloc, source, facts, at),
+            Ok(source) => {
+                let (feed, found) = find_in(alloc, facts, OpenFeed::Fetched { source }, at);
+                (Stage::Open { feed }, found)
+            }
             Err(ShelfFault::Absent) => (Stage::Closed, Ok(Found::Absent)),
             Err(ShelfFault::Failed) => (Stage::Closed, Err(ReaderFault::Failed)),
             Err(ShelfFault::OutOfMemory) => (Stage::Closed, Err(ReaderFault::OutOfMemory)),
         },
-        Stage::Fetched { source } => begin(alloc, source, facts, at),
-        Stage::Reading { reader } => read_on(reader),
+        Stage::Open { feed } => {
+            let (feed, found) = find_in(alloc, facts, feed, at);
+            (Stage::Open { feed }, found)
+        }
     }
-}
-
-// Looks for the offset in a source that wasn't read.
-fn begin<S: Source>(
-    alloc: Global,
-    source: S,
-    facts: &FeedFacts,
-    at: u64,
-) -> (Stage<S>, Result<Found, ReaderFault>)
-    requires near { at ≤ last_number }
-    requires some { 1 ≤ facts.now.chunk_size }
-    requires chunk { facts.now.chunk_size ≤ longest_line }
-    ensures found { (feed : List ℕ) → (S.source source).told ≡ Some feed → IfOk result.1 (λ what. what ≡ found_at (rule_of facts.now) (Some feed) at) }
-    ensures ahead { IfOk result.1 (IsAhead at) }
-    ensures there { IfOk result.1 IsThere }
-    ensures open { IsOpenOf (S.source source) (source_in S.source result.0) }
-    ensures within { (feed : List ℕ) → (S.source source).told ≡ Some feed → IsReadWithin feed (read_in result.0) }
-    ensures rule { HasRule facts.now result.0 }
-    ensures failed { IsErrOf result.1 ReaderFault.Failed → Rose (S.source source).faults (faults_in (source_in S.source result.0)) }
-{
-    let mut source = source;
-    match begin_at(alloc, &mut source, rule_of(facts), at) {
-        Ok(Beginning::Cutter { cutter }) => read_on(FeedReader::new(alloc, source, cutter)),
-        Ok(Beginning::End) => (Stage::Fetched { source }, Ok(Found::End)),
-        Ok(Beginning::Short { have }) => (Stage::Fetched { source }, Ok(Found::Short { have })),
-        Ok(Beginning::LongHeader) => (Stage::Fetched { source }, Ok(Found::LongLine { at: 0 })),
-        Err(fault) => (Stage::Fetched { source }, Err(fault)),
-    }
-}
-
-fn rule_of(facts: &FeedFacts) -> CutRule
-    ensures { result ≡ rule_of facts.now }
-{
-    CutRule {
-        chunk_size: facts.chunk_size,
-        replicate: facts.replicate,
-    }
-}
-
-// What comes next in a feed.
-fn read_on<S: Source>(reader: FeedReader<S>) -> (Stage<S>, Result<Found, ReaderFault>)
-    requires near { reader.at ≤ last_number }
-    ensures found { (feed : List ℕ) → reader.source.told ≡ Some feed → IfOk result.1 (λ what. what ≡ within_limit (next reader.rule feed reader.at)) }
-    ensures ahead { IfOk result.1 (IsAhead reader.at) }
-    ensures there { IfOk result.1 IsThere }
-    ensures open { IsOpenOf reader.source (source_in S.source result.0) }
-    ensures within { (feed : List ℕ) → reader.source.told ≡ Some feed → reader.at ≤ length feed → IsReadWithin feed (read_in result.0) }
-    ensures rule { (facts : FeedFacts) → reader.rule ≡ rule_of facts → HasRule facts result.0 }
-    ensures failed { IsErrOf result.1 ReaderFault.Failed → Rose reader.source.faults (faults_in (source_in S.source result.0)) }
-{
-    let mut reader = reader;
-    let found = match reader.next_piece() {
-        Ok(Ahead::Piece { cut }) => Ok(within_limit(cut)),
-        Ok(Ahead::End) => Ok(Found::End),
-        Ok(Ahead::LongLine { at }) => Ok(Found::LongLine { at }),
-        Err(fault) => Err(fault),
-    };
-    (Stage::Reading { reader }, found)
-}
-
-// A piece, where it ends within the longest feed.
-fn within_limit(cut: Cut) -> Found
-    ensures found { result ≡ within_limit (Piece cut) }
-    ensures ahead { (at : ℕ) → IsOnwardPiece at cut → IsAhead at result }
-{
-    are_bytes(cut.piece.bytes());
-    if cut.upto > LONGEST_FEED {
-        Found::LongFeed
-    } else {
-        Found::Piece { cut }
-    }
-}
-
-// What is read is bytes, which the prover knows of a slice alone.
-fn are_bytes(bytes: &[u8])
-    ensures { AreBytes bytes.now }
-{
-    let _len = bytes.len();
 }

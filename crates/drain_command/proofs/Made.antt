@@ -20,8 +20,8 @@ use Rattle.journal_book.specs.declared.book_fault.BookFault.{BookFault}
 use Rattle.journal_book.specs.declared.book_fault.BookFault.TheVariants as fault
 use Rattle.book_runs.specs.GoesOn.{GoesOn}
 use Rattle.book_runs.proofs.Going.{goes_further}
-use Rattle.store_calls.specs.Calls.{IsOpened as IsOpenedCall}
-use Rattle.store_calls.proofs.Called.{called, count_called, opened_so, sealed_state, AllAccounted}
+use Rattle.book_runs.specs.Calls.{IsOpened as IsOpenedCall}
+use Rattle.book_runs.proofs.Called.{called, count_called, opened_so, sealed_state, AllAccounted}
 use Rattle.store_commands.specs.Completed.{IsFinished}
 use Rattle.store_commands.specs.Ends.{end_of, AreWrittenAt}
 use Rattle.store_commands.specs.declared.end.StoreEnd.{StoreEnd}

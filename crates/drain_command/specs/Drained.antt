@@ -18,7 +18,7 @@ use Rattle.store_image.specs.Stands.{IsSealOf, Origin}
 use Rattle.store_image.specs.Stored.{codes_of}
 use Rattle.journal_book.specs.Opening.{IsRootLength, StandsNow}
 use Rattle.journal_book.specs.Outputs.{AreCompleted, AreWritten}
-use Rattle.store_calls.specs.Calls.{IsCall, StandsOn}
+use Rattle.book_runs.specs.Calls.{IsCall, StandsOn}
 use Rattle.store_commands.specs.declared.end.StoreEnd.{StoreEnd}
 use Rattle.store_commands.specs.declared.end.StoreEnd.TheVariants as end
 use Rattle.turn_order.specs.Turn.{collectors}

@@ -4,7 +4,7 @@ ghost use Rattle.edge_traits.specs.Disk.{Image};
 ghost use Rattle.edge_traits.specs.Shelf.{count_on};
 ghost use Rattle.step_code.specs.declared.base.Base.{Base};
 ghost use Rattle.journal_book.specs.Alone.{LeavesAlone};
-ghost use Rattle.store_calls.specs.Calls.{IsEarlierIn};
+ghost use Rattle.book_runs.specs.Calls.{IsEarlierIn};
 ghost use Rattle.store_commands.specs.Ends.{most_step_bytes};
 ghost use Rattle.turn_order.specs.Turn.{collectors};
 ghost use Rattle.drain_turns.specs.declared.end.TurnsEnd.{TurnsEnd as Last};

@@ -1,10 +1,9 @@
 //! The collectors' turn.
-ghost use Rattle.std.specs.Prelude.{◌≡◌, ◌≤◌, ◌<◌, ◌&&◌, [], ◌∷◌, List, ℕ, Option, not, filter, IfOk, IfErr};
+ghost use Rattle.std.specs.Prelude.{◌≡◌, ◌<◌, ◌&&◌, [], ◌∷◌, List, ℕ, Option, not, filter, IfOk, IfErr};
 ghost use Rattle.std.specs.List.{AllByRecursion};
 ghost use Rattle.edge_traits.specs.Shelf.{ShelfView};
 ghost use Rattle.step_code.specs.declared.rules.Facts.{Facts};
-ghost use Rattle.step_code.specs.State.{has_finished, position_of};
-ghost use Rattle.ack_steps.specs.Core.{HasNearFeeds};
+ghost use Rattle.step_code.specs.State.{has_finished};
 ghost use Rattle.collector_feeds.specs.Found.{MayFind};
 ghost use Rattle.collector_feeds.specs.Standing.{IsReady};
 ghost use Rattle.turn_order.specs.Turn.{collectors};
@@ -12,19 +11,15 @@ ghost use Rattle.drain_turns.specs.Turn.{is_backed_up, is_piece, IsCollectorsTur
 ghost use Rattle.drain_loop.specs.Calls.{outside};
 ghost use Rattle.drain_loop.specs.Feeds.{key_of_bot, key_of_feed, AreLookedAt, AreOf, IsCounted, IsFailedAmong, IsFailedBy, ShelfGoesOn};
 ghost use Rattle.drain_loop.specs.Looking.{GivesTurn, IsHeldOr};
-ghost use Rattle.step_code.specs.Sound.{last_number};
 
 use ack_steps::Core;
-use base_types::{BotName, OutOfMemory};
+use base_types::OutOfMemory;
 use collector_feeds::{CollectorFeed, Found, LookFault, look};
-use drain_turns::{Turn, TurnsEnd};
+use drain_turns::{Turn, TurnsEnd, is_backed_up, position_of};
 use edge_traits::{Shelf, Source};
 use std::alloc::Global;
 use step_code::Rules;
 use turn_order::has_finished;
-
-// Where so many bytes of bodies wait, nothing is collected.
-const BACKLOG_LIMIT: u64 = 8_388_608;
 
 // The turn that these feeds give: the first collector's that finds something, unless only the backlog holds its piece back.
 pub(crate) fn first_found<R: Rules, H: Shelf>(
@@ -93,25 +88,6 @@ fn unless_held<R: Rules, S: Source>(
             None
         }
         what => Some(Turn::Finds { bot, at, what }),
-    }
-}
-
-// So much waits that nothing is collected.
-fn is_backed_up<R: Rules>(core: &Core<R>) -> bool
-    ensures { result ≡ is_backed_up R.meaning core.now.state }
-{
-    core.backlog() >= BACKLOG_LIMIT
-}
-
-// How far a collector has come.
-fn position_of<R: Rules>(core: &Core<R>, bot: &BotName) -> u64
-    ensures position { result ≡ position_of bot.now core.now.state }
-    ensures near { result ≤ last_number }
-{
-    let _ = core.feeds();
-    match core.feed_of(bot) {
-        Some(feed) => feed.position,
-        None => 0,
     }
 }
 

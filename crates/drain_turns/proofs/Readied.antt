@@ -7,8 +7,8 @@ use Rattle.step_code.specs.After.{after}
 use Rattle.step_code.specs.Rules.{AreSound, Meaning}
 use Rattle.step_code.specs.State.{bots_in_force, bots_of}
 use Rattle.store_image.specs.Stands.{IsSealOf}
-use Rattle.seal_laws.proofs.Histories.{seal_kept, seals_self}
-use Rattle.seal_laws.proofs.Renewed.{seals_whole}
+use Rattle.store_image.proofs.Histories.{seal_kept, seals_self}
+use Rattle.store_image.proofs.Renewed.{seals_whole}
 use Rattle.drain_turns.specs.Drained.{begins_next, behind, in_next, ready, Place}
 use Rattle.drain_turns.specs.Laws.{HasFeeds}
 use Rattle.drain_turns.specs.Turn.{Outside}

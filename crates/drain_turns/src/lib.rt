@@ -1,11 +1,13 @@
 //! One thread's turns: whose turn it is, what it comes to, and the loop that goes on until nothing is left to do.
 #![tactic(auto)]
 
+mod collector;
 mod end;
 mod laws;
 mod moves;
 mod turn;
 
+pub use collector::{is_backed_up, position_of};
 pub use end::TurnsEnd;
 pub use laws::{
     all_asked_are_made, feeds_stay_readable, free_calls_end_idle, nobody_only_if_halted, one_drain,

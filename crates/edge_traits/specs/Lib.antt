@@ -2,6 +2,7 @@
 pub mod Count
 pub mod Disk
 pub mod Named
+pub mod Orders
 pub mod Output
 pub mod Shelf
 pub mod Sink

@@ -22,7 +22,7 @@ use Rattle.step_code.specs.History.{first, replay}
 use Rattle.step_code.specs.Rules.{Meaning, writes}
 use Rattle.step_code.specs.Sound.{longest_base, IsSound}
 use Rattle.step_code.specs.State.{new_out}
-use Rattle.seal_laws.proofs.Unsealed.{new_unsealed}
+use Rattle.store_image.proofs.Unsealed.{new_unsealed}
 use Rattle.store_image.specs.Files.{generation_file, root_file, heading_of, written_format}
 use Rattle.store_image.specs.Stands.{origin_of, AreSealedFrom, FrontsStand, IsArchive, IsSealOf, Stands, WhereWhole}
 use Rattle.store_image.specs.Stored.{codes_of, HoldsSteps}

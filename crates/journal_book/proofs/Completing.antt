@@ -11,7 +11,7 @@ use Rattle.edge_traits.proofs.Moments.{run_on, widened}
 use Rattle.out_files.specs.Output.{lines_text, completed, KeepsFront}
 use Rattle.step_code.specs.declared.output.Output.{Output}
 use Rattle.step_code.specs.Spent.{out_length}
-use Rattle.seal_laws.proofs.Sealed.{text_length}
+use Rattle.store_image.proofs.Sealed.{text_length}
 use Rattle.store_image.specs.Files.{generation_file, out_file}
 use Rattle.store_image.proofs.Standing.{put_file, put_there}
 use Rattle.journal_book.specs.Keeping.{longest_output, AreShort}

@@ -15,7 +15,7 @@ use Rattle.step_code.specs.History.{replay}
 use Rattle.step_code.specs.Rules.{Meaning}
 use Rattle.step_code.specs.Spent.{out_length}
 use Rattle.step_code.specs.State.{new_out}
-use Rattle.seal_laws.proofs.Sealed.{text_length}
+use Rattle.store_image.proofs.Sealed.{text_length}
 use Rattle.store_image.specs.Files.{generation_file, out_file}
 use Rattle.store_image.specs.Opens.{AreLong}
 use Rattle.journal_book.specs.Opening.{TellsLong}

@@ -21,9 +21,9 @@ use Rattle.step_code.specs.History.{replay}
 use Rattle.step_code.specs.Rules.{Meaning}
 use Rattle.step_code.specs.Sound.{longest_base}
 use Rattle.step_code.specs.Spent.{last_given, out_length}
-use Rattle.seal_laws.proofs.Histories.{seals, seals_on}
-use Rattle.seal_laws.proofs.Renewed.{seals_whole, stands_renewed}
-use Rattle.seal_laws.specs.Renewed.{AreAllLines}
+use Rattle.store_image.proofs.Histories.{seals, seals_on}
+use Rattle.store_image.proofs.Renewed.{seals_whole, stands_renewed}
+use Rattle.store_image.specs.Renewed.{AreAllLines}
 use Rattle.store_image.specs.Files.{generation_file, out_file, root_file, heading_of, root_heading, written_format}
 use Rattle.store_image.specs.Opens.{AreLong}
 use Rattle.store_image.specs.Stands.{IsSealOf, Origin, Stands, StandsFor}

@@ -10,8 +10,8 @@ use Rattle.step_code.specs.Content.{May, MayReplay}
 use Rattle.step_code.specs.Rules.{Meaning}
 use Rattle.step_code.specs.Sound.{IsSoundState}
 use Rattle.step_code.specs.Spent.{NothingIsSpent}
-use Rattle.seal_laws.proofs.Renewed.{long_whole}
-use Rattle.seal_laws.proofs.Sounds.{legal_split, replayable, small_split, sound_state}
+use Rattle.store_image.proofs.Renewed.{long_whole}
+use Rattle.store_image.proofs.Sounds.{legal_split, replayable, small_split, sound_state}
 use Rattle.store_image.specs.Damage.{IsDamagedStore}
 use Rattle.store_image.specs.Opens.{Opens}
 use Rattle.store_image.specs.Stands.{origin_of, Stands, StandsFor}

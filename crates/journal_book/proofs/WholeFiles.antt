@@ -12,7 +12,7 @@ use Rattle.base_types.specs.Name.{queue_name}
 use Rattle.stored_types.specs.declared.message.Dump.{Dump}
 use Rattle.edge_traits.specs.Disk.{Image}
 use Rattle.out_files.specs.Output.{completed, lines_text}
-use Rattle.seal_laws.proofs.Histories.{seals}
+use Rattle.store_image.proofs.Histories.{seals}
 use Rattle.step_code.specs.declared.base.Base.{Base}
 use Rattle.step_code.specs.declared.output.Output.{Output}
 use Rattle.step_code.specs.declared.rules.Facts.{Facts}

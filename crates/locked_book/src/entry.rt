@@ -1,5 +1,5 @@
 //! What the list under the lock is made of.
-use step_code::Step;
+use step_code::{Base, Step};
 
 /// Why no further step is made in a round.
 #[derive(Clone, Copy, Debug, PartialEq, Eq)]
@@ -16,6 +16,7 @@ pub enum EndMark {
 pub enum Entry<B> {
     /// The book as the round began: the first entry, which all seats share.
     Opened(B),
-    Made(Step),
+    /// A step, and the state in which it was made.
+    Made { before: Base, step: Step },
     Marked(EndMark),
 }

@@ -8,7 +8,7 @@ ghost use Rattle.journal_book.specs.Book.{waiting_steps};
 ghost use Rattle.journal_book.specs.Staged.{staged, stamp, step_cause, IsMove};
 ghost use Rattle.book_runs.specs.Commit.{is_to_renew};
 ghost use Rattle.book_runs.specs.GoesOn.{longer, IsSameBook};
-ghost use Rattle.locked_book.specs.Entries.{entries_of, mark_entries, step_entry};
+ghost use Rattle.locked_book.specs.Entries.{entries_of, made_entries, mark_entries};
 ghost use Rattle.locked_book.specs.Locked.{mark_of, IsHoldFault, IsRound};
 
 use crate::{EndMark, Entry, HoldFault};
@@ -51,7 +51,7 @@ impl<D: Disk, R: Rules> Grows for Locked<D, R> {
 
     type Entry = Entry<Book<D, R>>;
 
-    ghost entries = { entries_of };
+    ghost entries = { entries_of R.meaning };
 
     fn count(&self) -> u64 {
         let marks = if self.mark.is_some() { 1 } else { 0 };
@@ -112,7 +112,7 @@ impl<D: Disk, R: Rules> Locked<D, R> {
         ensures made { OnOk result (self.new.made ≡ self.old.made ++ staged R.meaning self.old.book.state now what ∷ []) }
         ensures book { OnOk result (self.new.book ≡ longer R.meaning self.old.book (staged R.meaning self.old.book.state now what ∷ []) self.new.book) }
         ensures unmarked { OnOk result (self.new.mark ≡ None) }
-        ensures entry { OnOk result (entries_of self.new ≡ entries_of self.old ++ step_entry (staged R.meaning self.old.book.state now what) ∷ []) }
+        ensures entry { OnOk result (entries_of R.meaning self.new ≡ entries_of R.meaning self.old ++ made_entries R.meaning self.old.book.state (staged R.meaning self.old.book.state now what ∷ [])) }
         ensures number { IfOk result (λ number. number ≡ self.new.book.state.steps) }
         ensures causes { OnOk result (step_cause R.meaning self.old.book.state self.old.book.steps self.old.book.limit (staged R.meaning self.old.book.state now what) ≡ None) }
         ensures half { IsErrOf result HoldFault.Half ↔ (is_to_renew self.old.book ≡ true) }
@@ -120,8 +120,8 @@ impl<D: Disk, R: Rules> Locked<D, R> {
         ensures made_err { OnErr result (self.new.made ≡ self.old.made) }
         ensures book_err { OnErr result (IsSameBook self.old.book self.new.book) }
         ensures mark_err { IfErr result (λ fault. self.new.mark ≡ mark_of fault) }
-        ensures entry_err { IfErr result (λ fault. entries_of self.new ≡ entries_of self.old ++ mark_entries (mark_of fault)) }
-        ensures grows { IsPrefix (entries_of self.old) (entries_of self.new) }
+        ensures entry_err { IfErr result (λ fault. entries_of R.meaning self.new ≡ entries_of R.meaning self.old ++ mark_entries (mark_of fault)) }
+        ensures grows { IsPrefix (entries_of R.meaning self.old) (entries_of R.meaning self.new) }
         ensures failed { IsErrOf result HoldFault.Disk → Rose (D.disk self.old.book.disk).faults (D.disk self.new.book.disk).faults }
         ensures count { (D.disk self.old.book.disk).faults ≤ (D.disk self.new.book.disk).faults }
     {
@@ -158,10 +158,10 @@ impl<D: Disk, R: Rules> Locked<D, R> {
         ensures book { IsSameBook self.old.book self.new.book }
         ensures durable { OnOk result (self.new.book.kept ≡ length self.new.book.steps) }
         ensures unmarked { OnOk result (self.new.mark ≡ None) }
-        ensures entry { OnOk result (entries_of self.new ≡ entries_of self.old) }
+        ensures entry { OnOk result (entries_of R.meaning self.new ≡ entries_of R.meaning self.old) }
         ensures broken { OnErr result (self.new.mark ≡ Some EndMark.Broken) }
-        ensures entry_err { OnErr result (entries_of self.new ≡ entries_of self.old ++ mark_entries (Some EndMark.Broken)) }
-        ensures grows { IsPrefix (entries_of self.old) (entries_of self.new) }
+        ensures entry_err { OnErr result (entries_of R.meaning self.new ≡ entries_of R.meaning self.old ++ mark_entries (Some EndMark.Broken)) }
+        ensures grows { IsPrefix (entries_of R.meaning self.old) (entries_of R.meaning self.new) }
         ensures nothing { waiting_steps self.old.book ≡ [] → self.new.book.disk ≡ self.old.book.disk }
         ensures failed { OnErr result (Rose (D.disk self.old.book.disk).faults (D.disk self.new.book.disk).faults) }
         ensures count { (D.disk self.old.book.disk).faults ≤ (D.disk self.new.book.disk).faults }
@@ -180,8 +180,8 @@ impl<D: Disk, R: Rules> Locked<D, R> {
     pub fn stop(&mut self)
         requires unmarked { self.old.mark ≡ None }
         ensures marked { self.new ≡ record self.old { mark = Some EndMark.Stop } }
-        ensures entry { entries_of self.new ≡ entries_of self.old ++ mark_entries (Some EndMark.Stop) }
-        ensures grows { IsPrefix (entries_of self.old) (entries_of self.new) }
+        ensures entry { entries_of R.meaning self.new ≡ entries_of R.meaning self.old ++ mark_entries (Some EndMark.Stop) }
+        ensures grows { IsPrefix (entries_of R.meaning self.old) (entries_of R.meaning self.new) }
     {
         self.mark = Some(EndMark::Stop);
     }

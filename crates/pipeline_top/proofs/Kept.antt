@@ -15,7 +15,7 @@ use Rattle.store_image.specs.History.{HasHistoryFrom}
 use Rattle.store_image.specs.Stands.{origin_of, StandsFor}
 use Rattle.store_image.proofs.Whole.{whole_history}
 use Rattle.journal_book.specs.Opening.{StandsNow}
-use Rattle.store_calls.specs.Calls.{IsCall, StandsOn}
+use Rattle.book_runs.specs.Calls.{IsCall, StandsOn}
 use Rattle.store_commands.specs.Ends.{most_step_bytes}
 use Rattle.store_commands.specs.Redone.{IsRedoCall, RedoesStep}
 use Rattle.store_commands.specs.declared.end.StoreEnd.{StoreEnd}
@@ -51,7 +51,7 @@ module _ {m : Meaning} (first : Base) where
   pub kept_on : (steps more : List Step) (old new : DiskView) → StandsOn m (origin_of first true) steps more old new → LeavesHistory steps old new
   kept_on steps more old new on = record {
     any_moment = widened (λ image stands. held_whole steps more image stands) on.any_moment;
-    behind = λ image left. held_whole steps more image (on.now.each image left);
+    later = λ image left. held_whole steps more image (on.now.each image left);
   }
 
   -- a call that makes steps
@@ -61,12 +61,12 @@ module _ {m : Meaning} (first : Base) where
       record {
         any_moment = run_on (widened (λ image stands. held_whole steps more image stands) call.before)
             (widened (λ image stands. held_from steps (steps ++ read) read made image refl stands) call.behind);
-        behind = λ image left. held_from steps ((steps ++ read) ++ take durable made) (read ++ take durable made) (drop durable made) image (append_assoc steps read (take durable made)) (call.now.each image left);
+        later = λ image left. held_from steps ((steps ++ read) ++ take durable made) (read ++ take durable made) (drop durable made) image (append_assoc steps read (take durable made)) (call.now.each image left);
       }
 
 -- two calls, one after the other
 kept_further : (steps : List Step) (old mid new : DiskView) → LeavesHistory steps old mid → LeavesHistory steps mid new → LeavesHistory steps old new
-kept_further steps old mid new one other = record { any_moment = run_on one.any_moment other.any_moment; behind = other.behind }
+kept_further steps old mid new one other = record { any_moment = run_on one.any_moment other.any_moment; later = other.later }
 
 -- a command that changes nothing of a history
 kept_still : (m : Meaning) (old new : DiskView) → IsStill m old new → KeepsHistory m old new
@@ -144,7 +144,7 @@ module _ {D : Type 0} (disk : D → DiskView) (m : Meaning) (first : Base) (step
 pub kept_by_redo : {D : Type 0} (disk : D → DiskView) (dump : ℕ) (seen : Seen) (old new : DiskView) (end : Status) → IsRedoneBy disk dump seen old new end → KeepsHistory intel old new
 kept_by_redo disk dump seen old new end is = λ first steps more was. kept_redo disk intel first steps more old new dump is.now is.done (is.stands (origin_of first true) steps more was)
 
--- the drain of a drill, behind the making of its store
+-- the drain of a drill, after the making of its store
 module _ {D : Type 0} (disk : D → DiskView) (lines number : ℕ) (seen : Seen) (old mid new : D) (end : Status) (first : Base) (steps more : List Step)
     (made : LeavesHistory steps (disk old) (disk mid)) (now : StandsNow intel (origin_of first true) steps more (disk mid)) where
   kept_undrilled : new ≡ mid → LeavesHistory steps (disk old) (disk new)

@@ -6,7 +6,7 @@ use Rattle.event_text.specs.Lenient.{lenient, PutsText}
 use Rattle.event_text.specs.Text.{message_text}
 use Rattle.report_cut.specs.Line.{without_newline}
 use Rattle.report_cut.specs.Pieces.{longest_line}
-use Rattle.pipeline_top.specs.Convert.{Line, empty, text, refused, line_of, short_line, read_line, line_of_reading, longest_feed, convert_bot, behind_line, put_line, converted, end_at, end_from}
+use Rattle.pipeline_top.specs.Convert.{Line, empty, text, refused, line_of, short_line, read_line, line_of_reading, longest_feed, convert_bot, behind_line, put_line, conversion_from, end_at, end_from}
 use Rattle.edge_traits.specs.Sink.{SinkView}
 use Rattle.edge_traits.specs.Output.{Moved}
 use Rattle.edge_traits.proofs.Outputs.{Moved-write}
@@ -82,9 +82,9 @@ end_one (refused cause) old new (Some e) later put = sym put.0
 pub Moved-then : {a b c : SinkView} {whole rest more : List ℕ} → Moved a b whole rest → Moved b c rest more → Moved a c whole more
 Moved-then first second = Moved-write first second.took second.whole_is
 
-pub Moved-line : {a b : SinkView} {whole : List ℕ} (place : Place) (line old new : List ℕ) (end : Option Status) (lines more later : List (List ℕ)) → Moved a b whole (old ++ converted place (lines ++ later)) → lines ≡ line ∷ more → PutLine (line_of place line) old new end → Moved a b whole (new ++ cond_later end (converted (behind_line place line) (more ++ later)))
+pub Moved-line : {a b : SinkView} {whole : List ℕ} (place : Place) (line old new : List ℕ) (end : Option Status) (lines more later : List (List ℕ)) → Moved a b whole (old ++ conversion_from place (lines ++ later)) → lines ≡ line ∷ more → PutLine (line_of place line) old new end → Moved a b whole (new ++ cond_later end (conversion_from (behind_line place line) (more ++ later)))
 Moved-line {a = a} {b = b} {whole = whole} place line old new end lines more later moved first put =
-    subst (Moved a b whole) (ap (λ ls. old ++ converted place (ls ++ later)) first ∙ put_one (line_of place line) old new end (converted (behind_line place line) (more ++ later)) put) moved
+    subst (Moved a b whole) (ap (λ ls. old ++ conversion_from place (ls ++ later)) first ∙ put_one (line_of place line) old new end (conversion_from (behind_line place line) (more ++ later)) put) moved
 
 pub end_line : (place : Place) (line old new : List ℕ) (end : Option Status) (lines more later : List (List ℕ)) → lines ≡ line ∷ more → PutLine (line_of place line) old new end → end_from place (lines ++ later) ≡ unwrap_or end (end_from (behind_line place line) (more ++ later))
 end_line place line old new end lines more later first put =

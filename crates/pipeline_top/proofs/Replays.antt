@@ -6,7 +6,7 @@ use Rattle.bot_rules.specs.Intel.{intel}
 use Rattle.step_code.specs.declared.step.Step.{Step}
 use Rattle.step_code.specs.Rules.{Meaning}
 use Rattle.store_image.specs.Stands.{Origin, StandsFor}
-use Rattle.store_calls.proofs.Replayed.{replayed}
+use Rattle.book_runs.proofs.Replayed.{replayed}
 use Rattle.store_commands.specs.Ends.{shown_text, IsShown}
 use Rattle.store_commands.specs.declared.end.StoreEnd.{StoreEnd}
 use Rattle.store_commands.specs.declared.end.StoreEnd.TheVariants as ended
@@ -32,7 +32,7 @@ ends_done (ended.NoDump n) s is done = absurd (cc (is, done))
 ends_done (ended.Spent next) s is done = absurd (cc (is, done))
 ends_done (ended.Full bytes) s is done = absurd (cc (is, done))
 
--- the state in which a store opens is shown as that behind its history
+-- the state in which a store opens is shown as that after its history
 replay_shown : (m : Meaning) (origin : Origin) (steps more : List Step) (files : Image) (what : Shown) (old new : SinkView) → StandsFor m origin steps more files → IsShown m files what ended.Done old new → IsReplayShown m origin steps more what old new
 replay_shown m origin steps more files what old new stands is =
     let here = is.1 in

@@ -13,7 +13,7 @@ use Rattle.store_image.specs.Stands.{Origin}
 use Rattle.journal_book.specs.Opening.{StandsNow}
 use Rattle.journal_book.specs.Outputs.{AreWritten}
 use Rattle.journal_book.specs.Alone.{IsBeside, IsBesideNew, LeavesAlone}
-use Rattle.store_calls.specs.Calls.{IsEarlierIn, StandsOn}
+use Rattle.book_runs.specs.Calls.{IsEarlierIn, StandsOn}
 use Rattle.store_commands.specs.Begun.{IsBegun, IsMade, IsMadeWhole, IsNewStore}
 use Rattle.store_commands.specs.Completed.{IsCompleted}
 use Rattle.store_commands.specs.Ends.{most_step_bytes, AreWrittenAt, IsPrinted, IsShown}
@@ -27,7 +27,7 @@ use Rattle.drain_turns.specs.declared.end.TurnsEnd.{TurnsEnd}
 use Rattle.drain_command.specs.Drained.{IsDrainCall, MayEndDrain}
 use Rattle.audit_command.specs.Audited.{IsAuditOf}
 use Rattle.audit_command.specs.declared.end.AuditEnd.{AuditEnd}
-use Rattle.drill_feed.specs.Drill.{drill_bundle, drill_shelf}
+use Rattle.feed_maker.specs.Drill.{drill_bundle, drill_shelf}
 use Rattle.command_words.specs.Command as asked
 use Rattle.bundle_bringing.specs.Brought.{Brings, Names}
 use Rattle.bundle_bringing.specs.declared.bringing.Unbrought.{Unbrought}
@@ -67,7 +67,7 @@ pub record IsChecked (name : List ℕ) (seen : Seen) (end : Status) : Type 0 whe
 
 -- ---- commands on a store, on a disk as it was and as it comes back
 
--- nothing of a history changes, at any moment of the call and behind it
+-- nothing of a history changes, at any moment of the call and after it
 abbrev pub IsStill : DiskView → DiskView → Type 0
 IsStill old new = (origin : Origin) (steps more : List Step) → StandsNow intel origin steps more old → StandsOn intel origin steps more old new
 
@@ -75,7 +75,7 @@ IsStill old new = (origin : Origin) (steps more : List Step) → StandsNow intel
 abbrev pub WhereTold : DiskView → (Image → Type 0) → Type 0
 WhereTold old passes = (files : Image) → old.told ≡ Some files → passes files
 
--- behind a command that ended so, each output's file is all lines of the history that the disk stands for, where that began with
+-- after a command that ended so, each output's file is all lines of the history that the disk stands for, where that began with
 -- nothing sealed
 abbrev pub HasOutputsAt : DiskView → StoreEnd → Type 0
 HasOutputsAt new done =
@@ -108,7 +108,7 @@ pub record IsInit (name : List ℕ) (seen : Seen) (old new : DiskView) (end : St
   pub done : MatchResult brought (IsMadeOf seen end old new) (IsUnmade seen end old new)
 
 -- the store was drained: with the bundle of this code put in force, if one is named. What was fetched of the bundle may have
--- raised the shelf's counts ahead of the turns
+-- raised the shelf's counts before the turns
 pub record IsDrainedBy {D : Type 0} (disk : D → DiskView) (ask : asked.Ask) (seen : Seen) (end : Status) (old new : DiskView) (bundle : Option (List ℕ)) : Type 0 where
   pub done : Result TurnsEnd StoreEnd
   pub ends : IfErr done MayEndDrain
@@ -119,7 +119,7 @@ pub record IsDrainedBy {D : Type 0} (disk : D → DiskView) (ask : asked.Ask) (s
   pub drained : WhereTold old (λ files. IsDrainCall disk (outside intel shelf seen.clock most_step_bytes) seen.shelf_now files (record { opening = record { bundle = bundle; rounds = ask.round }; left = ask.steps }) old new done seen.sink seen.sink_now)
   pub others : WhereTold old (λ files. LeavesAlone old new (IsEarlierIn files))
 
--- the bundle wasn't brought: that is told behind what opening the store comes to, and no step is made
+-- the bundle wasn't brought: that is told after what opening the store comes to, and no step is made
 pub record IsUndrained (seen : Seen) (end : Status) (old new : DiskView) (why : Unbrought) : Type 0 where
   pub done : StoreEnd
   pub end_is : end ≡ behind_store done (unbrought_status why)
@@ -141,7 +141,7 @@ no_ask = record { steps = None; reload = None; round = false }
 abbrev pub IsUndrilled : {D : Type 0} → Seen → D → D → Status → StoreEnd → Type 0
 IsUndrilled seen mid new end making = (end ≡ store_status making) × (new ≡ mid) × Took seen.sink seen.sink_now []
 
--- what comes behind the making of the drill's store, which ended so: its feed is drained, or no store was made
+-- what comes after the making of the drill's store, which ended so: its feed is drained, or no store was made
 abbrev pub IsDrillEnd : {D : Type 0} → (D → DiskView) → (lines number : ℕ) → Seen → D → D → Status → StoreEnd → Type 0
 IsDrillEnd disk lines number seen mid new end ended.Done = IsDrainedBy disk no_ask (record seen { shelf = drill_shelf lines number; shelf_now = drill_shelf lines number }) end (disk mid) (disk new) None
 IsDrillEnd disk lines number seen mid new end ended.Memory = IsUndrilled seen mid new end ended.Memory

@@ -60,13 +60,13 @@ put_line (text t) later = t ++ 10 ∷ later
 put_line (refused end) later = []
 
 -- the text of each line that isn't empty, with a newline, up to the first that is refused
-abbrev pub converted : Place → List (List ℕ) → List ℕ
-converted place [] = []
-converted place (line ∷ later) = put_line (line_of place line) (converted (behind_line place line) later)
+abbrev pub conversion_from : Place → List (List ℕ) → List ℕ
+conversion_from place [] = []
+conversion_from place (line ∷ later) = put_line (line_of place line) (conversion_from (behind_line place line) later)
 
 -- the conversion of a feed
 abbrev pub conversion : List ℕ → List ℕ
-conversion feed = converted first_place (lines_of feed)
+conversion feed = conversion_from first_place (lines_of feed)
 
 -- ---- how it ends
 

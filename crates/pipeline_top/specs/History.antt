@@ -17,10 +17,10 @@ use Rattle.status_texts.specs.declared.status.Status.TheVariants as status
 
 -- ---- what a crash leaves
 
--- whatever a crash leaves at any moment of a call, and behind it, holds a history that begins with these steps
+-- whatever a crash leaves at any moment of a call, and after it, holds a history that begins with these steps
 pub record LeavesHistory (steps : List Step) (old new : DiskView) : Type 0 where
   pub any_moment : Leaves old new (HasHistoryFrom steps)
-  pub behind : (image : Image) → IsImage new.may_leave image → HasHistoryFrom steps image
+  pub later : (image : Image) → IsImage new.may_leave image → HasHistoryFrom steps image
 
 -- so it is with the steps of each store that the disk stood for, all of whose generations are looked at
 abbrev pub KeepsHistory : Meaning → DiskView → DiskView → Type 0
@@ -28,7 +28,7 @@ KeepsHistory m old new = (first : Base) (steps more : List Step) → StandsNow m
 
 -- ---- what is shown
 
--- the text was printed of the state behind these steps and a front of those behind them
+-- the text was printed of the state after these steps and a front of those after them
 pub record IsReplayShown (m : Meaning) (origin : Origin) (steps more : List Step) (what : Shown) (old new : SinkView) : Type 0 where
   pub count : ℕ
   pub within : count ≤ length more

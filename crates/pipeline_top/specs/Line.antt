@@ -1,7 +1,7 @@
 -- What the conversion of one line, and of the lines of a piece, does.
 use Rattle.std.specs.Prelude.{◌≡◌, ℕ, List, [], ◌∷◌, ◌++◌, false, Option, Some, None}
 use Rattle.report_cut.specs.declared.piece.CutRule.{CutRule}
-use Rattle.pipeline_top.specs.Convert.{Line, empty, text, refused, converted, end_from}
+use Rattle.pipeline_top.specs.Convert.{Line, empty, text, refused, conversion_from, end_from}
 use Rattle.pipeline_top.specs.declared.line.Place.{Place}
 use Rattle.status_texts.specs.declared.status.Status.{Status}
 
@@ -16,10 +16,10 @@ PutLine _ old new _ = ⊥
 abbrev pub whole_lines : CutRule
 whole_lines = record { chunk_size = 65536; replicate = false }
 
--- what these later lines come to behind lines of which one was refused, or none
-abbrev pub converted_unless : Option Status → Place → List (List ℕ) → List ℕ
-converted_unless None place later = converted place later
-converted_unless (Some end) place later = []
+-- what these later lines come to after lines of which one was refused, or none
+abbrev pub conversion_unless : Option Status → Place → List (List ℕ) → List ℕ
+conversion_unless None place later = conversion_from place later
+conversion_unless (Some end) place later = []
 
 abbrev pub end_unless : Option Status → Place → List (List ℕ) → Status
 end_unless None place later = end_from place later

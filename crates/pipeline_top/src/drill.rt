@@ -3,7 +3,7 @@ ghost use Rattle.std.specs.Prelude.{◌≡◌, ◌≢◌, ◌≤◌, ◌↔◌, 
 ghost use Rattle.edge_traits.specs.Count.{Rose};
 ghost use Rattle.edge_traits.specs.Shelf.{ShelfView};
 ghost use Rattle.config_bundle.specs.Bundle.{bundle_code};
-ghost use Rattle.drill_feed.specs.Drill.{drill_bundle, drill_shelf};
+ghost use Rattle.feed_maker.specs.Drill.{drill_bundle, drill_shelf};
 ghost use Rattle.status_texts.specs.declared.status.FeedWhy.TheVariants.{Failed as FailedWhy};
 ghost use Rattle.pipeline_top.specs.Commands.{IsDrilled};
 
@@ -14,8 +14,8 @@ use base_types::{Blob, OutOfMemory};
 use bot_rules::IntelRules;
 use command_words::Ask;
 use config_bundle::bundle_code;
-use drill_feed::{DrillShelf, drill_bundle, drills_never_fail};
 use edge_traits::{Clock, Disk, Shelf, Sink};
+use feed_maker::{DrillShelf, drill_bundle, drills_never_fail};
 use std::alloc::Global;
 use store_commands::{StoreEnd, make_store};
 

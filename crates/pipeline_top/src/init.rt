@@ -73,7 +73,7 @@ fn make<D: Disk, S: Sink>(
     }
 }
 
-// A store that is there is told ahead of what is wrong with the bundle.
+// A store that is there is told before what is wrong with the bundle.
 fn unmade<D: Disk>(disk: D, why: Unbrought) -> (Status, D)
     ensures unmade { (seen : Seen) → seen.sink_now ≡ seen.sink → IsUnmade seen result.0 (D.disk disk) (D.disk result.1) why }
     ensures words { result.0 ≢ Status.Words }

@@ -5,8 +5,8 @@ ghost use Rattle.edge_traits.specs.Output.{TookFront, Moved};
 ghost use Rattle.edge_traits.specs.Shelf.{count_on, content_of, lacks};
 ghost use Rattle.edge_traits.specs.Sink.{Took};
 ghost use Rattle.report_cut.specs.Pieces.{longest_line};
-ghost use Rattle.pipeline_top.specs.Convert.{longest_feed, conversion, converted, end_of, end_from, IsLineEnd};
-ghost use Rattle.pipeline_top.specs.Line.{whole_lines, converted_unless, end_unless};
+ghost use Rattle.pipeline_top.specs.Convert.{longest_feed, conversion, conversion_from, end_of, end_from, IsLineEnd};
+ghost use Rattle.pipeline_top.specs.Line.{whole_lines, conversion_unless, end_unless};
 
 use crate::Status;
 use crate::buffer::Buffer;
@@ -152,9 +152,9 @@ fn convert_piece<S: Sink>(
     // Whatever lines come later:
     ensures end { (later : List (List ℕ)) → IfOk result (λ r. end_from first (lines_of piece.now ++ later) ≡ end_unless r.0 r.1 later) }
     ensures written { (later : List (List ℕ)) → IfOk result (λ r. Moved (S.sink out.old) (S.sink out.new)
-        (buffer.old ++ converted first (lines_of piece.now ++ later)) (buffer.new ++ converted_unless r.0 r.1 later)) }
+        (buffer.old ++ conversion_from first (lines_of piece.now ++ later)) (buffer.new ++ conversion_unless r.0 r.1 later)) }
     ensures front { (later : List (List ℕ)) → OnErr result (TookFront (S.sink out.old) (S.sink out.new)
-        (buffer.old ++ converted first (lines_of piece.now ++ later))) }
+        (buffer.old ++ conversion_from first (lines_of piece.now ++ later))) }
     ensures memory { IsErrOf result Halt.Absent ⊎ IsErrOf result Halt.Failed → ⊥ }
     ensures sink { IsErrOf result Halt.Sink → Rose (S.sink out.old).faults (S.sink out.new).faults }
     ensures sink_count { (S.sink out.old).faults ≤ (S.sink out.new).faults }

@@ -108,7 +108,7 @@ pub fn is_said(why: &Unbrought) -> bool
     }
 }
 
-/// What opening a store came to is told ahead of the bundle.
+/// What opening a store came to is told before the bundle.
 pub fn behind_store(end: StoreEnd, later: Status) -> Status
     ensures { result ≡ behind_store end later }
 {

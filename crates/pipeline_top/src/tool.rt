@@ -32,15 +32,15 @@ pub fn run_tool<H: Shelf, D: Disk, S: Sink, C: Clock>(
     out: &mut S,
     clock: &C,
 ) -> (Status, D)
-    // What is done for each command: what it brings from the shelf, what it makes of a store, at any moment of the call and behind
+    // What is done for each command: what it brings from the shelf, what it makes of a store, at any moment of the call and after
     // it, what it prints, and how it ends.
     ensures done { IsTool D.disk (command_of words.now) (record { shelf = H.shelf shelf.old; shelf_now = H.shelf shelf.new; sink = S.sink out.old; sink_now = S.sink out.new; clock = C.told clock.now }) disk result.1 result.0 }
 
-    // Whatever a crash leaves at any moment of the call, and behind it, holds a history that begins with the steps that the disk
+    // Whatever a crash leaves at any moment of the call, and after it, holds a history that begins with the steps that the disk
     // stood for, where all generations are looked at: a history is never shortened.
     ensures history { KeepsHistory intel (D.disk disk) (D.disk result.1) }
 
-    // What is shown of a store is shown of the state behind its whole history.
+    // What is shown of a store is shown of the state after its whole history.
     ensures status_replayed { command_of words.now ≡ Some asked.Status → ShowsReplay Shown.State (D.disk disk) result.0 (S.sink out.old) (S.sink out.new) }
     ensures dumps_replayed { command_of words.now ≡ Some asked.Dumps → ShowsReplay Shown.Dumps (D.disk disk) result.0 (S.sink out.old) (S.sink out.new) }
 

@@ -16,9 +16,9 @@ use Rattle.step_code.specs.Rules.{writes, Meaning}
 use Rattle.step_code.specs.Sound.{longest_base, IsSoundState}
 use Rattle.step_code.specs.Spent.{NothingIsSpent}
 use Rattle.step_code.specs.State.{new_out}
-use Rattle.seal_laws.proofs.Histories.{legal_sealed, seals, seals_on, seals_self}
-use Rattle.seal_laws.proofs.Sounds.{legal_split, replayable, small_split, sound_state}
-use Rattle.seal_laws.proofs.Unsealed.{new_unsealed, unsealed_replay}
+use Rattle.store_image.proofs.Histories.{legal_sealed, seals, seals_on, seals_self}
+use Rattle.store_image.proofs.Sounds.{legal_split, replayable, small_split, sound_state}
+use Rattle.store_image.proofs.Unsealed.{new_unsealed, unsealed_replay}
 use Rattle.store_image.specs.Files.{generation_file}
 use Rattle.store_image.specs.Opens.{AreAlong, AreReplayable}
 use Rattle.store_image.specs.Stands.{behind, joined, origin_of, AreArchived, AreSealedFrom, FrontsStand, IsSealedFrom, IsSealOf, IsUnsealed, Stands}

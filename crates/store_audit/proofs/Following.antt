@@ -22,7 +22,7 @@ use Rattle.step_code.specs.Spent.{last_given, out_length}
 use Rattle.core_state.specs.Sealing.{sealed_out, sealed_whole, HasSmallOutput, HaveSmallOutputs}
 use Rattle.store_image.specs.Files.{out_file}
 use Rattle.store_image.specs.Stands.{AreSealedFrom, IsSealedFrom, IsSealOf}
-use Rattle.seal_laws.proofs.Sealed.{same_lengths, text_length}
+use Rattle.store_image.proofs.Sealed.{same_lengths, text_length}
 use Rattle.store_audit.specs.Audit.{GoesOnFrom, HasSealed, HaveSealed}
 use Rattle.store_audit.specs.Sealed.{AllHaveFronts, HasFront, StandsAt}
 

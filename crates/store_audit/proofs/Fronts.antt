@@ -22,7 +22,7 @@ use Rattle.step_code.specs.History.{replay}
 use Rattle.step_code.specs.Rules.{Meaning}
 use Rattle.step_code.specs.State.{bots_in_force, bots_of, is_dump, is_out, waiting}
 use Rattle.step_code.proofs.GivenBack.{kept-all_given_back}
-use Rattle.seal_laws.proofs.Unsealed.{new_unsealed}
+use Rattle.store_image.proofs.Unsealed.{new_unsealed}
 use Rattle.store_image.specs.Files.{out_file}
 use Rattle.store_image.specs.Stands.{AreSealedFrom, FrontsStand, FrontStands, IsSealedFrom, IsUnsealed}
 use Rattle.store_audit.specs.Audit.{HasSealed, HaveSealed}

@@ -10,8 +10,8 @@ use Rattle.step_code.specs.History.{replay, Legal}
 use Rattle.step_code.specs.Rules.{writes, Meaning}
 use Rattle.step_code.specs.Sound.{longest_base, IsSound}
 use Rattle.step_code.specs.Spent.{NothingIsSpent}
-use Rattle.seal_laws.proofs.Histories.{legal_whole, seals, seals_on, seals_self, small_whole}
-use Rattle.seal_laws.proofs.Unsealed.{new_unsealed, unsealed_replay}
+use Rattle.store_image.proofs.Histories.{legal_whole, seals, seals_on, seals_self, small_whole}
+use Rattle.store_image.proofs.Unsealed.{new_unsealed, unsealed_replay}
 use Rattle.store_image.specs.Files.{generation_file}
 use Rattle.store_image.specs.Opens.{AreAlong}
 use Rattle.store_image.specs.Stands.{behind, joined, AreArchived, FrontsStand, IsSealOf, IsUnsealed}

@@ -19,8 +19,8 @@ use Rattle.journal_book.specs.Opening.{StandsNow}
 use Rattle.journal_book.specs.declared.book_fault.BookFault.{BookFault}
 use Rattle.journal_book.specs.declared.book_fault.BookFault.TheVariants as fault
 use Rattle.journal_book.proofs.Recovering.{some_root}
-use Rattle.store_calls.proofs.Called.{stands_read}
-use Rattle.store_calls.specs.Calls.{IsFirstOf}
+use Rattle.book_runs.proofs.Called.{stands_read}
+use Rattle.book_runs.specs.Calls.{IsFirstOf}
 use Rattle.store_commands.specs.Begun.{HasNoStore, IsBegun, IsMade, IsNewStore}
 use Rattle.store_commands.specs.Ends.{end_of, IsPrinted}
 use Rattle.store_commands.specs.declared.end.StoreEnd.{StoreEnd}

@@ -7,8 +7,8 @@ use Rattle.step_code.specs.History.{replay}
 use Rattle.step_code.specs.Rules.{Meaning}
 use Rattle.store_image.specs.Stands.{Origin}
 use Rattle.journal_book.specs.Book.{BookView}
-use Rattle.store_calls.specs.Calls.{IsCall, IsOpened, StandsOn}
-use Rattle.store_calls.proofs.Called.{all_made, called, count_called, sealed_state, still_stands, AllAccounted}
+use Rattle.book_runs.specs.Calls.{IsCall, IsOpened, StandsOn}
+use Rattle.book_runs.proofs.Called.{all_made, called, count_called, sealed_state, still_stands, AllAccounted}
 use Rattle.store_commands.specs.Redone.{redo_step, RedoesStep, Redid}
 use Rattle.store_commands.specs.declared.end.StoreEnd.{StoreEnd}
 

@@ -11,7 +11,7 @@ use Rattle.state_texts.specs.Texts.{summary}
 use Rattle.store_image.specs.Files.{root_file}
 use Rattle.store_image.specs.Stands.{origin_of}
 use Rattle.journal_book.specs.Opening.{StandsNow}
-use Rattle.store_calls.specs.Calls.{IsFirstOf}
+use Rattle.book_runs.specs.Calls.{IsFirstOf}
 use Rattle.store_commands.specs.declared.end.StoreEnd.{StoreEnd}
 use Rattle.store_commands.specs.declared.end.StoreEnd.TheVariants as end
 

@@ -27,7 +27,7 @@ use Rattle.journal_book.specs.declared.stage_refusal.StageRefusal.{StageRefusal}
 use Rattle.journal_book.specs.declared.stage_refusal.StageRefusal.TheVariants as refusal
 use Rattle.book_runs.specs.Commit.{as_refusal, first_of, is_half_full}
 use Rattle.book_runs.specs.GoesOn.{GoesOn}
-use Rattle.store_calls.specs.Calls.{IsCall}
+use Rattle.book_runs.specs.Calls.{IsCall}
 use Rattle.store_commands.specs.Ends.{most_step_bytes, IsOpenIn}
 use Rattle.store_commands.specs.declared.end.StoreEnd.{StoreEnd}
 use Rattle.store_commands.specs.declared.end.StoreEnd.TheVariants as end

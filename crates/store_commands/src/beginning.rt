@@ -7,7 +7,7 @@ ghost use Rattle.store_image.specs.Files.{root_file};
 ghost use Rattle.store_image.specs.Stands.{Origin};
 ghost use Rattle.journal_book.specs.Alone.{IsBesideNew, LeavesAlone};
 ghost use Rattle.journal_book.specs.Opening.{StandsNow};
-ghost use Rattle.store_calls.specs.Calls.{StandsOn};
+ghost use Rattle.book_runs.specs.Calls.{StandsOn};
 ghost use Rattle.store_commands.specs.Begun.{IsBegun, IsMade, IsMadeWhole, IsNewStore};
 
 use crate::end::end_of;

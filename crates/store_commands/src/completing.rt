@@ -7,18 +7,18 @@ ghost use Rattle.journal_book.specs.Alone.{LeavesAlone};
 ghost use Rattle.journal_book.specs.Opening.{StandsNow};
 ghost use Rattle.journal_book.specs.Outputs.{AreCompleted, AreWritten};
 ghost use Rattle.book_runs.specs.GoesOn.{GoesOn, IsSameBook};
-ghost use Rattle.store_calls.specs.Calls.{IsEarlierIn, StandsOn};
+ghost use Rattle.book_runs.specs.Calls.{IsEarlierIn, StandsOn};
 ghost use Rattle.store_commands.specs.Ends.{AreWrittenAt};
 ghost use Rattle.store_commands.specs.Completed.{IsCompleted, IsFinished};
 
 use crate::end::end_of;
 use crate::printing::print_summary;
 use crate::{STEP_BYTES, StoreEnd};
+use book_runs::complete_outputs;
 use edge_traits::{Disk, Sink};
 use journal_book::Book;
 use std::alloc::Global;
 use step_code::Rules;
-use store_calls::complete_outputs;
 
 /// Makes the steps of a book durable, completes its outputs, and prints the summary of its state where that is asked for. It is
 /// a run of the book's calls that makes no step.

@@ -7,7 +7,7 @@ ghost use Rattle.journal_book.specs.Alone.{LeavesAlone};
 ghost use Rattle.journal_book.specs.Opening.{StandsNow};
 ghost use Rattle.journal_book.specs.Outputs.{AreWritten};
 ghost use Rattle.book_runs.specs.Commit.{commit_cause};
-ghost use Rattle.store_calls.specs.Calls.{IsEarlierIn, StandsOn};
+ghost use Rattle.book_runs.specs.Calls.{IsEarlierIn, StandsOn};
 ghost use Rattle.store_commands.specs.Ends.{AreWrittenAt};
 ghost use Rattle.store_commands.specs.Redone.{redo_step, IsRedoCall, IsRedoEnd, IsRedone, RedoesStep, Redid};
 

@@ -5,7 +5,7 @@ ghost use Rattle.step_code.specs.declared.step.Step.{Step};
 ghost use Rattle.store_image.specs.Stands.{Origin};
 ghost use Rattle.journal_book.specs.Alone.{IsBeside, LeavesAlone};
 ghost use Rattle.journal_book.specs.Opening.{StandsNow};
-ghost use Rattle.store_calls.specs.Calls.{StandsOn};
+ghost use Rattle.book_runs.specs.Calls.{StandsOn};
 ghost use Rattle.store_commands.specs.Ends.{IsShown};
 
 use crate::end::end_of;

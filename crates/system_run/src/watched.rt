@@ -1,5 +1,4 @@
 //! Adapters of the outside that say on a terminal what they were asked for.
-ghost use Rattle.std.specs.Prelude.{◌≡◌};
 
 use crate::progress::Progress;
 use base_types::Text;

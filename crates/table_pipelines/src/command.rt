@@ -18,7 +18,7 @@ pub struct Played {
     pub shelf: MemShelf,
 }
 
-/// Gives the words to the program, on the disk. What was to fail in it fails no more behind it.
+/// Gives the words to the program, on the disk. What was to fail in it fails no more after it.
 pub fn call(alloc: Global, outside: &mut Outside, words: &[Text]) -> Result<Played, OutOfMemory> {
     let mut shelf = shelf_of(alloc, outside)?;
     let mut out = sink_of(alloc, outside);

@@ -64,7 +64,7 @@ pub fn crashed(
     disk.image(alloc, after.min(disk.calls()), choice)
 }
 
-/// A crash of this name behind the last command.
+/// A crash of this name after the last command.
 pub fn crash(
     alloc: Global,
     outside: &mut Outside,

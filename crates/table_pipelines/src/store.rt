@@ -15,7 +15,7 @@ const GENERATION: u64 = 17;
 pub struct Store {
     /// The number of its steps, `none` where there is no store, or the status that tells why it isn't opened.
     pub steps: String,
-    /// The file of its output ahead of a command.
+    /// The file of its output before a command.
     pub output: Vec<u8>,
     /// The codes of its steps in their records, behind that of its state.
     pub journal: Vec<u8>,

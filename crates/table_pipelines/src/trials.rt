@@ -1,7 +1,7 @@
 //! `each-call WORDS; AGAIN`: a command is tried on the store as it is, where the disk stops after each number of calls, and where one
-//! call fails. Behind that the disk crashes just ahead of the call that failed or just behind it, in three ways, or doesn't crash. What
+//! call fails. After that the disk crashes just before the call that failed or just after it, in three ways, or doesn't crash. What
 //! is left has to be a store whose steps are a front of those that the undisturbed command makes, with all that were there before or
-//! were answered for, and no line of an output ahead of its step. Then the command is made again, or AGAIN where steps had been made
+//! were answered for, and no line of an output before its step. Then the command is made again, or AGAIN where steps had been made
 //! already: the outputs and the dumps have to be the undisturbed ones, in spite of any crash. AGAIN is `drain` where none is named.
 //! `each-stop` is the same without the calls that fail alone.
 ghost use Rattle.std.specs.Prelude.{◌<◌, length, IfSome};
@@ -53,7 +53,7 @@ pub enum DiskTrouble {
     Fails,
 }
 
-/// The rows of a trial. The disk is as it was behind it.
+/// The rows of a trial. The disk is as it was after it.
 pub fn each_call(
     alloc: Global,
     outside: &mut Outside,
@@ -231,7 +231,7 @@ fn put_found(row: &mut Row, found: &Found) -> Result<(), OutOfMemory> {
     Ok(())
 }
 
-// Calls of the disk that were made behind the one that failed: there are none, and nothing is put.
+// Calls of the disk that were made after the one that failed: there are none, and nothing is put.
 fn put_further(row: &mut Row, calls: u64) -> Result<(), OutOfMemory> {
     if calls > 1 {
         write!(row.text, ", {} further calls", calls - 1)?;

@@ -52,7 +52,7 @@ fn make_good(rt: &impl Abort, disk: &mut FolderDisk<Machine>, call: Call) -> boo
     failed
 }
 
-// Makes the calls one after the other. Behind each sync all is durable. Answers how many of them failed.
+// Makes the calls one after the other. After each sync all is durable. Answers how many of them failed.
 fn make_all(
     rt: &impl Abort,
     world: &RefCell<World>,

@@ -1,10 +1,9 @@
 //! The drill's shelf: the feed that is made, and nothing else.
 use crate::same::same;
 use base_types::{NumberList, Text};
-use drill_feed::DrillShelf;
 use edge_memory::MemSink;
 use edge_traits::{Shelf, ShelfFault, Source};
-use feed_maker::make_feed;
+use feed_maker::{DrillShelf, make_feed};
 use std::alloc::Global;
 use std::process::Abort;
 use std::test::Fail;

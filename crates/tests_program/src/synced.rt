@@ -35,7 +35,7 @@ fn run_failing<'w>(
     Ok(run(&Machine::new(alloc, words, world, usize::MAX), false))
 }
 
-// Nothing was changed ahead of what it rests on.
+// Nothing was changed before what it rests on.
 fn check_order(rt: &impl Abort, world: &RefCell<World>) -> Result<(), Fail> {
     let world = world.try_borrow()?;
     assert_eq!(rt; world.early(), "", "{}", world.log());
@@ -72,7 +72,7 @@ fn a_store_is_made_durable(rt: HostRuntime) -> Result<(), Fail> {
     Ok(())
 }
 
-// Behind an `init` that failed a store can be made, or it was made.
+// After an `init` that failed a store can be made, or it was made.
 fn check_again(rt: &impl Abort, alloc: Global, world: &RefCell<World>) -> Result<(), Fail> {
     match run_failing(alloc, INIT, world, 0)? {
         0 => Ok(()),

@@ -7,7 +7,7 @@ use Rattle.journal_book.specs.Book.{BookView}
 use Rattle.journal_book.specs.Opening.{StandsNow}
 use Rattle.journal_book.proofs.Alone.{alone_on, reads_alone}
 use Rattle.journal_book.proofs.Recovering.{reads_keep}
-use Rattle.store_calls.proofs.Called.{stands_read}
+use Rattle.book_runs.proofs.Called.{stands_read}
 use Rattle.audit_command.specs.Audited.{IsAuditOf}
 use Rattle.audit_command.specs.declared.end.AuditEnd.{AuditEnd}
 use Rattle.audit_command.proofs.Telling.{told_closed, told_fault, told_of}

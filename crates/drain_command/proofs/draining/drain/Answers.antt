@@ -2,8 +2,8 @@ use Rattle.std.proofs.Common.{ℕ, Result, Err, IfErr, sym, ap, subst, ◌∙◌
 use Rattle.journal_book.specs.Alone.{LeavesAlone}
 use Rattle.journal_book.specs.Book.{BookView}
 use Rattle.book_runs.proofs.Going.{goes_nowhere}
-use Rattle.store_calls.specs.Calls.{IsEarlierIn}
-use Rattle.store_calls.proofs.Called.{left_closed, left_open}
+use Rattle.book_runs.specs.Calls.{IsEarlierIn}
+use Rattle.book_runs.proofs.Called.{left_closed, left_open}
 use Rattle.store_commands.specs.declared.end.StoreEnd.{StoreEnd}
 use Rattle.store_commands.specs.declared.end.StoreEnd.TheVariants as end
 use Rattle.drain_turns.specs.declared.end.TurnsEnd.{TurnsEnd}

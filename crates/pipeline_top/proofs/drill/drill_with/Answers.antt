@@ -2,7 +2,7 @@ use Rattle.std.proofs.Common.{◌≡◌, ◌≢◌, ◌≤◌, ℕ, List, [], �
 use Rattle.edge_traits.specs.Shelf.{ShelfView, count_on}
 use Rattle.edge_traits.proofs.Outputs.{Took-nothing}
 use Rattle.bot_rules.specs.Intel.{intel}
-use Rattle.drill_feed.specs.Drill.{drill_shelf, feed_name}
+use Rattle.feed_maker.specs.Drill.{drill_shelf, feed_name}
 use Rattle.store_commands.specs.Begun.{IsBegun, IsNewStore}
 use Rattle.store_commands.specs.declared.end.StoreEnd.{StoreEnd}
 use Rattle.store_commands.specs.declared.end.StoreEnd.TheVariants as end

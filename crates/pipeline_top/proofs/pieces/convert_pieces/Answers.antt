@@ -6,8 +6,8 @@ use Rattle.edge_traits.specs.Output.{Moved}
 use Rattle.edge_traits.proofs.Outputs.{TookFront-rest}
 use Rattle.feed_reader.specs.Ahead.{behind, IsPlainAhead}
 use Rattle.feed_reader.specs.declared.ahead.Ahead.TheVariants as ahead
-use Rattle.pipeline_top.specs.Convert.{conversion, converted, end_at, end_from, convert_bot, put_line, behind_line}
-use Rattle.pipeline_top.specs.Line.{converted_unless, end_unless}
+use Rattle.pipeline_top.specs.Convert.{conversion, conversion_from, end_at, end_from, convert_bot, put_line, behind_line}
+use Rattle.pipeline_top.specs.Line.{conversion_unless, end_unless}
 use Rattle.status_texts.specs.declared.status.Status.TheVariants as status
 use Rattle.pipeline_top.proofs.Ahead.{ahead_here, piece_comes, long_comes}
 use Rattle.pipeline_top.proofs.LineEnds.{Moved-then, line_of-long}
@@ -19,7 +19,7 @@ returns-in_err-end-in-Piece-clause-front g c = λ content told.
     let later = lines_of (drop cut.upto content) in
     let here = ahead_here (ahead.Piece cut) c.pieces.reader.rule content c.pieces.reader.at place.at kept.rule kept.at (sym c.in-Piece.is ∙ c.in_ok-cut.ensures.next content (kept.told ∙ told)) in
     let comes = piece_comes content place.at cut here ∙ ap (λ p. lines_of p ++ later) (sym c.bytes-piece.ensures) in
-    let moved = subst (λ ls. Moved (g.S.Sink.sink c.args.out.now) (g.S.Sink.sink c.pieces.out) (c.args.buffer.now ++ conversion content) (c.pieces.buffer ++ converted place ls)) comes (kept.moved content told) in
+    let moved = subst (λ ls. Moved (g.S.Sink.sink c.args.out.now) (g.S.Sink.sink c.pieces.out) (c.args.buffer.now ++ conversion content) (c.pieces.buffer ++ conversion_from place ls)) comes (kept.moved content told) in
     MatchResult-from_err c.from_residual-in_err-end-in-Piece.result _ _ c.from_residual-in_err-end-in-Piece.ensures.0
     (λ e. TookFront-rest moved (c.in_err-end-in-Piece.ensures.front later))
 
@@ -37,10 +37,10 @@ returns-in-Some-clause-written g c = λ content told.
     let later = lines_of (drop cut.upto content) in
     let here = ahead_here (ahead.Piece cut) c.pieces.reader.rule content c.pieces.reader.at place.at kept.rule kept.at (sym c.in-Piece.is ∙ c.in_ok-cut.ensures.next content (kept.told ∙ told)) in
     let comes = piece_comes content place.at cut here ∙ ap (λ p. lines_of p ++ later) (sym c.bytes-piece.ensures) in
-    let moved = subst (λ ls. Moved (g.S.Sink.sink c.args.out.now) (g.S.Sink.sink c.pieces.out) (c.args.buffer.now ++ conversion content) (c.pieces.buffer ++ converted place ls)) comes (kept.moved content told) in
+    let moved = subst (λ ls. Moved (g.S.Sink.sink c.args.out.now) (g.S.Sink.sink c.pieces.out) (c.args.buffer.now ++ conversion content) (c.pieces.buffer ++ conversion_from place ls)) comes (kept.moved content told) in
     let buffer = c.convert_piece.new.buffer in
     subst (Moved (g.S.Sink.sink c.args.out.now) (g.S.Sink.sink c.convert_piece.new.out) (c.args.buffer.now ++ conversion content))
-    (ap (λ o. buffer ++ converted_unless o c.in_ok-end-in-Piece.behind later) c.in-Some.is ∙ append-nil buffer)
+    (ap (λ o. buffer ++ conversion_unless o c.in_ok-end-in-Piece.behind later) c.in-Some.is ∙ append-nil buffer)
     (Moved-then moved (c.in_ok-end-in-Piece.ensures.written later))
 
 pub pieces-preserved : goal.pieces-preserved
@@ -54,9 +54,9 @@ pieces-preserved g c =
           let later = lines_of (drop cut.upto content) in
           let here = ahead_here (ahead.Piece cut) c.pieces.reader.rule content c.pieces.reader.at place.at kept.rule kept.at (sym c.in-Piece.is ∙ c.in_ok-cut.ensures.next content (kept.told ∙ told)) in
           let comes = piece_comes content place.at cut here ∙ ap (λ p. lines_of p ++ later) (sym c.bytes-piece.ensures) in
-          let moved = subst (λ ls. Moved (g.S.Sink.sink c.args.out.now) (g.S.Sink.sink c.pieces.out) (c.args.buffer.now ++ conversion content) (c.pieces.buffer ++ converted place ls)) comes (kept.moved content told) in
+          let moved = subst (λ ls. Moved (g.S.Sink.sink c.args.out.now) (g.S.Sink.sink c.pieces.out) (c.args.buffer.now ++ conversion content) (c.pieces.buffer ++ conversion_from place ls)) comes (kept.moved content told) in
           subst (Moved (g.S.Sink.sink c.args.out.now) (g.S.Sink.sink c.convert_piece.new.out) (c.args.buffer.now ++ conversion content))
-          (ap (λ o. buffer ++ converted_unless o now later) c.in_default.is ∙ ap (λ n. buffer ++ converted now (lines_of (drop n content))) (sym upto))
+          (ap (λ o. buffer ++ conversion_unless o now later) c.in_default.is ∙ ap (λ n. buffer ++ conversion_from now (lines_of (drop n content))) (sym upto))
           (Moved-then moved (c.in_ok-end-in-Piece.ensures.written later));
       end = λ content told.
           let kept = c.pieces.invariant in let place = c.pieces.place in let cut = c.in-Piece.cut in let piece = c.bytes-piece.result.now in
@@ -88,5 +88,5 @@ returns-in-LongLine-clause-written g c = λ content told.
     let here = ahead_here (ahead.LongLine at) c.pieces.reader.rule content c.pieces.reader.at place.at kept.rule kept.at (sym c.in-LongLine.is ∙ c.in_ok-cut.ensures.next content (kept.told ∙ told)) in
     let l = long_comes content place.at at here in
     subst (Moved (g.S.Sink.sink c.args.out.now) (g.S.Sink.sink c.pieces.out) (c.args.buffer.now ++ conversion content))
-    (ap (λ ls. c.pieces.buffer ++ converted place ls) l.lines ∙ ap (λ r. c.pieces.buffer ++ put_line r (converted (behind_line place l.first) l.later)) (line_of-long place l.first l.long) ∙ append-nil c.pieces.buffer)
+    (ap (λ ls. c.pieces.buffer ++ conversion_from place ls) l.lines ∙ ap (λ r. c.pieces.buffer ++ put_line r (conversion_from (behind_line place l.first) l.later)) (line_of-long place l.first l.long) ∙ append-nil c.pieces.buffer)
     (kept.moved content told)

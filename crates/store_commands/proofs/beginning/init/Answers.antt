@@ -3,7 +3,7 @@ use Rattle.step_code.specs.declared.base.Base.{Base}
 use Rattle.step_code.specs.History.{first}
 use Rattle.state_texts.specs.Texts.{summary}
 use Rattle.journal_book.specs.Book.{BookView}
-use Rattle.store_calls.specs.Calls.{IsFirstOf}
+use Rattle.book_runs.specs.Calls.{IsFirstOf}
 use Rattle.journal_book.specs.Alone.{IsBesideNew, LeavesAlone}
 use Rattle.store_commands.specs.Begun.{IsBegun, IsMade}
 use Rattle.store_commands.specs.Ends.{IsPrinted}

@@ -3,8 +3,8 @@ use Rattle.journal_book.specs.Alone.{LeavesAlone}
 use Rattle.journal_book.specs.Book.{BookView}
 use Rattle.journal_book.specs.Opening.{StandsNow}
 use Rattle.journal_book.specs.Outputs.{AreWritten}
-use Rattle.store_calls.specs.Calls.{IsEarlierIn, IsOpened, StandsOn}
-use Rattle.store_calls.proofs.Called.{left_closed, left_open, opened_so, still_stands}
+use Rattle.book_runs.specs.Calls.{IsEarlierIn, IsOpened, StandsOn}
+use Rattle.book_runs.proofs.Called.{left_closed, left_open, opened_so, still_stands}
 use Rattle.store_commands.specs.Completed.{IsCompleted}
 use Rattle.store_commands.specs.Ends.{AreWrittenAt, IsOpenIn}
 use Rattle.store_commands.specs.declared.end.StoreEnd.{StoreEnd}

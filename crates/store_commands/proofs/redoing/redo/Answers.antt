@@ -4,8 +4,8 @@ use Rattle.journal_book.specs.Book.{BookView}
 use Rattle.journal_book.specs.Opening.{StandsNow}
 use Rattle.journal_book.specs.Outputs.{AreWritten}
 use Rattle.book_runs.specs.Commit.{commit_cause}
-use Rattle.store_calls.specs.Calls.{IsEarlierIn, IsOpened, StandsOn}
-use Rattle.store_calls.proofs.Called.{left_closed, left_open, opened_so}
+use Rattle.book_runs.specs.Calls.{IsEarlierIn, IsOpened, StandsOn}
+use Rattle.book_runs.proofs.Called.{left_closed, left_open, opened_so}
 use Rattle.store_commands.specs.Ends.{AreWrittenAt}
 use Rattle.store_commands.specs.Redone.{cause_in, redo_step, IsAsked, IsRedoCall, IsRedone, RedoesStep}
 use Rattle.store_commands.specs.declared.end.StoreEnd.{StoreEnd}

@@ -4,7 +4,7 @@ use Rattle.store_image.specs.Stands.{StandsFor}
 use Rattle.journal_book.specs.Alone.{IsBeside, LeavesAlone}
 use Rattle.journal_book.specs.Book.{BookView}
 use Rattle.journal_book.specs.Opening.{StandsNow}
-use Rattle.store_calls.proofs.Called.{stands_read}
+use Rattle.book_runs.proofs.Called.{stands_read}
 use Rattle.store_commands.specs.Ends.{IsOpenIn, IsShown}
 use Rattle.store_commands.specs.declared.end.StoreEnd.{StoreEnd}
 use Rattle.store_commands.proofs.Telling.{shown_fault, shown_open}

@@ -33,5 +33,5 @@ returns-in-Err-Disk-clause-grows g c =
     let none = ap (λ (v : LockedView _ _). v.mark) c.self.view_is ∙ c.requires.unmarked in
     let fault = c.in-Err-Disk.ensures.disk (ap (λ e. Err e) c.in-Err-Disk.field-0-is) in
     let opening = inside.opening.value in
-    subst (λ (v : LockedView _ _). IsPrefix (entries_of v) (entries_of (record { opening = opening; made = made_since opening new; book = new; mark = Some mark.Broken }))) c.self.view_is
-    (mark_grows opening old new (made_since opening old) (made_since opening new) inside.mark mark.Broken none (ap (λ (b : BookView _ _). drop (length opening.steps) b.steps) fault))
+    subst (λ (v : LockedView _ _). IsPrefix (entries_of g.R.Rules.meaning v) (entries_of g.R.Rules.meaning (record { opening = opening; made = made_since opening new; book = new; mark = Some mark.Broken }))) c.self.view_is
+    (mark_grows g.R.Rules.meaning opening old new (made_since opening old) (made_since opening new) inside.mark mark.Broken none (ap (λ (b : BookView _ _). drop (length opening.steps) b.steps) fault))

@@ -11,5 +11,5 @@ returns-clause-grows g c =
     let inside = c.self.inside in
     let made = made_since inside.opening.value inside.book in
     let none = ap (λ (v : LockedView _ _). v.mark) c.self.view_is ∙ c.requires.unmarked in
-    subst (λ (v : LockedView _ _). IsPrefix (entries_of v) (entries_of (record { opening = inside.opening.value; made = made; book = inside.book; mark = Some mark.Stop }))) c.self.view_is
-    (mark_grows inside.opening.value inside.book inside.book made made inside.mark mark.Stop none refl)
+    subst (λ (v : LockedView _ _). IsPrefix (entries_of g.R.Rules.meaning v) (entries_of g.R.Rules.meaning (record { opening = inside.opening.value; made = made; book = inside.book; mark = Some mark.Stop }))) c.self.view_is
+    (mark_grows g.R.Rules.meaning inside.opening.value inside.book inside.book made made inside.mark mark.Stop none refl)

@@ -1,4 +1,0 @@
--- what public contracts cite
-pub mod Drill
--- what only proofs use
-pub mod Held
