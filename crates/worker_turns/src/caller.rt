@@ -1,0 +1,30 @@
+//! The hold of who waits for the workers: it makes steps durable while no more come.
+ghost use Rattle.std.specs.Prelude.{◌≡◌, ◌≢◌, [], None, IfOk, IfErr, OnOk};
+ghost use Rattle.worker_turns.specs.Holds.{IsEnd, Marks};
+
+use crate::HoldEnd;
+use edge_traits::{Disk, Failed};
+use locked_book::Locked;
+use step_code::Rules;
+
+/// The hold of who waits for the workers. Where no step came since the hold before, which found `seen` of them in the history, all steps are
+/// made durable. Answers how many there are.
+pub fn caller_turn<D: Disk, R: Rules>(locked: &mut Locked<D, R>, seen: u64) -> Result<u64, HoldEnd>
+    // Nothing is done once the round has a mark.
+    ensures still { locked.old.mark ≢ None → locked.new ≡ locked.old }
+    ensures marks { locked.old.mark ≡ None → Marks R.meaning locked.old locked.new [] [] }
+    ensures unmarked { OnOk result (locked.new.mark ≡ None) }
+    ensures at { IfOk result (λ at. at ≡ locked.new.book.state.steps) }
+    ensures end { IfErr result (IsEnd None locked.old locked.new) }
+{
+    if let Some(mark) = locked.mark() {
+        return Err(HoldEnd::Found(mark));
+    }
+    let at = locked.core().steps();
+    if at == seen {
+        if let Err(Failed) = locked.flush() {
+            return Err(HoldEnd::Disk);
+        }
+    }
+    Ok(at)
+}
