@@ -37,6 +37,7 @@ use Rattle.book_runs.specs.declared.committing.CommitFault.{CommitFault}
 use Rattle.book_runs.specs.declared.committing.CommitFault.TheVariants as fault
 use Rattle.book_runs.proofs.Going.{goes_further, goes_nowhere}
 use Rattle.book_runs.proofs.Ways.{sealed_parts}
+use Rattle.drain_turns.proofs.Screened.{screened_fits}
 use Rattle.drain_turns.specs.Drained.{begins_next, behind, bytes_behind, in_next, past, ready, refused, way_refused, Drains, Ends, IsBusy, IsDue, IsMade, IsNextKind, Place}
 use Rattle.drain_turns.specs.Moves.{IsMoveOf}
 use Rattle.drain_turns.specs.Turn.{Outside, IsStepOf, IsTurn, MayShow}
@@ -81,22 +82,6 @@ screened_act m s now turn (kind.Fail bot instance message bundle note queues hal
 screened_act m s now turn (kind.Reload bundle) is = is
 screened_act m s now turn (kind.Redo dump) is = is
 screened_act m s now turn (kind.Round bot) is = is
-
-pub screened_fits : (m : Meaning) (s : Base) (now : ℕ) (what : StepKind) → first_failing (parts m s what) ≡ None → first_failing (parts m s (screened m s now what)) ≡ None
-screened_fits m s now kind.Start fits = fits
-screened_fits m s now (kind.Collect bot from upto piece) fits = fits
-screened_fits m s now (kind.FeedEnd bot position) fits = fits
-screened_fits m s now (kind.Take bot instance message) fits = fits
-screened_fits m s now (kind.Done bot instance message bundle sends dumps key line) fits = go (is_duplicate m s bot now key)
-  where
-    go : (b : Bool) → first_failing (parts m s (if b then kind.Done bot instance message bundle [] dumps None line else kind.Done bot instance message bundle sends dumps key line)) ≡ None
-    go true = fits
-    go false = fits
-screened_fits m s now (kind.Retry bot instance message bundle note) fits = fits
-screened_fits m s now (kind.Fail bot instance message bundle note queues halts) fits = fits
-screened_fits m s now (kind.Reload bundle) fits = fits
-screened_fits m s now (kind.Redo dump) fits = fits
-screened_fits m s now (kind.Round bot) fits = fits
 
 -- ---- the step of a turn's move
 

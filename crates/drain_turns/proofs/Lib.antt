@@ -7,5 +7,6 @@ mod One
 mod OneDrain
 pub mod Opened
 mod Readied
+pub mod Screened
 pub mod Turning
 pub mod Working

@@ -1,5 +1,5 @@
 -- A generation that is left behind for the next one, which begins with all lines sealed.
-use Rattle.std.proofs.Common.{◌≡◌, ◌≤◌, ◌+◌, ℕ, suc, Bool, true, false, List, [], ◌∷◌, ◌++◌, length, take, map, Some, refl, sym, ap, subst, ◌∙◌, arith, append_assoc, length-append, take_all}
+use Rattle.std.proofs.Common.{◌≡◌, ◌≤◌, ◌+◌, ℕ, suc, Bool, true, false, List, [], ◌∷◌, ◌++◌, length, take, map, Some, refl, sym, ap, subst, ◌∙◌, arith, length-append, take_all}
 use Rattle.std.specs.List.{AllByRecursion, slice_get}
 use Rattle.std.proofs.lemmas.List.{append-nil, length-take}
 use Rattle.core_state.specs.Sealing.{sealed_out, sealed_whole}
@@ -14,13 +14,14 @@ use Rattle.step_code.specs.Rules.{Meaning}
 use Rattle.step_code.specs.Sound.{longest_base}
 use Rattle.store_image.specs.Files.{generation_file, out_file}
 use Rattle.store_image.specs.Opens.{AreLong}
-use Rattle.store_image.specs.Stands.{behind, joined, AreArchived, AreSealedFrom, FrontStands, FrontsStand, IsArchive, IsSealedFrom, IsSealOf, IsUnsealed, Origin, Stands, WhereWhole}
+use Rattle.store_image.specs.Stands.{behind, AreArchived, AreSealedFrom, FrontStands, FrontsStand, IsArchive, IsSealedFrom, IsSealOf, IsUnsealed, Origin, Stands, WhereWhole}
 use Rattle.store_image.specs.Stored.{HoldsSteps, IsStored}
 use Rattle.store_image.proofs.Standing.{below_same, replay-append}
 use Rattle.store_image.specs.Renewed.{AreAllLines}
 use Rattle.store_image.proofs.Histories.{seals, seals_on}
 use Rattle.store_image.proofs.Sealed.{text_length}
 use Rattle.store_image.proofs.Unsealed.{unsealed_replay}
+use Rattle.store_image.proofs.Whole.{joined_more}
 
 -- ---- all lines sealed
 
@@ -46,10 +47,6 @@ archived_more m image h s (x ∷ held) base steps each here seal =
 behind_more : (m : Meaning) (s : Base) (held : List (Base × List Step)) (base : Base) (steps : List Step) → behind m s (held ++ (base, steps) ∷ []) ≡ replay m base steps
 behind_more m s [] base steps = refl
 behind_more m s (x ∷ held) base steps = behind_more m (replay m x.0 x.1) held base steps
-
-joined_more : (held : List (Base × List Step)) (base : Base) (steps : List Step) → joined (held ++ (base, steps) ∷ []) ≡ joined held ++ steps
-joined_more [] base steps = append-nil steps
-joined_more (x ∷ held) base steps = ap (λ ss. x.1 ++ ss) (joined_more held base steps) ∙ sym (append_assoc x.1 (joined held) steps)
 
 -- the generation in force becomes an earlier one
 below_more : (whole : Bool) (m : Meaning) (first : Base) (g : ℕ) (base next : Base) (history past steps : List Step) (image : Image) → history ≡ past ++ steps → HoldsSteps g (image (generation_file g)) base steps

@@ -21,7 +21,7 @@ held_more : (image : Image) (h : ℕ) (held : List (Base × List Step)) (base : 
 held_more image h [] base steps each here = (subst (λ (n : ℕ). HoldsSteps n (image (generation_file n)) base steps) (omega arith) here, tt)
 held_more image h (x ∷ held) base steps each here = (each.0, held_more image (suc h) held base steps each.1 (subst (λ (n : ℕ). HoldsSteps n (image (generation_file n)) base steps) (omega arith) here))
 
-joined_more : (held : List (Base × List Step)) (base : Base) (steps : List Step) → joined (held ++ (base, steps) ∷ []) ≡ joined held ++ steps
+pub joined_more : (held : List (Base × List Step)) (base : Base) (steps : List Step) → joined (held ++ (base, steps) ∷ []) ≡ joined held ++ steps
 joined_more [] base steps = append-nil steps
 joined_more (x ∷ held) base steps = ap (λ ss. x.1 ++ ss) (joined_more held base steps) ∙ sym (append_assoc x.1 (joined held) steps)
 

@@ -1,5 +1,5 @@
 -- Holds, one step behind the other, and what is known behind them.
-use Rattle.std.proofs.Common.{◌≡◌, inl, inr, ◌+◌, ◌&&◌, ℕ, suc, Bool, true, false, not, IsSome, IfSome, IsSomeAnd, List, [], ◌∷◌, ◌++◌, find, Option, Some, None, refl, sym, ap, subst, ◌∙◌, append_assoc, arith, if◌then◌else◌}
+use Rattle.std.proofs.Common.{◌≡◌, inl, inr, ◌+◌, ◌<◌, ◌&&◌, ℕ, suc, Bool, true, false, not, IsSome, IfSome, IsSomeAnd, List, [], ◌∷◌, ◌++◌, length, length-append, find, Option, Some, None, refl, sym, ap, subst, ◌∙◌, append_assoc, arith, if◌then◌else◌}
 use Rattle.std.proofs.lemmas.Bool.{eq-eqb}
 use Rattle.std.proofs.lemmas.List.{append-nil}
 use Rattle.std.proofs.lemmas.Slice.Eq.{bytes_eq-Decides}
@@ -67,7 +67,7 @@ module _ {D R : Type 0} {m : Meaning} {clock : Option ℕ} {what : StepKind} {ol
 
 -- ---- what a hold adds
 
-own_on : (m : Meaning) (Is : Base → Step → Type 0) (s : Base) (front rest : List Step) → AreOwnFrom m Is s front → AreOwnFrom m Is (replay m s front) rest → AreOwnFrom m Is s (front ++ rest)
+pub own_on : (m : Meaning) (Is : Base → Step → Type 0) (s : Base) (front rest : List Step) → AreOwnFrom m Is s front → AreOwnFrom m Is (replay m s front) rest → AreOwnFrom m Is s (front ++ rest)
 own_on m Is s [] rest own more = more
 own_on m Is s (step ∷ front) rest own more = (own.0, own_on m Is (after m s step) front rest own.1 more)
 
@@ -151,6 +151,22 @@ module _ {D R : Type 0} {m : Meaning} {Is : Base → Step → Type 0} where
   pub ready_later : {W : Type 0} (task_of : W → Task) (old new : LockedView D R) (noted notes : List ℕ) (bot : List ℕ) (ready : Option (Ready W)) → Adds m Is old new noted notes → IfSome ready (IsReadyFor m task_of old bot) → IfSome ready (IsReadyFor m task_of new bot)
   ready_later task_of old new noted notes bot None adds is = tt
   ready_later task_of old new noted notes bot (Some r) adds is = record { bot_is = is.bot_is; was = was_later old new noted notes r.bundle (task_of r.work).bundle adds is.was }
+
+-- ---- a step that was made
+
+length_more : (front more : List Step) (n : ℕ) → n < length front → n < length (front ++ more)
+length_more front more n less = let sum = length-append front more in omega (arith, less, sum)
+
+module _ {D R : Type 0} {m : Meaning} where
+  -- makes the steps of the round more
+  pub one_more : {clock : Option ℕ} {what : StepKind} {old new : LockedView D R} {noted notes : List ℕ} (c : Commits m clock what old new noted notes) → length old.made < length new.made
+  one_more {what = what} {old = old} c = let sum = ap length c.made ∙ length-append old.made (staged m old.book.state c.now what ∷ []) in omega (arith, sum)
+
+  -- which they are still behind a further hold
+  pub more_still : {Is : Base → Step → Type 0} {X : Type 0} (old mid new : LockedView D R) (noted notes : List ℕ) (found : Option X) (Due : X → Type 0) → Adds m Is mid new noted notes
+      → IfSome found (λ x. Due x → length old.made < length mid.made) → IfSome found (λ x. Due x → length old.made < length new.made)
+  more_still old mid new noted notes None Due adds moves = tt
+  more_still old mid new noted notes (Some x) Due adds moves = λ due. subst (λ (ss : List Step). length old.made < length ss) (sym adds.made) (length_more mid.made adds.added (length old.made) (moves due))
 
 -- ---- the bundle in force
 

@@ -1,39 +1,21 @@
 -- What refuses a step that fits.
-use Rattle.std.proofs.Common.{◌≡◌, ℕ, Bool, true, false, nat_lt, List, [], Option, Some, None, refl, sym, ap, subst, ◌∙◌, if◌then◌else◌}
+use Rattle.std.proofs.Common.{◌≡◌, ℕ, Bool, true, false, nat_lt, List, [], Option, Some, None, sym, ap, subst, ◌∙◌, if◌then◌else◌}
 use Rattle.step_code.specs.declared.base.Base.{Base}
 use Rattle.step_code.specs.declared.step.Step.{Step}
 use Rattle.step_code.specs.declared.step.StepKind.{StepKind}
-use Rattle.step_code.specs.declared.step.StepKind.TheVariants as kind
-use Rattle.step_code.specs.Content.{is_duplicate}
 use Rattle.step_code.specs.Fits.{first_failing, parts}
 use Rattle.step_code.specs.Rules.{Meaning}
 use Rattle.step_code.specs.Spent.{spent}
-use Rattle.journal_book.specs.Staged.{bytes_with, first_cause, screened, staged, stamp, step_cause}
+use Rattle.journal_book.specs.Staged.{bytes_with, first_cause, staged, stamp, step_cause}
 use Rattle.journal_book.specs.declared.stage_refusal.StageRefusal.{StageRefusal}
 use Rattle.journal_book.specs.declared.stage_refusal.StageRefusal.TheVariants as refusal
+use Rattle.drain_turns.proofs.Screened.{parts_screened}
 use Rattle.locked_book.specs.Locked.{mark_of, IsHoldFault}
 use Rattle.locked_book.specs.declared.entry.EndMark.{EndMark}
 use Rattle.locked_book.specs.declared.hold_fault.HoldFault.{HoldFault}
 use Rattle.locked_book.specs.declared.hold_fault.HoldFault.TheVariants as fault
 use Rattle.worker_turns.specs.Holds.{end_of, IsFaultEnd, IsLateFault}
 use Rattle.worker_turns.specs.declared.turned.HoldEnd.{HoldEnd}
-
--- a duplicate's step fits where the other does
-parts_screened : (m : Meaning) (s : Base) (now : ℕ) (what : StepKind) → parts m s (screened m s now what) ≡ parts m s what
-parts_screened m s now kind.Start = refl
-parts_screened m s now (kind.Collect bot from upto piece) = refl
-parts_screened m s now (kind.FeedEnd bot position) = refl
-parts_screened m s now (kind.Take bot instance message) = refl
-parts_screened m s now (kind.Done bot instance message bundle sends dumps key line) = go (is_duplicate m s bot now key)
-  where
-    go : (d : Bool) → parts m s (if d then kind.Done bot instance message bundle [] dumps None line else kind.Done bot instance message bundle sends dumps key line) ≡ parts m s (kind.Done bot instance message bundle sends dumps key line)
-    go true = refl
-    go false = refl
-parts_screened m s now (kind.Retry bot instance message bundle note) = refl
-parts_screened m s now (kind.Fail bot instance message bundle note queues halts) = refl
-parts_screened m s now (kind.Reload bundle) = refl
-parts_screened m s now (kind.Redo dump) = refl
-parts_screened m s now (kind.Round bot) = refl
 
 -- a number or a length, or nothing
 abbrev IsLate : Option StageRefusal → Type 0

@@ -76,9 +76,9 @@ module _ {D R : Type 0} (m : Meaning) where
       }
 
   -- what was found at a place of a feed
-  pub sight_seen : (v later : LockedView D R) (bot : List ℕ) (sight : Sight) → IsPrefix (entries_of m v) (entries_of m later) → IsSight m v bot sight → IsSight m later bot sight
-  sight_seen v later bot sight prefix is = record {
-    place = record { bundle = is.place.bundle; was = was_seen v later _ _ prefix is.place.was; facts = is.place.facts; near = is.place.near; some = is.place.some; chunk = is.place.chunk };
+  pub sight_seen : (v later : LockedView D R) (bot file : List ℕ) (sight : Sight) → IsPrefix (entries_of m v) (entries_of m later) → IsSight m v bot file sight → IsSight m later bot file sight
+  sight_seen v later bot file sight prefix is = record {
+    place = record { bundle = is.place.bundle; was = was_seen v later _ _ prefix is.place.was; facts = is.place.facts; file_is = is.place.file_is; near = is.place.near; some = is.place.some; chunk = is.place.chunk };
     ahead = is.ahead;
     there = is.there;
   }

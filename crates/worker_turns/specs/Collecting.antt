@@ -1,5 +1,5 @@
 -- What a hold of a collector does, and what the collector knows between two of them.
-use Rattle.std.specs.Prelude.{◌≡◌, ◌≢◌, ◌⊎◌, ◌≤◌, ℕ, true, false, List, [], Option, Some, None, IfSome, option_and_then, unwrap_or}
+use Rattle.std.specs.Prelude.{◌≡◌, ◌≢◌, ◌⊎◌, ◌<◌, ◌≤◌, ℕ, true, false, List, [], length, Option, Some, None, IfSome, IsSomeAnd, option_and_then, unwrap_or}
 use Rattle.report_cut.specs.Pieces.{longest_line}
 use Rattle.step_code.specs.declared.base.Base.{Base}
 use Rattle.step_code.specs.declared.rules.FeedFacts.{FeedFacts}
@@ -35,38 +35,39 @@ feed_under m bundle bot = option_and_then (λ f. f.feed) (bot_named bot (unwrap_
 abbrev pub StandsAt : Option (List ℕ) → FeedFacts → ℕ → Found → Type 0
 StandsAt content facts at what = IfSome content (λ told. what ≡ found_at (rule_of facts) (Some told) at)
 
--- a step of a collector collects what stands at its position in its feed, or finds the feed's end there
-abbrev pub IsFoundBy : Meaning → Option (List ℕ) → List ℕ → Base → StepKind → Type 0
-IsFoundBy m content bot s kind.Start = ⊥
-IsFoundBy m content bot s (kind.Collect other from upto piece) =
-    (other ≡ bot) × (from ≡ position_of bot s) × IfSome (feed_under m s.bundle bot) (λ facts. StandsAt content facts from (found.Piece (record { piece = piece; upto = upto })))
-IsFoundBy m content bot s (kind.FeedEnd other position) =
-    (other ≡ bot) × (position ≡ position_of bot s) × IfSome (feed_under m s.bundle bot) (λ facts. StandsAt content facts position found.End)
-IsFoundBy m content bot s (kind.Take other i message) = ⊥
-IsFoundBy m content bot s (kind.Done other i message bundle sends dumps key line) = ⊥
-IsFoundBy m content bot s (kind.Retry other i message bundle fault) = ⊥
-IsFoundBy m content bot s (kind.Fail other i message bundle fault queues halts) = ⊥
-IsFoundBy m content bot s (kind.Reload bundle) = ⊥
-IsFoundBy m content bot s (kind.Redo dump) = ⊥
-IsFoundBy m content bot s (kind.Round other) = ⊥
+-- a step of a collector collects what stands at its position in its feed, or finds the feed's end there: it reads one, of this name
+abbrev pub IsFoundBy : Meaning → Option (List ℕ) → List ℕ → List ℕ → Base → StepKind → Type 0
+IsFoundBy m content bot file s kind.Start = ⊥
+IsFoundBy m content bot file s (kind.Collect other from upto piece) =
+    (other ≡ bot) × (from ≡ position_of bot s) × IsSomeAnd (feed_under m s.bundle bot) (λ facts. (facts.file ≡ file) × StandsAt content facts from (found.Piece (record { piece = piece; upto = upto })))
+IsFoundBy m content bot file s (kind.FeedEnd other position) =
+    (other ≡ bot) × (position ≡ position_of bot s) × IsSomeAnd (feed_under m s.bundle bot) (λ facts. (facts.file ≡ file) × StandsAt content facts position found.End)
+IsFoundBy m content bot file s (kind.Take other i message) = ⊥
+IsFoundBy m content bot file s (kind.Done other i message bundle sends dumps key line) = ⊥
+IsFoundBy m content bot file s (kind.Retry other i message bundle fault) = ⊥
+IsFoundBy m content bot file s (kind.Fail other i message bundle fault queues halts) = ⊥
+IsFoundBy m content bot file s (kind.Reload bundle) = ⊥
+IsFoundBy m content bot file s (kind.Redo dump) = ⊥
+IsFoundBy m content bot file s (kind.Round other) = ⊥
 
 -- and its moment is the one that the clock shows
-pub record IsCollectorStep (m : Meaning) (clock : Option ℕ) (content : Option (List ℕ)) (bot : List ℕ) (s : Base) (step : Step) : Type 0 where
+pub record IsCollectorStep (m : Meaning) (clock : Option ℕ) (content : Option (List ℕ)) (bot file : List ℕ) (s : Base) (step : Step) : Type 0 where
   pub stamped : IsStamped clock s step
-  pub is : IsFoundBy m content bot s step.what
+  pub is : IsFoundBy m content bot file s step.what
 
--- the place is one of the bot's feed under a bundle that was in force
-pub record IsPlace {D R : Type 0} (m : Meaning) (v : LockedView D R) (bot : List ℕ) (place : Place) : Type 0 where
+-- the place is one of the bot's feed, of this name, under a bundle that was in force
+pub record IsPlace {D R : Type 0} (m : Meaning) (v : LockedView D R) (bot file : List ℕ) (place : Place) : Type 0 where
   pub bundle : List ℕ
   pub was : WasInForce m v place.bundle bundle
   pub facts : feed_under m bundle bot ≡ Some place.facts
+  pub file_is : place.facts.file ≡ file
   pub near : place.at ≤ last_number
   pub some : 1 ≤ place.facts.chunk_size
   pub chunk : place.facts.chunk_size ≤ longest_line
 
 -- this was found there
-pub record IsSight {D R : Type 0} (m : Meaning) (v : LockedView D R) (bot : List ℕ) (sight : Sight) : Type 0 where
-  pub place : IsPlace m v bot sight.place
+pub record IsSight {D R : Type 0} (m : Meaning) (v : LockedView D R) (bot file : List ℕ) (sight : Sight) : Type 0 where
+  pub place : IsPlace m v bot file sight.place
   pub ahead : IsAhead sight.place.at sight.found
   pub there : IsThere sight.found
 
@@ -88,7 +89,7 @@ pub record IsNextPlace (m : Meaning) (s : Base) (bot name : List ℕ) (place : P
   pub some : 1 ≤ place.facts.chunk_size
   pub chunk : place.facts.chunk_size ≤ longest_line
   pub goes_on : has_finished bot s ≡ false
-  pub retries : IfSome (bot_named bot (bots_in_force m s)) (λ f. place.retries ≡ f.retries)
+  pub retries : IsSomeAnd (bot_named bot (bots_in_force m s)) (λ f. place.retries ≡ f.retries)
 
 -- what is found in a feed of which no more can be read
 abbrev pub IsFault : Sight → FeedFault → Type 0
@@ -96,22 +97,30 @@ IsFault sight (feed.Short have need) = (sight.found ≡ found.Short have) × (ne
 IsFault sight (feed.LongLine at) = sight.found ≡ found.LongLine at
 IsFault sight feed.LongFeed = sight.found ≡ found.LongFeed
 
--- what a hold of a collector came to
-abbrev pub IsLooked : {D R : Type 0} → Meaning → Option ℕ → LockedView D R → LockedView D R → List ℕ → List ℕ → Option Sight → Looked → Type 0
-IsLooked m left old new bot file sight (looked.Looks place) = (new.mark ≡ None) × IsPlace m new bot place × IsNextPlace m new.book.state bot file place
-IsLooked m left old new bot file sight (looked.Waits at held) = (new ≡ old) × (sight ≡ Some held) × (at ≡ old.book.state.steps) × (is_backed_up m old.book.state ≡ true)
-IsLooked m left old new bot file sight (looked.Nothing at idle) = (new.mark ≡ None) × (at ≡ new.book.state.steps) × (idle ≡ is_idle m new.book.state) × HasNoLook m new.book.state bot file
-IsLooked m left old new bot file sight (looked.Unreadable cause) = (new ≡ old) × IfSome sight (λ s. IsFault s cause)
-IsLooked m left old new bot file sight (looked.Ended cause) = IsEnd left old new cause
-
--- ---- what private contracts cite
-
 -- what was found stands where the collector looks now
 pub record IsInSight (m : Meaning) (s : Base) (bot : List ℕ) (place : Place) : Type 0 where
   pub collector : is_collector (bots_in_force m s) bot ≡ true
   pub bundle : place.bundle ≡ s.bundle_no
   pub goes_on : has_finished bot s ≡ false
   pub at : place.at ≡ position_of bot s
+
+-- what a hold of a collector came to
+abbrev pub IsLooked : {D R : Type 0} → Meaning → Option ℕ → LockedView D R → LockedView D R → List ℕ → List ℕ → Option Sight → Looked → Type 0
+IsLooked m left old new bot file sight (looked.Looks place) = (new.mark ≡ None) × IsPlace m new bot file place × IsNextPlace m new.book.state bot file place
+IsLooked m left old new bot file sight (looked.Waits at held) = (new ≡ old) × (sight ≡ Some held) × (at ≡ old.book.state.steps) × (is_backed_up m old.book.state ≡ true)
+IsLooked m left old new bot file sight (looked.Nothing at idle) = (new.mark ≡ None) × (at ≡ new.book.state.steps) × (idle ≡ is_idle m new.book.state) × HasNoLook m new.book.state bot file
+IsLooked m left old new bot file sight (looked.Unreadable cause) = (new ≡ old) × IsSomeAnd sight (λ s. IsInSight m old.book.state bot s.place × IsFault s cause)
+IsLooked m left old new bot file sight (looked.Ended cause) = IsEnd left old new cause
+
+-- the hold came to what was found: it stays as it is, or a step was made
+abbrev pub StaysOrAdds : {D R : Type 0} → LockedView D R → LockedView D R → Looked → Type 0
+StaysOrAdds old new (looked.Looks place) = length old.made < length new.made
+StaysOrAdds old new (looked.Waits at held) = Unit {0}
+StaysOrAdds old new (looked.Nothing at idle) = length old.made < length new.made
+StaysOrAdds old new (looked.Unreadable cause) = Unit {0}
+StaysOrAdds old new (looked.Ended cause) = Unit {0}
+
+-- ---- what private contracts cite
 
 -- why nothing is done with what was found there
 abbrev pub IsUnmoved : Meaning → Base → Sight → Looked → Type 0
@@ -122,12 +131,12 @@ IsUnmoved m s sight (looked.Unreadable cause) = IsFault sight cause
 IsUnmoved m s sight (looked.Ended cause) = ⊥
 
 -- a hold ended so, in view of this
-abbrev pub HasEnded : {D R : Type 0} → Meaning → Option ℕ → LockedView D R → LockedView D R → Sight → Looked → Type 0
-HasEnded m left old new sight (looked.Looks place) = ⊥
-HasEnded m left old new sight (looked.Waits at held) = (new ≡ old) × (held ≡ sight) × (at ≡ old.book.state.steps) × (is_backed_up m old.book.state ≡ true)
-HasEnded m left old new sight (looked.Nothing at idle) = ⊥
-HasEnded m left old new sight (looked.Unreadable cause) = (new ≡ old) × IsFault sight cause
-HasEnded m left old new sight (looked.Ended cause) = IsEnd left old new cause
+abbrev pub HasEnded : {D R : Type 0} → Meaning → Option ℕ → LockedView D R → LockedView D R → List ℕ → Sight → Looked → Type 0
+HasEnded m left old new bot sight (looked.Looks place) = ⊥
+HasEnded m left old new bot sight (looked.Waits at held) = (new ≡ old) × (held ≡ sight) × (at ≡ old.book.state.steps) × (is_backed_up m old.book.state ≡ true)
+HasEnded m left old new bot sight (looked.Nothing at idle) = ⊥
+HasEnded m left old new bot sight (looked.Unreadable cause) = (new ≡ old) × IsInSight m old.book.state bot sight.place × IsFault sight cause
+HasEnded m left old new bot sight (looked.Ended cause) = IsEnd left old new cause
 
 -- where a collector looks next, if it does
 abbrev pub IsNextLook : Meaning → Base → List ℕ → List ℕ → Looked → Type 0

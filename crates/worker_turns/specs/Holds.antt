@@ -1,5 +1,5 @@
 -- What a hold does, and what a worker knows between two of them.
-use Rattle.std.specs.Prelude.{◌≡◌, ◌⊎◌, ◌≤◌, ℕ, suc, List, [], ◌∷◌, ◌++◌, length, Option, Some, None, IsSomeAnd, option_map}
+use Rattle.std.specs.Prelude.{◌≡◌, ◌⊎◌, ◌<◌, ◌≤◌, ℕ, suc, List, [], ◌∷◌, ◌++◌, length, Option, Some, None, IsSomeAnd, option_map}
 use Rattle.stored_types.specs.declared.hand.Hand.{Hand}
 use Rattle.step_code.specs.declared.base.Base.{Base}
 use Rattle.step_code.specs.declared.step.Step.{Step}
@@ -128,6 +128,11 @@ IsTurned m task_of left old new bot instance ready (turned.Holds job) = (new.mar
 IsTurned m task_of left old new bot instance ready (turned.Retried delay) = (new.mark ≡ None) × IsDelay m old.book.state bot delay
 IsTurned m task_of left old new bot instance ready (turned.Nothing at idle) = (new.mark ≡ None) × (at ≡ new.book.state.steps) × (idle ≡ is_idle m new.book.state) × HasNoStep m new.book.state bot instance
 IsTurned m task_of left old new bot instance ready (turned.Ended cause) = IsEnd left old new cause
+
+-- a hold ended the worker's part, or made a step
+abbrev pub EndsOrAdds : {D R : Type 0} → LockedView D R → LockedView D R → Turned → Type 0
+EndsOrAdds old new (turned.Ended cause) = Unit {0}
+EndsOrAdds old new other = length old.made < length new.made
 
 -- ---- what private contracts cite
 

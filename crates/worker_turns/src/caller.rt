@@ -1,5 +1,5 @@
 //! The hold of who waits for the workers: it makes steps durable while no more come.
-ghost use Rattle.std.specs.Prelude.{◌≡◌, ◌≢◌, [], None, IfOk, IfErr, OnOk};
+ghost use Rattle.std.specs.Prelude.{◌≡◌, ◌≢◌, length, [], None, IfOk, IfErr, OnOk};
 ghost use Rattle.worker_turns.specs.Holds.{IsEnd, Marks};
 
 use crate::HoldEnd;
@@ -15,6 +15,7 @@ pub fn caller_turn<D: Disk, R: Rules>(locked: &mut Locked<D, R>, seen: u64) -> R
     ensures marks { locked.old.mark ≡ None → Marks R.meaning locked.old locked.new [] [] }
     ensures unmarked { OnOk result (locked.new.mark ≡ None) }
     ensures at { IfOk result (λ at. at ≡ locked.new.book.state.steps) }
+    ensures durable { OnOk result (locked.old.book.state.steps ≡ seen → locked.new.book.kept ≡ length locked.new.book.steps) }
     ensures end { IfErr result (IsEnd None locked.old locked.new) }
 {
     if let Some(mark) = locked.mark() {

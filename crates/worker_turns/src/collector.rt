@@ -1,12 +1,12 @@
 //! The hold of a collector: it collects what it found in its feed, and is told where to look next.
-ghost use Rattle.std.specs.Prelude.{◌≡◌, ◌≢◌, ◌⊎◌, ◌≤◌, List, ℕ, true, false, length, Option, Some, None, IfOk, IfErr, IfSome, OnOk, OnErr, MatchOption, MatchResult};
+ghost use Rattle.std.specs.Prelude.{◌≡◌, ◌≢◌, ◌⊎◌, ◌<◌, ◌≤◌, List, ℕ, true, false, length, Option, Some, None, IfOk, IfErr, IfSome, OnOk, OnErr, MatchOption, MatchResult};
 ghost use Rattle.step_code.specs.Fits.{first_failing, parts};
 ghost use Rattle.journal_book.specs.Staged.{IsMove};
 ghost use Rattle.collector_feeds.specs.Found.{IsAhead};
 ghost use Rattle.collector_feeds.specs.Open.{IsThere};
 ghost use Rattle.turn_order.specs.Turn.{is_idle};
 ghost use Rattle.drain_turns.specs.Turn.{IsFindOf};
-ghost use Rattle.worker_turns.specs.Collecting.{HasEnded, IsCollectorStep, IsInSight, IsLooked, IsNextLook, IsSight, IsTrueOf, IsUnmoved};
+ghost use Rattle.worker_turns.specs.Collecting.{HasEnded, IsCollectorStep, IsInSight, IsLooked, IsNextLook, IsSight, IsTrueOf, IsUnmoved, StaysOrAdds};
 ghost use Rattle.worker_turns.specs.Holds.{Adds};
 
 use crate::commits::commit_own;
@@ -41,15 +41,18 @@ pub fn collector_turn<D: Disk, R: Rules, C: Clock>(
     clock: &C,
     left: Option<u64>,
 ) -> Looked
-    requires sight { IfSome sight (IsSight R.meaning locked.old worker.old.bot) }
+    requires sight { IfSome sight (IsSight R.meaning locked.old worker.old.bot worker.old.file) }
 
     // Nothing is done once the round has a mark.
     ensures still { locked.old.mark ≢ None → (locked.new ≡ locked.old) × (worker.new ≡ worker.old) }
     ensures adds { locked.old.mark ≡ None → (content : Option (List ℕ)) → IfSome sight (IsTrueOf content)
-        → Adds R.meaning (IsCollectorStep R.meaning (C.told clock.now) content worker.old.bot) locked.old locked.new worker.old.steps.items worker.new.steps.items }
+        → Adds R.meaning (IsCollectorStep R.meaning (C.told clock.now) content worker.old.bot worker.old.file) locked.old locked.new worker.old.steps.items worker.new.steps.items }
     ensures worker { worker.new ≡ record worker.old { steps = worker.new.steps } }
     ensures few { IfSome left (λ most. (locked.new.made ≡ locked.old.made) ⊎ (length locked.new.made ≤ most)) }
     ensures looked { IsLooked R.meaning left locked.old locked.new worker.old.bot worker.old.file sight result }
+
+    // What was found where the collector looks now isn't dropped.
+    ensures moves { locked.old.mark ≡ None → IfSome sight (λ seen. IsInSight R.meaning locked.old.book.state worker.old.bot seen.place → StaysOrAdds locked.old locked.new result) }
 {
     if let Some(mark) = locked.mark() {
         return Looked::Ended(HoldEnd::Found(mark));
@@ -69,12 +72,13 @@ fn use_sight<D: Disk, R: Rules, C: Clock>(
     left: Option<u64>,
 ) -> Option<Looked>
     requires unmarked { locked.old.mark ≡ None }
-    requires sight { IfSome sight (IsSight R.meaning locked.old worker.old.bot) }
+    requires sight { IfSome sight (IsSight R.meaning locked.old worker.old.bot worker.old.file) }
     ensures adds { (content : Option (List ℕ)) → IfSome sight (IsTrueOf content)
-        → Adds R.meaning (IsCollectorStep R.meaning (C.told clock.now) content worker.old.bot) locked.old locked.new worker.old.steps.items worker.new.steps.items }
+        → Adds R.meaning (IsCollectorStep R.meaning (C.told clock.now) content worker.old.bot worker.old.file) locked.old locked.new worker.old.steps.items worker.new.steps.items }
     ensures worker { worker.new ≡ record worker.old { steps = worker.new.steps } }
     ensures few { IfSome left (λ most. (locked.new.made ≡ locked.old.made) ⊎ (length locked.new.made ≤ most)) }
     ensures ends { MatchOption result (locked.new.mark ≡ None) (IsLooked R.meaning left locked.old locked.new worker.old.bot worker.old.file sight) }
+    ensures moves { IfSome sight (λ seen. IsInSight R.meaning locked.old.book.state worker.old.bot seen.place → MatchOption result (length locked.old.made < length locked.new.made) (StaysOrAdds locked.old locked.new)) }
 {
     match sight {
         Some(sight) => collect(locked, worker, sight, clock, left),
@@ -92,12 +96,13 @@ fn collect<D: Disk, R: Rules, C: Clock>(
     left: Option<u64>,
 ) -> Option<Looked>
     requires unmarked { locked.old.mark ≡ None }
-    requires sight { IsSight R.meaning locked.old worker.old.bot sight }
+    requires sight { IsSight R.meaning locked.old worker.old.bot worker.old.file sight }
     ensures adds { (content : Option (List ℕ)) → IsTrueOf content sight
-        → Adds R.meaning (IsCollectorStep R.meaning (C.told clock.now) content worker.old.bot) locked.old locked.new worker.old.steps.items worker.new.steps.items }
+        → Adds R.meaning (IsCollectorStep R.meaning (C.told clock.now) content worker.old.bot worker.old.file) locked.old locked.new worker.old.steps.items worker.new.steps.items }
     ensures worker { worker.new ≡ record worker.old { steps = worker.new.steps } }
     ensures few { IfSome left (λ most. (locked.new.made ≡ locked.old.made) ⊎ (length locked.new.made ≤ most)) }
-    ensures ends { MatchOption result (locked.new.mark ≡ None) (HasEnded R.meaning left locked.old locked.new sight) }
+    ensures ends { MatchOption result (locked.new.mark ≡ None) (HasEnded R.meaning left locked.old locked.new worker.old.bot sight) }
+    ensures moves { IsInSight R.meaning locked.old.book.state worker.old.bot sight.place → MatchOption result (length locked.old.made < length locked.new.made) (StaysOrAdds locked.old locked.new) }
 {
     if !is_in_sight(locked.core(), &worker.bot, &sight.place) {
         return None;
@@ -114,7 +119,8 @@ fn collect<D: Disk, R: Rules, C: Clock>(
 
 // Whether the place is where the collector looks now.
 fn is_in_sight<R: Rules>(core: &Core<R>, bot: &BotName, place: &Place) -> bool
-    ensures { result ≡ true → IsInSight R.meaning core.now.state bot.now place.now }
+    ensures there { result ≡ true → IsInSight R.meaning core.now.state bot.now place.now }
+    ensures other { result ≡ false → IsInSight R.meaning core.now.state bot.now place.now → ⊥ }
 {
     is_collector(core.rules().facts(core.plan()).as_slice(), bot)
         && core.bundle_no() == place.bundle

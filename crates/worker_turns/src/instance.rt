@@ -1,9 +1,9 @@
 //! The hold of an instance: it ends its work on the message in its hand, and takes the next one.
-ghost use Rattle.std.specs.Prelude.{◌≡◌, ◌≢◌, ◌⊎◌, ◌≤◌, ◌↔◌, true, false, length, Some, None, IfOk, IfErr, IfSome, OnOk, OnErr, IsSome, IsSomeAnd, MatchOption, MatchResult};
+ghost use Rattle.std.specs.Prelude.{◌≡◌, ◌≢◌, ◌⊎◌, ◌<◌, ◌≤◌, ◌↔◌, true, false, length, Some, None, IfOk, IfErr, IfSome, OnOk, OnErr, IsSome, IsSomeAnd, MatchOption, MatchResult};
 ghost use Rattle.step_code.specs.Rules.{is_worker};
 ghost use Rattle.step_code.specs.State.{bots_in_force, hand_of};
 ghost use Rattle.turn_order.specs.Turn.{IsFreeToTake};
-ghost use Rattle.worker_turns.specs.Holds.{Adds, HasNoStep, IsDelay, IsDone, IsEnd, IsInHand, IsInstanceStep, IsJob, IsReadyFor, IsReadyNow, IsTurned, delay_of};
+ghost use Rattle.worker_turns.specs.Holds.{Adds, EndsOrAdds, HasNoStep, IsDelay, IsDone, IsEnd, IsInHand, IsInstanceStep, IsJob, IsReadyFor, IsReadyNow, IsTurned, delay_of};
 
 use crate::commits::commit_own;
 use crate::{Done, HoldEnd, Job, Ready, Turned};
@@ -48,6 +48,9 @@ pub fn instance_turn<D: Disk, R: Rules, C: Clock>(
     ensures ready { IfSome worker.new.ready (IsReadyFor R.meaning R.task_of locked.new worker.old.bot) }
     ensures few { IfSome left (λ most. (locked.new.made ≡ locked.old.made) ⊎ (length locked.new.made ≤ most)) }
     ensures turned { IsTurned R.meaning R.task_of left locked.old locked.new worker.new.bot worker.new.number worker.new.ready result }
+
+    // What was computed of the message in the hand isn't dropped.
+    ensures moves { locked.old.mark ≡ None → IfSome done (λ did. IsInHand locked.old.book.state worker.old.bot worker.old.number did.job → EndsOrAdds locked.old locked.new result) }
 {
     if let Some(mark) = locked.mark() {
         return Turned::Ended(HoldEnd::Found(mark));
@@ -85,6 +88,7 @@ fn end_work<D: Disk, R: Rules, C: Clock>(
     ensures unmarked { OnOk result (locked.new.mark ≡ None) }
     ensures delay { IfOk result (λ again. IfSome again (IsDelay R.meaning locked.old.book.state worker.old.bot)) }
     ensures end { IfErr result (IsEnd left locked.old locked.new) }
+    ensures moves { IfSome done (λ did. IsInHand locked.old.book.state worker.old.bot worker.old.number did.job → OnOk result (length locked.old.made < length locked.new.made)) }
 {
     match done {
         Some(done) => end_message(alloc, locked, worker, done, clock, left),
@@ -110,6 +114,7 @@ fn end_message<D: Disk, R: Rules, C: Clock>(
     ensures unmarked { OnOk result (locked.new.mark ≡ None) }
     ensures delay { IfOk result (λ again. IfSome again (IsDelay R.meaning locked.old.book.state worker.old.bot)) }
     ensures end { IfErr result (IsEnd left locked.old locked.new) }
+    ensures moves { IsInHand locked.old.book.state worker.old.bot worker.old.number done.job → OnOk result (length locked.old.made < length locked.new.made) }
 {
     let core = locked.core();
     let Done { job, given } = done;
@@ -129,7 +134,8 @@ fn end_message<D: Disk, R: Rules, C: Clock>(
 
 // Whether the message is in the hand still, and the bundle of its number is in force.
 fn is_in_hand<R: Rules>(core: &Core<R>, bot: &BotName, instance: u8, job: &Job) -> bool
-    ensures { result ≡ true → IsInHand core.now.state bot.now instance job.now }
+    ensures there { result ≡ true → IsInHand core.now.state bot.now instance job.now }
+    ensures other { result ≡ false → IsInHand core.now.state bot.now instance job.now → ⊥ }
 {
     match core.in_hand(bot, instance) {
         Some(hand) => {

@@ -7,6 +7,7 @@ use Rattle.journal_book.specs.Staged.{staged, stamp}
 use Rattle.book_runs.specs.Commit.{readied}
 use Rattle.book_runs.proofs.Going.{goes_nowhere}
 use Rattle.turn_order.specs.Turn.{is_idle}
+use Rattle.drain_turns.proofs.Screened.{screened_fits}
 use Rattle.drain_turns.specs.Drained.{Ends}
 use Rattle.bot_works.specs.Works.{AreReady}
 use Rattle.drain_loop.specs.Calls.{outside, place_of, IsUndamaged}
@@ -14,7 +15,7 @@ use Rattle.drain_loop.specs.Feeds.{IsFailedByOne}
 use Rattle.drain_loop.specs.Turning.{EndsTurn, IsNextMove}
 use Rattle.drain_loop.proofs.Bundles.{still_bundle}
 use Rattle.drain_loop.proofs.Moving.{never_disk}
-use Rattle.drain_loop.proofs.Turning.{IsGoingOn, broken_by, disk_by, due_is, ends_here, is_late, late_not_failed, made_is, made_keeps, never_broken, not_made, screened_act, screened_fits, turn_undamaged, undamaged_by}
+use Rattle.drain_loop.proofs.Turning.{IsGoingOn, broken_by, disk_by, due_is, ends_here, is_late, late_not_failed, made_is, made_keeps, never_broken, not_made, screened_act, turn_undamaged, undamaged_by}
 use Rattle.drain_loop.proofs.drain.turn.Goals as goal
 
 pub returns-then-is_idle-clause-still : goal.returns-then-is_idle-clause-still
