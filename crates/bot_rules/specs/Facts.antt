@@ -1,5 +1,5 @@
 -- What the pipeline has to know of a bot that a configuration plans.
-use Rattle.std.specs.Prelude.{ℕ, List, [], codes, find, Option, Some, None}
+use Rattle.std.specs.Prelude.{ℕ, List, [], Bool, codes, find, is_some, Option, Some, None}
 use Rattle.std.specs.Str.{bytes_eq}
 use Rattle.runtime_config.specs.declared.plan.Module.{Module}
 use Rattle.runtime_config.specs.declared.plan.Module.TheVariants as modules
@@ -48,6 +48,10 @@ cache_of _ = None
 abbrev pub feed_of : Module → Option FeedFacts
 feed_of (modules.Collector file name provider chunk_size replicate) = Some (record { file = file; chunk_size = chunk_size; replicate = replicate })
 feed_of _ = None
+
+-- the module is that of collectors
+abbrev pub has_feed : Module → Bool
+has_feed m = is_some (feed_of m)
 
 -- the facts of a bot: its numbers as they are planned, and the queues of its two paths
 unfoldable pub facts_of : Planned → Facts

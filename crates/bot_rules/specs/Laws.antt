@@ -1,6 +1,6 @@
 -- The laws of the rules.
 use Rattle.std.proofs.Common.{◌≡◌, ◌≤◌, ◌∙◌, ℕ, Bool, true, false, cond, List, [], ◌∷◌, map, Option, Some, None, Result, Ok, Err, refl, sym, ap, subst}
-use Rattle.std.specs.Prelude.{is_some, option_and_then, if◌then◌else◌, IfSome, IsSome, IsTrue}
+use Rattle.std.specs.Prelude.{is_some, option_and_then, option_map, if◌then◌else◌, IfSome, IsSome, IsTrue}
 use Rattle.std.specs.FinMap.{empty}
 use Rattle.std.specs.List.{AllByRecursion, list_all}
 use Rattle.std.specs.List.Sorted.{IsStrictlySortedBy}
@@ -39,7 +39,7 @@ use Rattle.step_code.specs.declared.rules.Facts.{Facts}
 use Rattle.step_code.specs.declared.rules.Given.{Given}
 use Rattle.step_code.specs.declared.rules.Given.TheVariants as given
 use Rattle.step_code.specs.Rules.{AreSound, FitsBot, IsLawful, IsSoundBot, Task, bot_named, collects, writes}
-use Rattle.bot_rules.specs.Facts.{default_path, facts_of, queues_on}
+use Rattle.bot_rules.specs.Facts.{default_path, facts_of, has_feed, queues_on}
 use Rattle.bot_rules.specs.Gives.{are_lawful, body_gives, fate_gives, is_lawful, job_gives, message_gives, parser_gives, sieve_gives, takes}
 use Rattle.bot_rules.specs.Intel.{bare_report, bot_gives, bot_reports, facts_in, intel, module_reports, plan_in, planned_in, planned_named, work_gives}
 use Rattle.bot_rules.specs.Jobs.{csv_rule, dedup_rule, job_of, json_rule, role_for}
@@ -125,26 +125,41 @@ bots_are_sound bundle bots is =
       each = all_are_sound plan.bots within.each;
     })
 
--- ---- what a bot gives
+-- ---- a bot by its name
 
--- the bot with these facts
-record IsPlannedAs (name : List ℕ) (bots : List Planned) (f : Facts) : Type 0 where
-  pub bot : Planned
-  pub named : planned_named name bots ≡ Some bot
-  pub facts : f ≡ facts_of bot
+first_named : (name : List ℕ) (p : Planned) (ps : List Planned) (b : Bool) → bot_named name (map facts_of ps) ≡ option_map facts_of (planned_named name ps)
+    → cond b (Some (facts_of p)) (bot_named name (map facts_of ps)) ≡ option_map facts_of (cond b (Some p) (planned_named name ps))
+first_named name p ps true later = refl
+first_named name p ps false later = later
 
-named_first : (name : List ℕ) (p : Planned) (ps : List Planned) (f : Facts) (b : Bool) → bytes_eq p.bot name ≡ b → cond b (Some (facts_of p)) (bot_named name (map facts_of ps)) ≡ Some f
-    → (bot_named name (map facts_of ps) ≡ Some f → IsPlannedAs name ps f) → IsPlannedAs name (p ∷ ps) f
-named_first name p ps f true test is later =
-    record { bot = p; named = ap (λ b. cond b (Some p) (planned_named name ps)) test; facts = sym (same_Some (facts_of p) f is) }
-named_first name p ps f false test is later =
-    let found = later is in
-    record { bot = found.bot; named = ap (λ b. cond b (Some p) (planned_named name ps)) test ∙ found.named; facts = found.facts }
-
-planned_as : (name : List ℕ) (ps : List Planned) (f : Facts) → bot_named name (map facts_of ps) ≡ Some f → IsPlannedAs name ps f
+named_among : (name : List ℕ) (ps : List Planned) → bot_named name (map facts_of ps) ≡ option_map facts_of (planned_named name ps)
 unfolding facts_of
-planned_as name [] f is = absurd (none-some f is)
-planned_as name (p ∷ ps) f is = named_first name p ps f (bytes_eq p.bot name) refl is (planned_as name ps f)
+named_among name [] = refl
+named_among name (p ∷ ps) = first_named name p ps (bytes_eq p.bot name) (named_among name ps)
+
+-- the facts of a bot of a bundle are those of the bot as it is planned
+pub facts_as_planned : (task : Task) (bots : List Facts) → facts_in task.bundle ≡ Some bots → bot_named task.bot bots ≡ option_map facts_of (planned_in task)
+facts_as_planned task bots loads =
+    let (plan, read, same) = mapped (λ (plan : Plan). map facts_of plan.bots) (plan_in task.bundle) bots loads in
+    ap (bot_named task.bot) same ∙ named_among task.bot plan.bots
+    ∙ ap (λ (o : Option Plan). option_map facts_of (option_and_then (λ (plan : Plan). planned_named task.bot plan.bots) o)) (sym read)
+
+collects_as : (p : Planned) (m : Module) → collects (facts_of (record p { «module» = m })) ≡ has_feed m
+unfolding facts_of
+collects_as p (modules.Collector file name provider chunk_size replicate) = refl
+collects_as p (modules.Csv columns delimiter skip_header defaults stamp) = refl
+collects_as p (modules.Json style defaults) = refl
+collects_as p (modules.Sieve sieve) = refl
+collects_as p (modules.Dedup keys keep ttl cache_max) = refl
+collects_as p (modules.Prefix networks sets overwrite) = refl
+collects_as p modules.Taxonomy = refl
+collects_as p modules.Output = refl
+
+-- a bot is a collector where its module is that of collectors
+pub collects_by_module : (p : Planned) → collects (facts_of p) ≡ has_feed p.«module»
+collects_by_module p = collects_as p p.«module»
+
+-- ---- what a bot gives
 
 -- a key comes only of a bot that drops duplicates, and a line only of one that writes
 abbrev IsRight : Facts → Given → Type 0
@@ -227,8 +242,6 @@ bot_fits p since body = module_fits p p.«module» since body
 pub given_fits : (bots : List Facts) (facts : Facts) (task : Task) (body : List ℕ) (since : ℕ) → facts_in task.bundle ≡ Some bots → bot_named task.bot bots ≡ Some facts
     → FitsBot intel facts (bot_gives (planned_in task) since body)
 given_fits bots facts task body since loads named =
-    let (plan, read, same) = mapped (λ (plan : Plan). map facts_of plan.bots) (plan_in task.bundle) bots loads in
-    let found = planned_as task.bot plan.bots facts (ap (bot_named task.bot) (sym same) ∙ named) in
-    let bot : planned_in task ≡ Some found.bot = ap (option_and_then (λ (plan : Plan). planned_named task.bot plan.bots)) read ∙ found.named in
-    subst (λ (f : Facts). FitsBot intel f (bot_gives (planned_in task) since body)) (sym found.facts)
-    (subst (λ o. FitsBot intel (facts_of found.bot) (bot_gives o since body)) (sym bot) (bot_fits found.bot since body))
+    let (bot, planned, same) = mapped facts_of (planned_in task) facts (sym (facts_as_planned task bots loads) ∙ named) in
+    subst (λ (f : Facts). FitsBot intel f (bot_gives (planned_in task) since body)) (sym same)
+    (subst (λ o. FitsBot intel (facts_of bot) (bot_gives o since body)) (sym planned) (bot_fits bot since body))

@@ -1,6 +1,7 @@
 //! The rules of all modules.
-ghost use Rattle.std.specs.Prelude.{◌≡◌, ◌≤◌, IfOk};
+ghost use Rattle.std.specs.Prelude.{◌≡◌, ◌≤◌, true, IfOk};
 ghost use Rattle.step_code.specs.Rules.{last_moment};
+ghost use Rattle.bot_rules.specs.Facts.{has_feed};
 ghost use Rattle.bot_rules.specs.Intel.{module_reports};
 
 use crate::report::report_text;
@@ -21,21 +22,22 @@ impl IntelRules {
     }
 }
 
-// What a module reports of a piece that was collected at a moment. Only a collector reports.
+// What the module of a collector reports of a piece that was collected at a moment.
 fn module_reports(
     alloc: Global,
     module: &Module,
     piece: &Blob,
     now: Moment,
 ) -> Result<Blob, OutOfMemory>
-    requires { now.0 ≤ last_moment }
+    requires collects { has_feed module.now ≡ true }
+    requires moment { now.0 ≤ last_moment }
     ensures { IfOk result (λ body. body ≡ module_reports module.now piece.now now.0) }
 {
     match module {
         Module::Collector { name, provider, .. } => {
             report_text(alloc, name, provider, piece, now)
         }
-        _ => Err(OutOfMemory),
+        _ => unreachable!(),
     }
 }
 
@@ -74,7 +76,7 @@ impl Rules for IntelRules {
     ) -> Result<Blob, OutOfMemory> {
         match plan.planned(bot) {
             Some((planned, _)) => module_reports(alloc, &planned.module, piece, now),
-            None => Err(OutOfMemory),
+            None => unreachable!(),
         }
     }
 
@@ -86,7 +88,7 @@ impl Rules for IntelRules {
     ) -> Result<IntelWork, OutOfMemory> {
         match plan.planned(bot) {
             Some((planned, table)) => { IntelWork::new(alloc, plan, bot, planned, table) }
-            None => Err(OutOfMemory),
+            None => unreachable!(),
         }
     }
 

@@ -1,6 +1,7 @@
 //! A bot that is ready for work.
-ghost use Rattle.std.specs.Prelude.{◌≡◌, Some, IfOk, option_map};
+ghost use Rattle.std.specs.Prelude.{◌≡◌, false, Some, IfOk, IsSome, option_map};
 ghost use Rattle.bot_rules.specs.Jobs.{csv_rule, dedup_rule, job_of, json_rule, style_of, table_of};
+ghost use Rattle.bot_rules.specs.Facts.{has_feed};
 ghost use Rattle.bot_rules.specs.Intel.{bot_gives, planned_in};
 
 use crate::copies::{columns_of, copy_routes, copy_texts};
@@ -108,26 +109,28 @@ fn dedup(
 
 // A prefix expert shares the table of its plan.
 fn prefix(table: &Option<Table>) -> Result<Job, OutOfMemory>
+    requires { IsSome table.now }
     ensures { IfOk result (λ job. option_map Job.Prefix table.now ≡ Some job) }
 {
     match table {
         Some(table) => Ok(Job::Prefix(table.share()?)),
-        None => Err(OutOfMemory),
+        None => unreachable!(),
     }
 }
 
-// What a bot with these paths and this module does with messages. A collector gets none.
+// What a bot with these paths and this module, which is no collector's, does with messages.
 fn job_of(
     alloc: Global,
     routes: &[Route],
     module: &Module,
     table: &Option<Table>,
 ) -> Result<Job, OutOfMemory>
-    requires { table.now ≡ table_of module.now }
+    requires works { has_feed module.now ≡ false }
+    requires table { table.now ≡ table_of module.now }
     ensures { IfOk result (λ job. job_of routes.now module.now ≡ Some job) }
 {
     match module {
-        Module::Collector { .. } => Err(OutOfMemory),
+        Module::Collector { .. } => unreachable!(),
         Module::Csv {
             columns,
             delimiter,
@@ -150,7 +153,7 @@ fn job_of(
 }
 
 impl IntelWork {
-    /// The work of a planned bot of a bundle.
+    /// The work of a planned bot of a bundle that is no collector.
     pub(crate) fn new(
         alloc: Global,
         plan: &IntelPlan,
@@ -159,6 +162,7 @@ impl IntelWork {
         table: &Option<Table>,
     ) -> Result<IntelWork, OutOfMemory>
         requires planned { planned_in (record { bundle = plan.now.bundle; bot = bot.now }) ≡ Some planned.now }
+        requires works { has_feed planned.now.«module» ≡ false }
         requires table { table.now ≡ table_of planned.now.«module» }
         ensures { IfOk result (λ work. work ≡ record { bundle = plan.now.bundle; bot = bot.now }) }
     {

@@ -6,6 +6,7 @@ ghost use Rattle.bot_rules.specs.Intel.{intel};
 ghost use Rattle.config_bundle.specs.Bundle.{bundle_code, IsBundle};
 ghost use Rattle.runtime_config.specs.Load.{load as loaded};
 ghost use Rattle.bundle_bringing.specs.Brought.{Brings, Names};
+ghost use Rattle.runtime_config.specs.declared.fault.LoadFault.TheVariants as fault;
 
 use base_types::{Blob, OutOfMemory, Text};
 use bundle_fetch::{BundleFault, bundle_of};
@@ -53,6 +54,9 @@ pub fn bring<H: Shelf>(
     ensures brought { Brings (H.shelf shelf.old) name.now result }
     ensures coded { IfOk result (λ found. IsBundle found.0) }
     ensures loads { IfOk result (λ found. loaded found.0 ≡ Ok found.1) }
+
+    // What was fetched lacks no file that a bot is given.
+    ensures complete { (bot : List ℕ) → result ≡ Err (Unbrought.Config (fault.File bot)) → ⊥ }
     ensures failed { (other : List ℕ) → result ≡ Err (Unbrought.Failed other) → Rose (count_on (H.shelf shelf.old) other) (count_on (H.shelf shelf.new) other) }
     ensures told { (H.shelf shelf.new).told ≡ (H.shelf shelf.old).told }
     ensures counts { (other : List ℕ) → count_on (H.shelf shelf.old) other ≤ count_on (H.shelf shelf.new) other }

@@ -6,6 +6,7 @@ ghost use Rattle.edge_traits.specs.Count.{Rose};
 ghost use Rattle.edge_traits.specs.Shelf.{count_on, lacks};
 ghost use Rattle.bundle_fetch.specs.Fetch.{bundle_from, files_from, names_from, IsFetched};
 ghost use Rattle.bundle_fetch.specs.Front.{IsKeptFile};
+ghost use Rattle.runtime_text.specs.Named.{named_files};
 
 use crate::BundleFault;
 use crate::front::fetch_front;
@@ -77,6 +78,9 @@ pub fn bundle_of<H: Shelf>(alloc: Global, shelf: &mut H, name: &Text) -> Result<
 
     // The bundle has a code.
     ensures coded { IfOk result IsBundle }
+
+    // It has the files that its runtime text names, and no others.
+    ensures named { IfOk result (λ bundle. map (λ f. f.0) bundle.files ≡ named_files bundle.runtime) }
 
     // A name is absent only where the shelf tells that it lacks it, and a fault of the shelf shows in the count on the name.
     ensures absent { (other : List ℕ) → result ≡ Err (BundleFault.Absent other) → lacks (H.shelf shelf.old) other ≡ true }

@@ -3,7 +3,7 @@ use Rattle.std.specs.Prelude.{ℕ, ◌&&◌, Bool, true, false, List, [], ◌∷
 use Rattle.std.specs.List.{list_any}
 use Rattle.std.specs.Str.{bytes_eq}
 use Rattle.base_types.specs.Number.{last_u64}
-use Rattle.command_words.specs.Command.{Command, Convert, Check, Init, Drain, Status, Dumps, Audit, Redo, Drill}
+use Rattle.command_words.specs.Command.{Ask, Command, Convert, Check, Init, Drain, Status, Dumps, Audit, Redo, Drill}
 use Rattle.command_words.specs.Values.{name_in, number_in, number_within}
 
 -- ---- pairs of a name and a value
@@ -61,14 +61,15 @@ drill pairs =
     then drill_of (option_and_then (number_within 1 most_lines) (value_of (codes "--lines") pairs)) (option_and_then number_in (value_of (codes "--number") pairs))
     else None
 
-abbrev pub drain_of : Option (Option ℕ) → Option (Option (List ℕ)) → Option Bool → Option Command
-drain_of (Some steps) (Some reload) (Some round) = Some (Drain (record { steps = steps; reload = reload; round = round }))
-drain_of _ _ _ = None
+abbrev pub ask_by : Option (Option ℕ) → Option (Option (List ℕ)) → Option Bool → Option Ask
+ask_by (Some steps) (Some reload) (Some round) = Some (record { steps = steps; reload = reload; round = round })
+ask_by _ _ _ = None
 
-abbrev pub drain : List (List ℕ) → Option Command
-drain pairs =
+-- what pairs ask of bots that are to run
+abbrev pub ask_in : List (List ℕ) → Option Ask
+ask_in pairs =
     if are_pairs_of (codes "--steps" ∷ codes "--reload" ∷ codes "--round" ∷ []) pairs
-    then drain_of
+    then ask_by
     (optional (number_within 1 last_u64) (value_of (codes "--steps") pairs))
     (optional name_in (value_of (codes "--reload") pairs))
     (round_in (value_of (codes "--round") pairs))
@@ -80,7 +81,7 @@ command_with word pairs =
     if bytes_eq word (codes "convert") then option_map Convert (file_named (codes "--feed") pairs)
     else if bytes_eq word (codes "check") then option_map Check (file_named (codes "--bundle") pairs)
     else if bytes_eq word (codes "init") then option_map Init (file_named (codes "--bundle") pairs)
-    else if bytes_eq word (codes "drain") then drain pairs
+    else if bytes_eq word (codes "drain") then option_map Drain (ask_in pairs)
     else if bytes_eq word (codes "status") then alone Status pairs
     else if bytes_eq word (codes "dumps") then alone Dumps pairs
     else if bytes_eq word (codes "audit") then alone Audit pairs
@@ -92,3 +93,8 @@ command_with word pairs =
 abbrev pub command_of : List (List ℕ) → Option Command
 command_of [] = None
 command_of (word ∷ pairs) = command_with word pairs
+
+-- what bots are asked for that run on threads, if the words are so: `run`, and behind it the pairs of a drain
+abbrev pub run_of : List (List ℕ) → Option Ask
+run_of [] = None
+run_of (word ∷ pairs) = if bytes_eq word (codes "run") then ask_in pairs else None

@@ -1,6 +1,6 @@
 use base_types::Text;
 
-/// What `drain` is asked for.
+/// What `drain` or `run` is asked for.
 #[derive(Clone, Copy, Debug)]
 pub struct Ask<'w> {
     /// It makes at most so many steps.

@@ -7,4 +7,4 @@ mod value;
 mod words;
 
 pub use command::{Ask, Command};
-pub use words::command_of;
+pub use words::{command_of, run_of};

@@ -1,9 +1,10 @@
-ghost use Rattle.std.specs.Prelude.{◌≡◌, codes, option_map};
+ghost use Rattle.std.specs.Prelude.{◌≡◌, codes, true, None, is_some, option_map};
 ghost use Rattle.std.specs.Option.{option_copied};
 ghost use Rattle.base_types.specs.Number.{last_u64};
-ghost use Rattle.command_words.specs.Asked.{asked_of};
+ghost use Rattle.command_words.specs.Asked.{ask_of, asked_of};
+ghost use Rattle.command_words.specs.Command.{Drain};
 ghost use Rattle.command_words.specs.Values.{name_in, number_within};
-ghost use Rattle.command_words.specs.Words.{alone, command_of, command_with, drain, drill, file_named, optional, redo, round_in, value_of};
+ghost use Rattle.command_words.specs.Words.{alone, ask_in, command_of, command_with, drill, file_named, optional, redo, round_in, run_of, value_of};
 
 use crate::command::{Ask, Command};
 use crate::pairs::{are_pairs, value_of};
@@ -71,17 +72,24 @@ fn round_of(pairs: &[Text]) -> Option<bool>
     }
 }
 
-fn drain(pairs: &[Text]) -> Option<Command<'_>>
-    ensures { option_map asked_of result ≡ drain pairs.now }
+// What bots are asked for that are to run.
+fn ask_in(pairs: &[Text]) -> Option<Ask<'_>>
+    ensures { option_map ask_of result ≡ ask_in pairs.now }
 {
     if !are_pairs(pairs, &["--steps", "--reload", "--round"]) {
         return None;
     }
-    Some(Command::Drain(Ask {
+    Some(Ask {
         steps: steps_of(pairs)?,
         reload: reload_of(pairs)?,
         round: round_of(pairs)?,
-    }))
+    })
+}
+
+fn drain(pairs: &[Text]) -> Option<Command<'_>>
+    ensures { option_map asked_of result ≡ option_map Drain (ask_in pairs.now) }
+{
+    Some(Command::Drain(ask_in(pairs)?))
 }
 
 fn alone<'w>(pairs: &[Text], command: Command<'w>) -> Option<Command<'w>>
@@ -125,5 +133,23 @@ pub fn command_of(words: &[Text]) -> Option<Command<'_>>
     match words {
         [] => None,
         [word, pairs @ ..] => command_with(word.as_str(), pairs),
+    }
+}
+
+/// What bots are asked for that run on threads, or nothing where the words are others than `run` and its pairs. They are no command.
+/// No file is looked at.
+pub fn run_of(words: &[Text]) -> Option<Ask<'_>>
+    ensures asked { option_map ask_of result ≡ run_of words.now }
+    ensures apart { is_some (run_of words.now) ≡ true → command_of words.now ≡ None }
+{
+    match words {
+        [] => None,
+        [word, pairs @ ..] => {
+            if word.as_str() == "run" {
+                ask_in(pairs)
+            } else {
+                None
+            }
+        }
     }
 }

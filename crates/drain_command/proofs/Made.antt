@@ -1,5 +1,5 @@
 -- The steps that a call makes, and what they leave of a store's history.
-use Rattle.std.proofs.Common.{◌≡◌, ◌≢◌, ◌+◌, ◌-◌, ◌++◌, [], ℕ, List, length, min, take, Bool, true, false, Option, Some, None, Ok, Err, IfErr, inl, inr, refl, sym, ap, subst, ◌∙◌, arith, length-append}
+use Rattle.std.proofs.Common.{◌≡◌, ◌≢◌, ◌+◌, ◌-◌, ◌++◌, [], ℕ, List, length, min, take, Bool, true, false, Option, Some, None, Ok, Err, IfErr, inl, inr, refl, sym, ap, subst, arith, length-append}
 use Rattle.std.proofs.lemmas.List.{append-nil}
 use Rattle.base_types.specs.Number.{last_u64}
 use Rattle.edge_traits.specs.Disk.{DiskView, Image, Leaves}
@@ -33,7 +33,7 @@ use Rattle.drain_turns.specs.declared.end.TurnsEnd.{TurnsEnd}
 use Rattle.drain_turns.specs.declared.end.TurnsEnd.TheVariants as last
 use Rattle.drain_loop.specs.Calls.{opening_of, place_with, IsDrained, IsOpened, IsUndamaged}
 use Rattle.drain_loop.specs.Feeds.{FailedBeyond}
-use Rattle.drain_command.specs.Drained.{start, Drained, IsCallIn, IsDrainCall, IsFailedBeyond, IsStill, MayEndDrain}
+use Rattle.drain_command.specs.Drained.{start, Called, IsCallBy, IsCallIn, IsFailedBeyond, IsStill, MayEndDrain}
 use Rattle.drain_command.specs.Turned.{ended, IsTurned}
 use Rattle.drain_command.specs.declared.draining.Asked.{Asked}
 
@@ -41,18 +41,18 @@ module _ {D R : Type 0} {disk : D → DiskView} where
   -- the opening, and then the turns
   pub turned_on : (o : Outside) (asked : Asked) (old mid new : BookView D R) (left : Option ℕ) (why : TurnsEnd)
       → IsOpened disk o (place_with (opening_of o.meaning old.state asked.opening.bundle asked.opening.rounds) old asked.left) [] old mid (Ok left)
-      → IsDrained disk o left mid new why → IsTurned disk o asked old new why
+      → IsDrained disk o left mid new why → IsTurned disk Drains o asked old new why
   turned_on o asked old mid new left why opened drained = record {
     made = opened.made ++ drained.made;
-    drains = opened.opens drained.made why drained.drains;
+    makes = opened.opens drained.made why drained.drains;
     run = goes_further old mid new opened.made drained.made opened.goes_on drained.goes_on;
   }
 
   -- the opening alone
   pub turned_off : (o : Outside) (asked : Asked) (old new : BookView D R) (why : TurnsEnd)
       → IsOpened disk o (place_with (opening_of o.meaning old.state asked.opening.bundle asked.opening.rounds) old asked.left) [] old new (Err why)
-      → IsTurned disk o asked old new why
-  turned_off o asked old new why opened = record { made = opened.made; drains = opened.opens; run = opened.goes_on }
+      → IsTurned disk Drains o asked old new why
+  turned_off o asked old new why opened = record { made = opened.made; makes = opened.opens; run = opened.goes_on }
 
   -- neither damage ends
   pub undamaged_on : (m : Meaning) (files : Image) (old mid : BookView D R) (made : List Step) (why : TurnsEnd) → (disk old.disk).told ≡ Some files → GoesOn disk m old mid made
@@ -85,8 +85,8 @@ reopened_so {D = D} {R = R} files old rules limit book is opens root long kept a
   call = λ origin steps more was. opened_so origin steps more old rules limit book is (kept origin steps more was) (any_moment origin steps more was);
 }
 
-module _ {D R : Type 0} {disk : D → DiskView} (o : Outside) (accounts : AllAccounted o.meaning) (files : Image) (asked : Asked) (old : D) (opened mid later : BookView D R)
-    (is : Reopened disk o.meaning files old opened) (why : TurnsEnd) (turned : IsTurned disk o asked opened mid why) (behind : GoesOn disk o.meaning mid later []) where
+module _ {D R : Type 0} {disk : D → DiskView} (Makes : Outside → Place → List Step → TurnsEnd → Type 0) (o : Outside) (accounts : AllAccounted o.meaning) (files : Image) (asked : Asked) (old : D) (opened mid later : BookView D R)
+    (is : Reopened disk o.meaning files old opened) (why : TurnsEnd) (turned : IsTurned disk Makes o asked opened mid why) (behind : GoesOn disk o.meaning mid later []) where
   abbrev run : GoesOn disk o.meaning opened later turned.made
   run = still_runs o.meaning opened mid later turned.made turned.run behind
 
@@ -111,8 +111,8 @@ module _ {D R : Type 0} {disk : D → DiskView} (o : Outside) (accounts : AllAcc
           subst (λ (n : ℕ). IsSealOf (replay o.meaning origin.first (steps ++ take n more)) (replay o.meaning opened.base opened.steps)) (sym (count_called origin steps more turned.made old opened later was run accounts))
           (subst (λ (s : Base). IsSealOf (replay o.meaning origin.first (steps ++ take was.reopened.count more)) s) is.state (sealed_state origin steps more turned.made old opened later was run))
 
-  -- what the call drained
-  pub drained : (durable : ℕ) → made_durable ≡ durable → Drained disk o files asked (disk old) (disk later.disk) why
+  -- what the call made
+  pub drained : (durable : ℕ) → made_durable ≡ durable → Called disk Makes o files asked (disk old) (disk later.disk) why
   drained durable number = record {
     generation = opened.generation;
     root = opened.root;
@@ -121,7 +121,7 @@ module _ {D R : Type 0} {disk : D → DiskView} (o : Outside) (accounts : AllAcc
     opens = is.opens;
     root_is = is.root;
     made = turned.made;
-    drains = subst (λ (p : Place). Drains o p turned.made why) place_is turned.drains;
+    makes = subst (λ (p : Place). Makes o p turned.made why) place_is turned.makes;
     state = mid.state;
     state_is = state_now;
     durable = durable;
@@ -141,7 +141,7 @@ module _ {D R : Type 0} {disk : D → DiskView} (o : Outside) (accounts : AllAcc
   whole (Some before) after completes untold tells each = (before, each before refl)
 
   -- the disk failed within the turns
-  pub drain_broken : (now : ShelfView) (sink : SinkView) → IsDrainCall disk o now files asked (disk old) (disk later.disk) (Err end.Disk) sink sink
+  pub drain_broken : (now : ShelfView) (sink : SinkView) → IsCallBy disk Makes o now files asked (disk old) (disk later.disk) (Err end.Disk) sink sink
   drain_broken now sink = (Took-nothing sink, inr (why, drained made_durable refl))
 
   -- by how the book was finished behind them
@@ -150,7 +150,7 @@ module _ {D R : Type 0} {disk : D → DiskView} (o : Outside) (accounts : AllAcc
       → ((before after : Image) → (disk mid.disk).told ≡ Some before → (disk later.disk).told ≡ Some after → AreWrittenAt e (AreCompleted (disk later.disk).may_leave mid.state.outs before after))
       → ((origin : Origin) (history : List Step) → StandsNow o.meaning origin history [] (disk later.disk) → AreWrittenAt e (AreWritten o.meaning origin.first history (disk later.disk)))
       → ((files : Image) (file at : ℕ) → (disk mid.disk).told ≡ Some files → e ≢ end.Damaged file at)
-      → ((disk mid.disk).told ≡ None → (disk later.disk).told ≡ None) → IsDrainCall disk o now files asked (disk old) (disk later.disk) (ended e is_said why) a b
+      → ((disk mid.disk).told ≡ None → (disk later.disk).told ≡ None) → IsCallBy disk Makes o now files asked (disk old) (disk later.disk) (ended e is_said why) a b
   unfolding drained
   drain_called now failed whole_disk sound true memory end.Done a b finished all completed written undamaged untold =
       ((whole_disk, (λ same. cc (memory same)), sound), drained (length turned.made) (all_number (all (λ same. cc (same)))), refl, record { completed = λ after tells. whole (disk mid.disk).told after _ untold tells (λ before was. completed before after was tells); written = written }, finished, failed)
@@ -220,10 +220,10 @@ ends_closed m told fault.Refused bad = absurd bad
 ends_closed m told fault.OutOfMemory bad = tt
 
 -- a store that couldn't be opened
-pub drain_closed : {D : Type 0} (disk : D → DiskView) (o : Outside) (now : ShelfView) (files : Image) (asked : Asked) (old new : DiskView) (told : Option Image) (f : BookFault) (sink : SinkView)
-    → told ≡ Some files → IsReopenFault o.meaning told f → IsStill o.meaning old new → IsDrainCall disk o now files asked old new (Err (end_of f)) sink sink
-drain_closed disk o now files asked old new told fault.Disk sink tells bad still = (Took-nothing sink, inl still)
-drain_closed disk o now files asked old new told (fault.Damaged file at) sink tells bad still = (Took-nothing sink, (bad files tells).0, (bad files tells).1, still)
-drain_closed disk o now files asked old new told (fault.Store have) sink tells bad still = (bad.0, bad.1 files tells, Took-nothing sink, still)
-drain_closed disk o now files asked old new told fault.Refused sink tells bad still = absurd bad
-drain_closed disk o now files asked old new told fault.OutOfMemory sink tells bad still = (Took-nothing sink, inl still)
+pub drain_closed : {D : Type 0} (disk : D → DiskView) (Makes : Outside → Place → List Step → TurnsEnd → Type 0) (o : Outside) (now : ShelfView) (files : Image) (asked : Asked) (old new : DiskView) (told : Option Image) (f : BookFault) (sink : SinkView)
+    → told ≡ Some files → IsReopenFault o.meaning told f → IsStill o.meaning old new → IsCallBy disk Makes o now files asked old new (Err (end_of f)) sink sink
+drain_closed disk Makes o now files asked old new told fault.Disk sink tells bad still = (Took-nothing sink, inl still)
+drain_closed disk Makes o now files asked old new told (fault.Damaged file at) sink tells bad still = (Took-nothing sink, (bad files tells).0, (bad files tells).1, still)
+drain_closed disk Makes o now files asked old new told (fault.Store have) sink tells bad still = (bad.0, bad.1 files tells, Took-nothing sink, still)
+drain_closed disk Makes o now files asked old new told fault.Refused sink tells bad still = absurd bad
+drain_closed disk Makes o now files asked old new told fault.OutOfMemory sink tells bad still = (Took-nothing sink, inl still)

@@ -51,12 +51,12 @@ module _ {D : Type 0} (disk : D → DiskView) (o : Outside) (feeds : List (List 
   free : (why : TurnsEnd) (d : Drained disk o files asked old new why) → IsFree o feeds (behind_all o (start o.meaning d.generation d.root d.base d.read asked) d.made)
   free why d = record {
     feeds = opened_feeds_are_readable o (start o.meaning d.generation d.root d.base d.read asked) feeds d.made why is.shelf (opens_so o.meaning (replay o.meaning d.base d.read) asked)
-        (is.sound d.generation d.base d.read d.opens.stored) (is.readable d.generation d.base d.read d.opens.stored) d.drains;
+        (is.sound d.generation d.base d.read d.opens.stored) (is.readable d.generation d.base d.read d.opens.stored) d.makes;
     room = is.room why d;
   }
 
   idle_of : (why : TurnsEnd) → Drained disk o files asked old new why → IsShown why → why ≡ last.Idle
-  idle_of why d shown = free_calls_end_idle o (start o.meaning d.generation d.root d.base d.read asked) feeds d.made why is.shelf is.unbound (free why d) shown d.drains
+  idle_of why d shown = free_calls_end_idle o (start o.meaning d.generation d.root d.base d.read asked) feeds d.made why is.shelf is.unbound (free why d) shown d.makes
 
   turns_end : (why : TurnsEnd) → IsToldEnd why → Drained disk o files asked old new why → EndIdly why
   turns_end last.Idle told d = tt

@@ -1,4 +1,4 @@
--- What `drain` makes of a store.
+-- What a call that makes steps makes of a store, and what `drain` does.
 use Rattle.std.specs.Prelude.{◌≡◌, ◌≢◌, ◌⊎◌, ◌<◌, ℕ, List, [], ◌++◌, length, min, take, Some, Result, Ok, Err}
 use Rattle.base_types.specs.Number.{last_u64}
 use Rattle.edge_traits.specs.Disk.{DiskView, Image}
@@ -49,9 +49,10 @@ pub record IsCallIn {D : Type 0} (disk : D → DiskView) (m : Meaning) (origin :
   pub call : IsCall disk m origin steps more old new made durable
   pub reads : IsSealOf (replay m origin.first (steps ++ take call.count more)) state
 
--- the store opens; the steps that were made, one by one as they were due, and why there are no more; the state behind them, with more
--- lines of outputs sealed where generations were begun on the way; and what the disk stands for, at any moment of the call and behind it
-pub record Drained {D : Type 0} (disk : D → DiskView) (o : Outside) (files : Image) (asked : Asked) (old new : DiskView) (why : TurnsEnd) : Type 0 where
+-- the store opens; the steps that were made, as they are told to be made from there, and why there are no more; the state behind them,
+-- with more lines of outputs sealed where generations were begun on the way; and what the disk stands for, at any moment of the call
+-- and behind it
+pub record Called {D : Type 0} (disk : D → DiskView) (Makes : Outside → Place → List Step → TurnsEnd → Type 0) (o : Outside) (files : Image) (asked : Asked) (old new : DiskView) (why : TurnsEnd) : Type 0 where
   pub generation : ℕ
   pub root : ℕ
   pub base : Base
@@ -59,15 +60,15 @@ pub record Drained {D : Type 0} (disk : D → DiskView) (o : Outside) (files : I
   pub opens : Opens o.meaning files generation base read
   pub root_is : IsRootLength files generation root
   pub made : List Step
-  pub drains : Drains o (start o.meaning generation root base read asked) made why
+  pub makes : Makes o (start o.meaning generation root base read asked) made why
   pub state : Base
   pub state_is : IsSealOf (replay o.meaning (replay o.meaning base read) made) state
   pub durable : ℕ
   pub call : (origin : Origin) (steps more : List Step) → StandsNow o.meaning origin steps more old → IsCallIn disk o.meaning origin steps more old new (replay o.meaning base read) made durable
 
 -- all steps that were made are durable
-abbrev pub IsDurable : {D : Type 0} {disk : D → DiskView} {o : Outside} {files : Image} {asked : Asked} {old new : DiskView} {why : TurnsEnd}
-    → Drained disk o files asked old new why → Type 0
+abbrev pub IsDurable : {D : Type 0} {disk : D → DiskView} {Makes : Outside → Place → List Step → TurnsEnd → Type 0} {o : Outside} {files : Image} {asked : Asked} {old new : DiskView} {why : TurnsEnd}
+    → Called disk Makes o files asked old new why → Type 0
 IsDurable d = d.durable ≡ length d.made
 
 -- the file of each output is its sealed front and each line behind it; and it is all lines of each history that the disk stands
@@ -90,7 +91,7 @@ abbrev pub IsFailedBeyond : Outside → ShelfView → Base → TurnsEnd → Type
 IsFailedBeyond o now s (last.Failed name) = FailedBeyond (collectors o.meaning s) o.shelf now name
 IsFailedBeyond o now s other = Unit {0}
 
--- the ends of a store that a drain may come to
+-- the ends of a store that such a call may come to
 abbrev pub MayEndDrain : StoreEnd → Type 0
 MayEndDrain end.Memory = Unit {0}
 MayEndDrain end.Disk = Unit {0}
@@ -106,23 +107,31 @@ MayEndDrain (end.Full bytes) = ⊥
 -- the shelf is `now` behind the call. The turns ended by a cause of theirs: all steps are durable, the outputs are whole, and the
 -- summary is printed, or a front of it where the sink failed. Where memory ran out or the disk failed nothing is printed; behind
 -- want of memory the steps are durable. Or there is no store, or it is damaged. It has no other end
-abbrev pub IsDrainCall : {D : Type 0} → (D → DiskView) → Outside → ShelfView → Image → Asked → DiskView → DiskView → Result TurnsEnd StoreEnd → SinkView → SinkView → Type 0
-IsDrainCall disk o now files asked old new (Ok why) before after =
-    IsToldEnd why × (d : Drained disk o files asked old new why) × IsDurable d × HasOutputs o.meaning new d.state.outs × Took before after (summary d.state)
+abbrev pub IsCallBy : {D : Type 0} → (D → DiskView) → (Outside → Place → List Step → TurnsEnd → Type 0) → Outside → ShelfView → Image → Asked → DiskView → DiskView → Result TurnsEnd StoreEnd → SinkView → SinkView → Type 0
+IsCallBy disk Makes o now files asked old new (Ok why) before after =
+    IsToldEnd why × (d : Called disk Makes o files asked old new why) × IsDurable d × HasOutputs o.meaning new d.state.outs × Took before after (summary d.state)
     × IsFailedBeyond o now d.state why
-IsDrainCall disk o now files asked old new (Err end.Sink) before after =
-    (why : TurnsEnd) × IsToldEnd why × (d : Drained disk o files asked old new why) × IsDurable d × HasOutputs o.meaning new d.state.outs × TookFront before after (summary d.state)
+IsCallBy disk Makes o now files asked old new (Err end.Sink) before after =
+    (why : TurnsEnd) × IsToldEnd why × (d : Called disk Makes o files asked old new why) × IsDurable d × HasOutputs o.meaning new d.state.outs × TookFront before after (summary d.state)
     × IsFailedBeyond o now d.state why
-IsDrainCall disk o now files asked old new (Err end.Memory) before after =
-    Took before after [] × (IsStill o.meaning old new ⊎ ((why : TurnsEnd) × (d : Drained disk o files asked old new why) × IsDurable d))
-IsDrainCall disk o now files asked old new (Err end.Disk) before after =
-    Took before after [] × (IsStill o.meaning old new ⊎ ((why : TurnsEnd) × Drained disk o files asked old new why))
-IsDrainCall disk o now files asked old new (Err (end.Store have)) before after =
+IsCallBy disk Makes o now files asked old new (Err end.Memory) before after =
+    Took before after [] × (IsStill o.meaning old new ⊎ ((why : TurnsEnd) × (d : Called disk Makes o files asked old new why) × IsDurable d))
+IsCallBy disk Makes o now files asked old new (Err end.Disk) before after =
+    Took before after [] × (IsStill o.meaning old new ⊎ ((why : TurnsEnd) × Called disk Makes o files asked old new why))
+IsCallBy disk Makes o now files asked old new (Err (end.Store have)) before after =
     (have ≡ 0) × (files root_file ≡ []) × Took before after [] × IsStill o.meaning old new
-IsDrainCall disk o now files asked old new (Err (end.Damaged file at)) before after =
+IsCallBy disk Makes o now files asked old new (Err (end.Damaged file at)) before after =
     Took before after [] × (0 < length (files root_file)) × IsDamagedStore o.meaning files file at × IsStill o.meaning old new
-IsDrainCall disk o now files asked old new (Err end.Done) before after = ⊥
-IsDrainCall disk o now files asked old new (Err end.Refused) before after = ⊥
-IsDrainCall disk o now files asked old new (Err (end.NoDump n)) before after = ⊥
-IsDrainCall disk o now files asked old new (Err (end.Spent next)) before after = ⊥
-IsDrainCall disk o now files asked old new (Err (end.Full bytes)) before after = ⊥
+IsCallBy disk Makes o now files asked old new (Err end.Done) before after = ⊥
+IsCallBy disk Makes o now files asked old new (Err end.Refused) before after = ⊥
+IsCallBy disk Makes o now files asked old new (Err (end.NoDump n)) before after = ⊥
+IsCallBy disk Makes o now files asked old new (Err (end.Spent next)) before after = ⊥
+IsCallBy disk Makes o now files asked old new (Err (end.Full bytes)) before after = ⊥
+
+-- ---- a drain: the steps are made one by one as they are due, on one thread
+
+abbrev pub Drained : {D : Type 0} → (D → DiskView) → Outside → Image → Asked → DiskView → DiskView → TurnsEnd → Type 0
+Drained disk = Called disk Drains
+
+abbrev pub IsDrainCall : {D : Type 0} → (D → DiskView) → Outside → ShelfView → Image → Asked → DiskView → DiskView → Result TurnsEnd StoreEnd → SinkView → SinkView → Type 0
+IsDrainCall disk = IsCallBy disk Drains

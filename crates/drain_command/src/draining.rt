@@ -96,15 +96,15 @@ pub fn drain<D: Disk, R: Rules, H: Shelf, C: Clock, S: Sink>(
     }
 }
 
-// Whether it wasn't want of memory that ended the turns: then the summary is printed.
-fn has_memory(last: &TurnsEnd) -> bool
+/// Whether it wasn't want of memory that ended the turns: then the summary is printed.
+pub fn has_memory(last: &TurnsEnd) -> bool
     ensures { (result ≡ false) ↔ (last.now ≡ TurnsEnd.Memory) }
 {
     !matches!(last, TurnsEnd::Memory)
 }
 
-// How the command ends whose book was finished so, with its summary or without, behind these turns.
-fn ended(end: StoreEnd, is_said: bool, last: TurnsEnd) -> Result<TurnsEnd, StoreEnd>
+/// How the command ends whose book was finished so, with its summary or without, behind these turns.
+pub fn ended(end: StoreEnd, is_said: bool, last: TurnsEnd) -> Result<TurnsEnd, StoreEnd>
     ensures { result ≡ ended end is_said last }
 {
     match end {

@@ -5,5 +5,5 @@ mod draining;
 mod laws;
 mod turning;
 
-pub use draining::{Asked, drain};
+pub use draining::{Asked, drain, ended, has_memory};
 pub use laws::free_drains_end_idle;

@@ -3,6 +3,7 @@ ghost use Rattle.edge_traits.specs.Count.{Rose};
 ghost use Rattle.edge_traits.specs.Disk.{Image};
 ghost use Rattle.edge_traits.specs.Shelf.{count_on};
 ghost use Rattle.turn_order.specs.Turn.{collectors};
+ghost use Rattle.drain_turns.specs.Drained.{Drains};
 ghost use Rattle.drain_loop.specs.Calls.{outside, IsUndamaged};
 ghost use Rattle.drain_loop.specs.Feeds.{FailedBeyond};
 ghost use Rattle.drain_command.specs.Turned.{IsTurned};
@@ -25,7 +26,7 @@ pub(crate) fn make_turns<D: Disk, R: Rules, H: Shelf, C: Clock>(
 ) -> TurnsEnd
     requires whole { book.old.broken ≡ false }
     requires loads { (bundle : List ℕ) → asked.opening.bundle ≡ Some bundle → IsSome (R.meaning.facts bundle) }
-    ensures turned { IsTurned D.disk (outside R.meaning (H.shelf shelf.old) (C.told clock.now) book.old.limit) asked book.old book.new result }
+    ensures turned { IsTurned D.disk Drains (outside R.meaning (H.shelf shelf.old) (C.told clock.now) book.old.limit) asked book.old book.new result }
     ensures broken { (result ≡ TurnsEnd.Disk) ↔ (book.new.broken ≡ true) }
     ensures undamaged { (files : Image) → (D.disk book.old.disk).told ≡ Some files → IsUndamaged result }
     ensures disk { result ≡ TurnsEnd.Disk → Rose (D.disk book.old.disk).faults (D.disk book.new.disk).faults }

@@ -1,4 +1,5 @@
 -- what public contracts cite
+pub mod Modules
 pub mod Parameters
 pub mod Networks
 pub mod Table

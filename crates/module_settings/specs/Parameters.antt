@@ -12,10 +12,12 @@ use Rattle.field_types.specs.declared.value.Value.{Value}
 use Rattle.field_types.specs.declared.value.Value.TheVariants as value
 use Rattle.event_model.specs.Lenient.{lenient_tree, type_key}
 use Rattle.event_model.specs.Trees.{both}
+use Rattle.module_settings.specs.Modules.{most_instances, most_of}
 use Rattle.module_settings.specs.declared.form.Form.{Form}
 use Rattle.module_settings.specs.declared.form.Form.TheVariants as form
 use Rattle.module_settings.specs.declared.form.Words.{Words}
 use Rattle.module_settings.specs.declared.form.Words.TheVariants as words
+use Rattle.module_settings.specs.declared.module.Instances.TheVariants as instances
 use Rattle.module_settings.specs.declared.module.ModuleWord.{ModuleWord}
 use Rattle.module_settings.specs.declared.module.ModuleWord.TheVariants as modules
 use Rattle.module_settings.specs.declared.setting.Setting.{Setting}
@@ -146,36 +148,10 @@ own modules.Prefix =
 own modules.Taxonomy = []
 own modules.Output = []
 
--- how many instances of a bot of the module may run
-abbrev pub most_instances : ModuleWord → ℕ
-most_instances modules.Collector = 1
-most_instances _ = 16
-
 -- those of all bots, and those of the module where it is known
 abbrev pub parameters_of : Option ModuleWord → List Parameter
-parameters_of None = shared 16
+parameters_of None = shared (most_of instances.Several)
 parameters_of (Some word) = shared (most_instances word) ++ own word
-
--- the module that a word names
-abbrev pub module_words : List (List ℕ × ModuleWord)
-module_words =
-    (codes "collector.file", modules.Collector) ∷
-    (codes "parser.csv", modules.Csv) ∷
-    (codes "parser.json", modules.Json) ∷
-    (codes "expert.sieve", modules.Sieve) ∷
-    (codes "expert.deduplicator", modules.Dedup) ∷
-    (codes "expert.prefix", modules.Prefix) ∷
-    (codes "expert.taxonomy", modules.Taxonomy) ∷
-    (codes "output.file", modules.Output) ∷
-    []
-
-abbrev pub named_module : List (List ℕ × ModuleWord) → List ℕ → Option ModuleWord
-named_module [] word = None
-named_module (row ∷ rows) word = if bytes_eq word row.0 then Some row.1 else named_module rows word
-
--- the module that a value of JSON names
-abbrev pub module_of_value : Data → Option ModuleWord
-module_of_value d = option_and_then (named_module module_words) (as_str d)
 
 -- what a parameter is taken as: nothing where its value is of another form, or where it must be given and isn't
 abbrev pub setting_of : Parameter → Option Data → Option Setting

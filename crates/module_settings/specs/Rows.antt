@@ -1,5 +1,5 @@
 -- The parameters as the program's table has them, and rows behind others.
-use Rattle.std.specs.Prelude.{◌≡◌, ℕ, [], ◌∷◌, ◌++◌, Bool, true, false, Option, Some, None, Result, Ok, Err}
+use Rattle.std.specs.Prelude.{◌≡◌, ℕ, [], ◌∷◌, ◌++◌, Option, Some, None, Result, Ok, Err}
 use Rattle.std.specs.FinMap.{empty}
 use Rattle.module_settings.specs.Parameters as table
 use Rattle.module_settings.specs.declared.parameter.Otherwise.{Otherwise}
@@ -26,11 +26,6 @@ otherwise_of otherwise.NoDefaults = Some (setting.Defaults empty)
 -- a row of the table
 abbrev pub parameter_of : Parameter → table.Parameter
 parameter_of q = table.row q.name.now q.form (otherwise_of q.otherwise)
-
--- how many instances may run
-abbrev pub most_of : Bool → ℕ
-most_of true = 1
-most_of false = 16
 
 -- ---- tables
 

@@ -1,4 +1,5 @@
-//! The settings of modules: which parameters each has, what a value of JSON is taken as, and tables of networks.
+//! The settings of modules: what is known of each by its word, which parameters it has, what a value of JSON is taken as, and
+//! tables of networks.
 #![tactic(auto)]
 
 mod form;
@@ -10,8 +11,13 @@ mod taken;
 mod texts;
 
 pub use form::{Form, Words};
-pub use module::{ModuleWord, module_of};
-pub use parameter::{Otherwise, Parameter, own_parameters, setting_of, shared_parameters};
+pub use module::{
+    FileKind, Instances, ModuleFacts, ModuleWord, Role, facts_of, file_kind, is_collector,
+    is_output, module_of, reads_file, reads_sieve, reads_table,
+};
+pub use parameter::{
+    Otherwise, Parameter, own_parameters, parameters_of, setting_of, shared_parameters,
+};
 pub use setting::Setting;
 pub use table::{FieldsList, NetworkList, Table, TableFault, row_count, table_in};
 pub use taken::{is_file_name, taken_as};

@@ -1,12 +1,13 @@
 //! The parameters of modules.
-ghost use Rattle.std.specs.Prelude.{◌≡◌, ◌∷◌, [], map, option_map, IfOk};
+ghost use Rattle.std.specs.Prelude.{◌≡◌, ◌∷◌, ◌++◌, [], map, option_map, IfOk};
 ghost use Rattle.serde_json.specs.View.{view};
-ghost use Rattle.module_settings.specs.Parameters.{own, setting_of, shared};
-ghost use Rattle.module_settings.specs.Rows.{most_of, otherwise_of, parameter_of};
+ghost use Rattle.module_settings.specs.Modules.{most_of};
+ghost use Rattle.module_settings.specs.Parameters.{own, parameters_of, setting_of, shared};
+ghost use Rattle.module_settings.specs.Rows.{otherwise_of, parameter_of};
 
 use crate::taken::taken_as;
 use crate::texts::text_of;
-use crate::{Form, ModuleWord, Setting, Words};
+use crate::{Form, Instances, ModuleWord, Setting, Words, facts_of};
 use base_types::{OutOfMemory, TextList};
 use event_model::Fields;
 use serde_json::Value as Tree;
@@ -85,7 +86,7 @@ const ONE_INSTANCE: Parameter = Parameter {
 
 static SHARED: [Parameter; 4] = [RETRIES, PROCEDURE, DELAY, INSTANCES];
 
-static OF_COLLECTORS: [Parameter; 4] = [RETRIES, PROCEDURE, DELAY, ONE_INSTANCE];
+static OF_ONE_INSTANCE: [Parameter; 4] = [RETRIES, PROCEDURE, DELAY, ONE_INSTANCE];
 
 static COLLECTOR: [Parameter; 5] = [
     Parameter {
@@ -189,14 +190,13 @@ static PREFIX: [Parameter; 2] = [
 
 static NONE: [Parameter; 0] = [];
 
-/// The parameters of all bots; a collector has one instance alone.
-pub fn shared_parameters(is_collector: bool) -> &'static [Parameter]
-    ensures { map parameter_of result.now ≡ shared (most_of is_collector) }
+/// The parameters of all bots, of which so many instances may run.
+pub fn shared_parameters(instances: Instances) -> &'static [Parameter]
+    ensures { map parameter_of result.now ≡ shared (most_of instances) }
 {
-    if is_collector {
-        &OF_COLLECTORS
-    } else {
-        &SHARED
+    match instances {
+        Instances::One => &OF_ONE_INSTANCE,
+        Instances::Several => &SHARED,
     }
 }
 
@@ -212,6 +212,19 @@ pub fn own_parameters(word: ModuleWord) -> &'static [Parameter]
         ModuleWord::Dedup => &DEDUP,
         ModuleWord::Prefix => &PREFIX,
         ModuleWord::Taxonomy | ModuleWord::Output => &NONE,
+    }
+}
+
+/// The parameters of all bots, and those of the module, where it is known.
+pub fn parameters_of(word: Option<ModuleWord>) -> (&'static [Parameter], &'static [Parameter])
+    ensures { map parameter_of result.0.now ++ map parameter_of result.1.now ≡ parameters_of word }
+{
+    match word {
+        Some(word) => (
+            shared_parameters(facts_of(word).instances),
+            own_parameters(word),
+        ),
+        None => (shared_parameters(Instances::Several), &NONE),
     }
 }
 

@@ -4,7 +4,7 @@
 use std::fs;
 use std::io::IsTerminal;
 use std::process::ExitCode;
-use system_run::run;
+use system_run::run_threaded;
 
 // A file that is there on any system, and of which nothing is read.
 const NO_FILE: &str = "/dev/null";
@@ -16,5 +16,5 @@ fn main(rt: HostRuntime) -> ExitCode {
     let _second = fs::open(&rt, NO_FILE);
     let _third = fs::open(&rt, NO_FILE);
     let is_terminal = rt.stderr().is_terminal();
-    ExitCode::from(run(&rt, is_terminal))
+    ExitCode::from(run_threaded(&rt, is_terminal))
 }

@@ -21,15 +21,16 @@ use Rattle.store_commands.specs.Redone.{IsRedoCall, RedoesStep}
 use Rattle.store_commands.specs.declared.end.StoreEnd.{StoreEnd}
 use Rattle.store_commands.specs.declared.end.StoreEnd.TheVariants as ended
 use Rattle.store_commands.specs.declared.printing.Shown.{Shown}
+use Rattle.drain_turns.specs.Drained.{Drains, Place}
 use Rattle.drain_turns.specs.Turn.{Outside}
 use Rattle.drain_turns.specs.declared.end.TurnsEnd.{TurnsEnd}
 use Rattle.drain_loop.specs.Calls.{outside}
-use Rattle.drain_command.specs.Drained.{Drained, IsDrainCall, IsStill}
+use Rattle.drain_command.specs.Drained.{Called, IsCallBy, IsStill}
 use Rattle.drain_command.specs.declared.draining.Asked.{Asked}
 use Rattle.command_words.specs.Command as asked
 use Rattle.bundle_bringing.specs.declared.bringing.Unbrought.{Unbrought}
 use Rattle.status_texts.specs.declared.status.Status.{Status}
-use Rattle.pipeline_top.specs.Commands.{IsAuditedBy, IsDrained, IsDrainedBy, IsDrilled, IsDrillEnd, IsInit, IsMadeOf, IsRedoneBy, IsShownBy, IsUndrained, IsUnmade}
+use Rattle.pipeline_top.specs.Commands.{IsAuditedBy, IsDrilled, IsDrillEnd, IsInit, IsMadeOf, IsRedoneBy, IsRunAs, IsRunBy, IsShownBy, IsUndrained, IsUnmade}
 use Rattle.pipeline_top.specs.History.{KeepsHistory, LeavesHistory}
 use Rattle.pipeline_top.specs.Outside.{Seen}
 use Rattle.pipeline_top.proofs.Still.{still_here}
@@ -76,35 +77,35 @@ kept_still m old new still = λ first steps more was. kept_on first steps more o
 pub kept_here : (d : DiskView) → ((image : Image) → d.left_since d.moment image → IsImage d.may_leave image) → KeepsHistory intel d d
 kept_here d only = kept_still intel d d (still_here d only)
 
--- ---- a drain
+-- ---- bots run
 
-module _ {D : Type 0} (disk : D → DiskView) (o : Outside) (now : ShelfView) (files : Image) (ask : Asked) (old new : DiskView) where
-  kept_drained : (why : TurnsEnd) → Drained disk o files ask old new why → KeepsHistory o.meaning old new
-  kept_drained why d = λ first steps more was. kept_by first steps more d.made d.durable old new (d.call (origin_of first true) steps more was).call
+module _ {D : Type 0} (disk : D → DiskView) (Makes : Outside → Place → List Step → TurnsEnd → Type 0) (o : Outside) (now : ShelfView) (files : Image) (ask : Asked) (old new : DiskView) where
+  kept_called : (why : TurnsEnd) → Called disk Makes o files ask old new why → KeepsHistory o.meaning old new
+  kept_called why d = λ first steps more was. kept_by first steps more d.made d.durable old new (d.call (origin_of first true) steps more was).call
 
-  kept_drain : (done : Result TurnsEnd StoreEnd) (before after : SinkView) → IsDrainCall disk o now files ask old new done before after → KeepsHistory o.meaning old new
-  kept_drain (Ok why) before after call = kept_drained why call.1
-  kept_drain (Err ended.Sink) before after call = kept_drained call.0 call.2
-  kept_drain (Err ended.Memory) before after call = ⊎_elim (kept_still o.meaning old new) (λ made. kept_drained made.0 made.1) call.1
-  kept_drain (Err ended.Disk) before after call = ⊎_elim (kept_still o.meaning old new) (λ made. kept_drained made.0 made.1) call.1
-  kept_drain (Err (ended.Store have)) before after call = kept_still o.meaning old new call.3
-  kept_drain (Err (ended.Damaged file at)) before after call = kept_still o.meaning old new call.3
-  kept_drain (Err ended.Done) before after call = absurd call
-  kept_drain (Err ended.Refused) before after call = absurd call
-  kept_drain (Err (ended.NoDump n)) before after call = absurd call
-  kept_drain (Err (ended.Spent next)) before after call = absurd call
-  kept_drain (Err (ended.Full bytes)) before after call = absurd call
+  kept_call : (done : Result TurnsEnd StoreEnd) (before after : SinkView) → IsCallBy disk Makes o now files ask old new done before after → KeepsHistory o.meaning old new
+  kept_call (Ok why) before after call = kept_called why call.1
+  kept_call (Err ended.Sink) before after call = kept_called call.0 call.2
+  kept_call (Err ended.Memory) before after call = ⊎_elim (kept_still o.meaning old new) (λ made. kept_called made.0 made.1) call.1
+  kept_call (Err ended.Disk) before after call = ⊎_elim (kept_still o.meaning old new) (λ made. kept_called made.0 made.1) call.1
+  kept_call (Err (ended.Store have)) before after call = kept_still o.meaning old new call.3
+  kept_call (Err (ended.Damaged file at)) before after call = kept_still o.meaning old new call.3
+  kept_call (Err ended.Done) before after call = absurd call
+  kept_call (Err ended.Refused) before after call = absurd call
+  kept_call (Err (ended.NoDump n)) before after call = absurd call
+  kept_call (Err (ended.Spent next)) before after call = absurd call
+  kept_call (Err (ended.Full bytes)) before after call = absurd call
 
-kept_drained_by : {D : Type 0} (disk : D → DiskView) (ask : asked.Ask) (seen : Seen) (end : Status) (old new : DiskView) (bundle : Option (List ℕ)) → IsDrainedBy disk ask seen end old new bundle → KeepsHistory intel old new
-kept_drained_by disk ask seen end old new bundle is = λ first steps more was.
-    kept_drain disk (outside intel is.shelf seen.clock most_step_bytes) seen.shelf_now was.files (record { opening = record { bundle = bundle; rounds = ask.round }; left = ask.steps }) old new is.done seen.sink seen.sink_now
-    (is.drained was.files was.tells) first steps more was
+kept_run_by : {D : Type 0} (disk : D → DiskView) (Makes : Outside → Place → List Step → TurnsEnd → Type 0) (ask : asked.Ask) (seen : Seen) (end : Status) (old new : DiskView) (bundle : Option (List ℕ)) → IsRunBy disk Makes ask seen end old new bundle → KeepsHistory intel old new
+kept_run_by disk Makes ask seen end old new bundle is = λ first steps more was.
+    kept_call disk Makes (outside intel is.shelf seen.clock most_step_bytes) seen.shelf_now was.files (record { opening = record { bundle = bundle; rounds = ask.round }; left = ask.steps }) old new is.done seen.sink seen.sink_now
+    (is.ran was.files was.tells) first steps more was
 
-pub kept_by_drain : {D : Type 0} (disk : D → DiskView) (ask : asked.Ask) (seen : Seen) (old new : DiskView) (end : Status) → IsDrained disk ask seen old new end → KeepsHistory intel old new
-kept_by_drain disk ask seen old new end is = go is.named is.done
+pub kept_by_run : {D : Type 0} (disk : D → DiskView) (Makes : Outside → Place → List Step → TurnsEnd → Type 0) (ask : asked.Ask) (seen : Seen) (old new : DiskView) (end : Status) → IsRunAs disk Makes ask seen old new end → KeepsHistory intel old new
+kept_by_run disk Makes ask seen old new end is = go is.named is.done
   where
-    go : (named : Result (Option (List ℕ)) Unbrought) → MatchResult named (IsDrainedBy disk ask seen end old new) (IsUndrained seen end old new) → KeepsHistory intel old new
-    go (Ok bundle) done = kept_drained_by disk ask seen end old new bundle done
+    go : (named : Result (Option (List ℕ)) Unbrought) → MatchResult named (IsRunBy disk Makes ask seen end old new) (IsUndrained seen end old new) → KeepsHistory intel old new
+    go (Ok bundle) done = kept_run_by disk Makes ask seen end old new bundle done
     go (Err why) done = kept_still intel old new done.still
 
 -- ---- other commands on a store
@@ -151,7 +152,7 @@ module _ {D : Type 0} (disk : D → DiskView) (lines number : ℕ) (seen : Seen)
   kept_undrilled same = subst (λ d. LeavesHistory steps (disk old) (disk d)) (sym same) made
 
   kept_drill : (making : StoreEnd) → IsDrillEnd disk lines number seen mid new end making → LeavesHistory steps (disk old) (disk new)
-  kept_drill ended.Done is = kept_further steps (disk old) (disk mid) (disk new) made (kept_drained_by disk _ _ end (disk mid) (disk new) _ is first steps more now)
+  kept_drill ended.Done is = kept_further steps (disk old) (disk mid) (disk new) made (kept_run_by disk Drains _ _ end (disk mid) (disk new) _ is first steps more now)
   kept_drill ended.Memory is = kept_undrilled is.1
   kept_drill ended.Disk is = kept_undrilled is.1
   kept_drill ended.Sink is = kept_undrilled is.1

@@ -1,7 +1,6 @@
 -- What a line comes to, and what it does to the rest of a conversion.
-use Rattle.std.proofs.Common.{◌≡◌, ◌+◌, ◌<◌, ◌≤◌, ℕ, List, [], ◌∷◌, ◌++◌, true, false, ◌==◌, nat_lt, Option, Some, None, unwrap_or, length, Result, Ok, IfOk, refl, sym, ◌∙◌, ap, subst, append_assoc}
+use Rattle.std.proofs.Common.{◌≡◌, ◌+◌, ◌<◌, ◌≤◌, ℕ, List, [], ◌∷◌, ◌++◌, true, false, ◌==◌, nat_lt, Option, Some, None, unwrap_or, length, Result, IfOk, refl, sym, ◌∙◌, ap, subst, append_assoc}
 use Rattle.std.proofs.lemmas.Bool.{cond-true, cond-false, lt-ltb, le-ltb}
-use Rattle.event_model.specs.declared.message.Message.{Message}
 use Rattle.event_text.specs.Lenient.{lenient, PutsText}
 use Rattle.event_text.specs.Text.{message_text}
 use Rattle.report_cut.specs.Line.{without_newline}

@@ -1,5 +1,5 @@
 -- What the program does for each command.
-use Rattle.std.specs.Prelude.{◌≡◌, ◌⊎◌, ◌<◌, ◌≤◌, ◌++◌, ℕ, true, false, List, [], length, codes, decimal, Option, Some, None, Result, IfErr, MatchResult, ⊤}
+use Rattle.std.specs.Prelude.{◌≡◌, ◌⊎◌, ◌<◌, ◌≤◌, ◌++◌, ◌||◌, ℕ, Bool, true, false, List, [], length, codes, decimal, Option, Some, None, is_some, MatchOption, Result, IfErr, MatchResult, ⊤}
 use Rattle.edge_traits.specs.Disk.{DiskView, Image}
 use Rattle.edge_traits.specs.Shelf.{ShelfView, content_of, count_on, lacks}
 use Rattle.edge_traits.specs.Sink.{Took}
@@ -23,12 +23,16 @@ use Rattle.store_commands.specs.declared.end.StoreEnd.TheVariants as ended
 use Rattle.store_commands.specs.declared.printing.Shown.{Shown}
 use Rattle.store_commands.specs.declared.printing.Shown.TheVariants as shown
 use Rattle.drain_loop.specs.Calls.{outside}
+use Rattle.drain_turns.specs.Drained.{Drains, Place}
+use Rattle.drain_turns.specs.Turn.{Outside}
 use Rattle.drain_turns.specs.declared.end.TurnsEnd.{TurnsEnd}
-use Rattle.drain_command.specs.Drained.{IsDrainCall, MayEndDrain}
+use Rattle.drain_command.specs.Drained.{IsCallBy, MayEndDrain}
+use Rattle.run_command.specs.Runs.{Runs}
 use Rattle.audit_command.specs.Audited.{IsAuditOf}
 use Rattle.audit_command.specs.declared.end.AuditEnd.{AuditEnd}
 use Rattle.feed_maker.specs.Drill.{drill_bundle, drill_shelf}
 use Rattle.command_words.specs.Command as asked
+use Rattle.command_words.specs.Words.{command_of, run_of}
 use Rattle.bundle_bringing.specs.Brought.{Brings, Names}
 use Rattle.bundle_bringing.specs.declared.bringing.Unbrought.{Unbrought}
 use Rattle.pipeline_top.specs.Convert.{conversion, convert_bot, end_of, IsOutside, Wrote}
@@ -107,16 +111,16 @@ pub record IsInit (name : List ℕ) (seen : Seen) (old new : DiskView) (end : St
   pub brings : Brings seen.shelf name brought
   pub done : MatchResult brought (IsMadeOf seen end old new) (IsUnmade seen end old new)
 
--- the store was drained: with the bundle of this code put in force, if one is named. What was fetched of the bundle may have
--- raised the shelf's counts before the turns
-pub record IsDrainedBy {D : Type 0} (disk : D → DiskView) (ask : asked.Ask) (seen : Seen) (end : Status) (old new : DiskView) (bundle : Option (List ℕ)) : Type 0 where
+-- the bots of the store ran, their steps made as `Makes` tells: with the bundle of this code put in force, if one is named. What was
+-- fetched of the bundle may have raised the shelf's counts before the turns
+pub record IsRunBy {D : Type 0} (disk : D → DiskView) (Makes : Outside → Place → List Step → TurnsEnd → Type 0) (ask : asked.Ask) (seen : Seen) (end : Status) (old new : DiskView) (bundle : Option (List ℕ)) : Type 0 where
   pub done : Result TurnsEnd StoreEnd
   pub ends : IfErr done MayEndDrain
   pub end_is : end ≡ drain_status ask.steps done
   pub shelf : ShelfView
   pub same_shelf : shelf.told ≡ seen.shelf.told
   pub counts : (name : List ℕ) → count_on seen.shelf name ≤ count_on shelf name
-  pub drained : WhereTold old (λ files. IsDrainCall disk (outside intel shelf seen.clock most_step_bytes) seen.shelf_now files (record { opening = record { bundle = bundle; rounds = ask.round }; left = ask.steps }) old new done seen.sink seen.sink_now)
+  pub ran : WhereTold old (λ files. IsCallBy disk Makes (outside intel shelf seen.clock most_step_bytes) seen.shelf_now files (record { opening = record { bundle = bundle; rounds = ask.round }; left = ask.steps }) old new done seen.sink seen.sink_now)
   pub others : WhereTold old (λ files. LeavesAlone old new (IsEarlierIn files))
 
 -- the bundle wasn't brought: that is told after what opening the store comes to, and no step is made
@@ -128,10 +132,21 @@ pub record IsUndrained (seen : Seen) (end : Status) (old new : DiskView) (why : 
   pub still : IsStill old new
   pub others : WhereTold old (λ files. LeavesAlone old new (IsEarlierIn files))
 
-pub record IsDrained {D : Type 0} (disk : D → DiskView) (ask : asked.Ask) (seen : Seen) (old new : DiskView) (end : Status) : Type 0 where
+pub record IsRunAs {D : Type 0} (disk : D → DiskView) (Makes : Outside → Place → List Step → TurnsEnd → Type 0) (ask : asked.Ask) (seen : Seen) (old new : DiskView) (end : Status) : Type 0 where
   pub named : Result (Option (List ℕ)) Unbrought
   pub names : Names seen.shelf ask.reload named
-  pub done : MatchResult named (IsDrainedBy disk ask seen end old new) (IsUndrained seen end old new)
+  pub done : MatchResult named (IsRunBy disk Makes ask seen end old new) (IsUndrained seen end old new)
+
+-- the store was drained: its steps were made one by one as they were due, on one thread
+abbrev pub IsDrainedBy : {D : Type 0} → (D → DiskView) → asked.Ask → Seen → Status → DiskView → DiskView → Option (List ℕ) → Type 0
+IsDrainedBy disk = IsRunBy disk Drains
+
+abbrev pub IsDrained : {D : Type 0} → (D → DiskView) → asked.Ask → Seen → DiskView → DiskView → Status → Type 0
+IsDrained disk = IsRunAs disk Drains
+
+-- its bots ran on threads
+abbrev pub IsRun : {D : Type 0} → (D → DiskView) → asked.Ask → Seen → DiskView → DiskView → Status → Type 0
+IsRun disk = IsRunAs disk Runs
 
 -- a drill is a drain of all turns
 abbrev pub no_ask : asked.Ask
@@ -207,3 +222,11 @@ IsTool disk (Some asked.Dumps) seen old new end = IsShownBy shown.Dumps seen (di
 IsTool disk (Some asked.Audit) seen old new end = IsAuditedBy seen (disk old) (disk new) end
 IsTool disk (Some (asked.Redo dump)) seen old new end = IsRedoneBy disk dump seen (disk old) (disk new) end
 IsTool disk (Some (asked.Drill lines number)) seen old new end = IsDrilled disk lines number seen old new end
+
+-- words that ask for bots on threads have them run; other words are a command, or none
+abbrev pub IsPipeline : {D : Type 0} → (D → DiskView) → List (List ℕ) → Seen → D → D → Status → Type 0
+IsPipeline disk words seen old new end = MatchOption (run_of words) (IsTool disk (command_of words) seen old new end) (λ ask. IsRun disk ask seen (disk old) (disk new) end)
+
+-- the words are a command, or ask for bots on threads
+abbrev pub is_pipeline : List (List ℕ) → Bool
+is_pipeline words = is_some (run_of words) || is_some (command_of words)

@@ -87,8 +87,13 @@ pub(crate) fn drain_with<H: Shelf, D: Disk, S: Sink, C: Clock>(
     (drain_status(ask.steps, end), disk)
 }
 
-// A store that can't be opened is told before what is wrong with the bundle. No step is made.
-fn undrained<D: Disk, S: Sink>(alloc: Global, disk: D, why: Unbrought, out: &mut S) -> (Status, D)
+/// A store that can't be opened is told before what is wrong with the bundle. No step is made.
+pub(crate) fn undrained<D: Disk, S: Sink>(
+    alloc: Global,
+    disk: D,
+    why: Unbrought,
+    out: &mut S,
+) -> (Status, D)
     ensures undrained { (seen : Seen) → seen.sink ≡ S.sink out.old → seen.sink_now ≡ S.sink out.new
         → IsUndrained seen result.0 (D.disk disk) (D.disk result.1) why }
     ensures words { result.0 ≢ Status.Words }

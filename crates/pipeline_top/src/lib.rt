@@ -11,9 +11,12 @@ mod halt;
 mod init;
 mod line;
 mod pieces;
+mod pipeline;
+mod run;
 mod show;
 mod statuses;
 mod tool;
 
+pub use pipeline::run_pipeline;
 pub use status_texts::{FeedWhy, Status, status_text};
 pub use tool::run_tool;

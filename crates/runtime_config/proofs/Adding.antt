@@ -10,7 +10,8 @@ use Rattle.std.proofs.lemmas.List.Sums.{sum_by-append, sum_by-cons}
 use Rattle.std.proofs.lemmas.Slice.Eq.{bytes_eq-Decides}
 use Rattle.serde_json.specs.Data.{Members}
 use Rattle.config_bundle.specs.declared.bundle.Bundle.{Bundle}
-use Rattle.runtime_config.specs.Faults.{content, distinct, file_length, file_of, instances, longest_bundle, most_bots, most_instances, most_rows_in_all, pass_together, passes_own, rows, rows_in_all}
+use Rattle.runtime_text.specs.Named.{file_of}
+use Rattle.runtime_config.specs.Faults.{content, distinct, file_length, instances, longest_bundle, most_bots, most_instances, most_rows_in_all, pass_together, passes_own, rows, rows_in_all}
 use Rattle.runtime_text.specs.Runtime.{Entry}
 use Rattle.runtime_config.specs.Sums.{added, are_past, new_bytes, passes_by, with_file, AreNumbers, AreSums}
 use Rattle.runtime_config.specs.declared.limits.Numbers.{Numbers}

@@ -1,14 +1,14 @@
 -- The first fault of several.
-use Rattle.std.proofs.Common.{◌≡◌, ℕ, List, Bool, true, false, not, ◌||◌, OnOk, if◌then◌else◌, Option, Some, None, Result, Ok, Err, option_map, refl, sym, ap, subst, ◌∙◌}
+use Rattle.std.proofs.Common.{◌≡◌, ℕ, List, [], ◌∷◌, ◌++◌, Bool, true, false, not, ◌||◌, OnOk, if◌then◌else◌, Option, Some, None, Result, Ok, Err, refl, sym, ap, subst, ◌∙◌}
 use Rattle.std.specs.Option.{option_or}
 use Rattle.serde_json.specs.Data.{Members}
 use Rattle.config_bundle.specs.declared.bundle.Bundle.{Bundle}
-use Rattle.runtime_config.specs.Faults.{bad_names, cycle_fault, fault_of, file_fault, limit_fault, missing_names, module_fault, path_fault, queue_fault, sieve_fault, table_fault, Place}
-use Rattle.event_model.specs.Lenient.{least}
+use Rattle.runtime_config.specs.Faults.{fault_of, first_of, pass_together, passes_own, passes_patterns, past_limit, rules_of_places, rules_of_settings, rules_of_sieves, table_fault, Place, Rule}
 use Rattle.runtime_config.specs.Found.{IsFault, IsFound, IsPlannedAs, IsSieveOf}
 use Rattle.runtime_config.specs.Load.{planned}
+use Rattle.runtime_config.specs.Whole.{is_past}
 use Rattle.runtime_text.specs.Runtime.{module_of, Entry}
-use Rattle.runtime_config.specs.Modules.{is_prefix}
+use Rattle.module_settings.specs.Modules.{reads_table}
 use Rattle.runtime_config.specs.declared.fault.LoadFault.{LoadFault}
 use Rattle.runtime_config.specs.declared.fault.LoadFault.TheVariants as fault
 use Rattle.event_model.specs.Fields.{FieldMap}
@@ -52,22 +52,31 @@ same_planned o p q r same is = subst (λ (x : Found). IsPlannedAs x q r) same is
 pub later_sieve : (o rest : Found) (s : SieveView) (r : Result SieveView LoadFault) → o ≡ None → IsSieveOf rest s r → IsSieveOf (option_or o rest) s r
 later_sieve o rest s r none is = subst (λ (p : Found). IsSieveOf (option_or p rest) s r) (sym none) is
 
+-- the last rule of several
 pub or_none : (o : Found) → option_or o None ≡ o
 or_none None = refl
 or_none (Some e) = refl
 
-pub four_first : (a b c d rest : Found) → option_or (option_or a (option_or b (option_or c d))) rest ≡ option_or a (option_or b (option_or c (option_or d rest)))
-four_first (Some e) b c d rest = refl
-four_first None (Some e) c d rest = refl
-four_first None None (Some e) d rest = refl
-four_first None None None d rest = refl
+pub last_found : {A : Type 0} (o : Found) (r : Result A LoadFault) → IsFound o r → IsFound (option_or o None) r
+last_found o r is = subst (λ (p : Found). IsFound p r) (sym (or_none o)) is
 
-pub two_first : (a b rest : Found) → option_or (option_or a b) rest ≡ option_or a (option_or b rest)
-two_first (Some e) b rest = refl
-two_first None b rest = refl
+pub last_planned : (o : Found) (q : Planned) (r : Result Planned LoadFault) → IsPlannedAs o q r → IsPlannedAs (option_or o None) q r
+last_planned o q r is = subst (λ (p : Found). IsPlannedAs p q r) (sym (or_none o)) is
+
+pub last_sieve : (o : Found) (s : SieveView) (r : Result SieveView LoadFault) → IsSieveOf o s r → IsSieveOf (option_or o None) s r
+last_sieve o s r is = subst (λ (p : Found). IsSieveOf p s r) (sym (or_none o)) is
+
+grouped : (a b c : Found) → option_or (option_or a b) c ≡ option_or a (option_or b c)
+grouped None b c = refl
+grouped (Some e) b c = refl
+
+-- rules behind others
+pub rules_split : (front back : List Rule) (p : Place) → first_of (front ++ back) p ≡ option_or (first_of front p) (first_of back p)
+rules_split [] back p = refl
+rules_split (rule ∷ front) back p = ap (λ (o : Found). option_or (rule p) o) (rules_split front back p) ∙ sym (grouped (rule p) (first_of front p) (first_of back p))
 
 -- a bot whose module reads no table has no fault in one
-pub no_table : (bundle : Bundle) (global : Members) (bot : Entry) → is_prefix (module_of bot) ≡ false → table_fault bundle global bot ≡ None
+pub no_table : (bundle : Bundle) (global : Members) (bot : Entry) → reads_table (module_of bot) ≡ false → table_fault bundle global bot ≡ None
 no_table bundle global bot is = rw is refl
 
 pub planned_is : (bundle : Bundle) (global : Members) (bot : Entry) (p : Planned) → p.bot ≡ (planned bundle global bot).bot → p.«module» ≡ (planned bundle global bot).«module» → p.instances ≡ (planned bundle global bot).instances
@@ -76,7 +85,7 @@ planned_is bundle global bot p b m i r d s ps = λ t. record { bot = b t; «modu
 
 -- ---- the faults of queues, limits and cycles
 
-abbrev when : Bool → LoadFault → Found
+abbrev pub when : Bool → LoadFault → Found
 when b e = if b then Some e else None
 
 pub there : (b : Bool) (e f : LoadFault) (rest : Found) → b ≡ true → f ≡ e → option_or (when b e) rest ≡ Some f
@@ -106,26 +115,20 @@ on_ok (Err _) P p = tt
 
 -- ---- all rules
 
-pub fault_split : (p : Place) → option_or (option_or (module_fault p.bot) (option_or (option_map (fault.Parameter p.bot.0) (least (bad_names p.runtime.global p.bot)))
-    (option_or (option_map (fault.Missing p.bot.0) (least (missing_names p.runtime.global p.bot))) (file_fault p.bundle p.runtime.global p.bot))))
-    (option_or (option_or (sieve_fault p.bundle p.runtime.global p.bot) (path_fault p.bundle p.runtime.global p.bot))
-    (option_or (cycle_fault p.runtime.bots p.bot) (option_or (limit_fault p.bundle p.runtime.global p.before p.bot) (option_or (queue_fault p.runtime.bots p.bot) (table_fault p.bundle p.runtime.global p.bot))))) ≡ fault_of p
+pub sieves_split : (p : Place) → option_or (first_of rules_of_sieves p) (first_of rules_of_places p) ≡ first_of (rules_of_sieves ++ rules_of_places) p
+sieves_split p = sym (rules_split rules_of_sieves rules_of_places p)
+
+pub fault_split : (p : Place) → option_or (first_of rules_of_settings p) (first_of (rules_of_sieves ++ rules_of_places) p) ≡ fault_of p
 unfolding fault_of
-fault_split p =
-    let words = module_fault p.bot in
-    let bad = option_map (fault.Parameter p.bot.0) (least (bad_names p.runtime.global p.bot)) in
-    let missing = option_map (fault.Missing p.bot.0) (least (missing_names p.runtime.global p.bot)) in
-    let file = file_fault p.bundle p.runtime.global p.bot in
-    let sieve = sieve_fault p.bundle p.runtime.global p.bot in
-    let path = path_fault p.bundle p.runtime.global p.bot in
-    let cycle = cycle_fault p.runtime.bots p.bot in
-    let limit = limit_fault p.bundle p.runtime.global p.before p.bot in
-    let queue = queue_fault p.runtime.bots p.bot in
-    let table = table_fault p.bundle p.runtime.global p.bot in
-    four_first words bad missing file (option_or (option_or sieve path) (option_or cycle (option_or limit (option_or queue table))))
-    ∙ ap (λ (o : Found). option_or words (option_or bad (option_or missing (option_or file o))))
-    (two_first sieve path (option_or cycle (option_or limit (option_or queue table)))
-    ∙ ap (λ (o : Found). option_or sieve (option_or path (option_or cycle (option_or limit (option_or queue o))))) (sym (or_none table)))
+fault_split p = sym (rules_split rules_of_settings (rules_of_sieves ++ rules_of_places) p) ∙ ap (λ (rs : List Rule). first_of rs p) (sym (grouped_rules rules_of_settings rules_of_sieves rules_of_places))
+  where
+    grouped_rules : (a b c : List Rule) → (a ++ b) ++ c ≡ a ++ (b ++ c)
+    grouped_rules [] b c = refl
+    grouped_rules (r ∷ a) b c = ap (λ (rs : List Rule). r ∷ rs) (grouped_rules a b c)
+
+-- a bot with a number above its limit
+pub limit_is : (p : Place) → past_limit p ≡ when (is_past p) (fault.Limit p.bot.0)
+limit_is p = either (passes_patterns p.bundle p.runtime.global p.bot) (passes_own p.bundle p.runtime.global p.bot || pass_together p.bundle p.runtime.global (p.before ++ p.bot ∷ [])) (fault.Limit p.bot.0)
 
 pub csv_is : (a1 b1 : List (List (List ℕ))) (a2 b2 : ℕ) (a3 b3 : Bool) (a4 b4 : FieldMap) (a5 b5 : Bool) → a1 ≡ b1 → a2 ≡ b2 → a3 ≡ b3 → a4 ≡ b4 → a5 ≡ b5 → as_module.Csv a1 a2 a3 a4 a5 ≡ as_module.Csv b1 b2 b3 b4 b5
 csv_is a1 b1 a2 b2 a3 b3 a4 b4 a5 b5 p1 p2 p3 p4 p5 = λ t. as_module.Csv (p1 t) (p2 t) (p3 t) (p4 t) (p5 t)

@@ -11,7 +11,8 @@ use Rattle.runtime_config.specs.Faults.{is_known}
 use Rattle.runtime_config.specs.Load.{route_of}
 use Rattle.runtime_config.specs.Paths.{known_path, known_paths, known_queue, known_queues}
 use Rattle.runtime_config.specs.declared.plan.Route.{Route as Path}
-use Rattle.runtime_text.specs.Runtime.{is_collector, module_of, Entry, Route}
+use Rattle.module_settings.specs.Modules.{is_collector}
+use Rattle.runtime_text.specs.Runtime.{module_of, Entry, Route}
 use Rattle.runtime_text.specs.Wires.{owner}
 use Rattle.runtime_text.proofs.Owners.{known_owner, owner_stands}
 

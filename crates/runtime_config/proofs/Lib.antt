@@ -1,3 +1,4 @@
+pub mod Absent
 pub mod Adding
 pub mod Bounds
 pub mod Faulty

@@ -1,5 +1,5 @@
 -- What a bundle means, bot by bot.
-use Rattle.std.proofs.Common.{◌≡◌, ◌≤◌, ◌<◌, ◌+◌, ℕ, suc, List, [], ◌∷◌, ◌++◌, Bool, true, false, length, take, drop, map, nat_lt, Option, Some, None, Result, Ok, Err, MatchResult, if◌then◌else◌, refl, sym, ap, ◌∙◌, add-one, drop-cons}
+use Rattle.std.proofs.Common.{◌≡◌, ◌≤◌, ◌<◌, ◌+◌, ℕ, suc, List, [], ◌∷◌, ◌++◌, Bool, true, false, length, take, drop, map, nat_lt, Option, Some, None, Result, Ok, Err, IfOk, MatchResult, if◌then◌else◌, refl, sym, ap, ◌∙◌, add-one, drop-cons}
 use Rattle.std.specs.List.{slice_get}
 use Rattle.std.specs.Option.{option_or}
 use Rattle.std.proofs.Math.Seq.{take-suc}
@@ -11,6 +11,11 @@ use Rattle.event_model.specs.Trees.{tree_in}
 use Rattle.config_bundle.specs.declared.bundle.Bundle.{Bundle}
 use Rattle.runtime_config.specs.Faults.{fault_of, first_fault, first_some, places_from, Place}
 use Rattle.runtime_config.specs.Found.{IsFault}
+use Rattle.runtime_config.specs.Sums.{AreSmall, AreSums}
+use Rattle.runtime_config.specs.Whole.{AreSumsOver}
+use Rattle.runtime_text.specs.Read.{members_of}
+use Rattle.runtime_config.specs.declared.limits.Sums.{Sums}
+use Rattle.runtime_config.specs.declared.whole.Whole.{Whole}
 use Rattle.runtime_config.specs.Load.{load, longest_runtime, of_runtime, planned, runtime_of, unless, IsLoaded}
 use Rattle.runtime_text.specs.Runtime.{Entry, Runtime}
 use Rattle.runtime_config.specs.declared.fault.LoadFault.{LoadFault}
@@ -45,6 +50,12 @@ next_planned f bots at bot old new one within is so_far pushed same =
 
 pub none_first : (o rest whole : Option LoadFault) → o ≡ None → option_or o rest ≡ whole → rest ≡ whole
 none_first o rest whole none is = ap (λ (p : Option LoadFault). option_or p rest) (sym none) ∙ is
+
+-- sums that aren't past their limits
+pub sums_over : {E : Type 0} (w : Whole) (bots : List Entry) (s : Sums) (r : Result Bool E) → IfOk r (λ past. past ≡ false → AreSums w.bundle.now (members_of w.global.now) bots s)
+    → IfOk r (λ past. past ≡ false → AreSmall s) → IfOk r (λ past. past ≡ false → AreSumsOver w bots s)
+sums_over w bots s (Ok past) are small = λ no. record { sums = are no; small = small no }
+sums_over w bots s (Err e) are small = tt
 
 -- ---- the runtime text
 

@@ -1,16 +1,18 @@
 -- What is wrong with a bot of a bundle: a list of rules, the first of which that finds a fault counts.
-use Rattle.std.specs.Prelude.{◌*◌, ◌+◌, ℕ, List, [], ◌∷◌, ◌++◌, ◌&&◌, ◌||◌, Bool, false, not, nat_le, nat_lt, length, map, filter, filter_map, sum_by, codes, is_some, is_none, Option, Some, None, option_map, option_and_then, unwrap_or, Result, Ok, Err, if◌then◌else◌}
+use Rattle.std.specs.Prelude.{◌≡◌, ◌*◌, ◌+◌, ℕ, List, [], ◌∷◌, ◌++◌, ◌&&◌, ◌||◌, Bool, true, false, not, nat_le, nat_lt, length, map, filter, filter_map, sum_by, codes, is_some, is_none, Option, Some, None, option_map, option_and_then, unwrap_or, Result, Ok, Err, if◌then◌else◌}
 use Rattle.std.specs.List.{list_all, list_any}
 use Rattle.std.specs.Option.{option_or}
 use Rattle.std.specs.Str.{bytes_eq}
 use Rattle.serde_json.specs.Data.{Data, Members}
 use Rattle.serde_json.specs.Find.{as_bool, get_member}
+use Rattle.base_types.specs.Lists.{IsIn}
 use Rattle.event_model.specs.Lenient.{least}
 use Rattle.config_bundle.specs.declared.bundle.Bundle.{Bundle}
+use Rattle.module_settings.specs.Modules.{is_output, reads_sieve, reads_table}
 use Rattle.module_settings.specs.Parameters.{Parameter}
+use Rattle.runtime_text.specs.Named.{file_of}
 use Rattle.runtime_text.specs.Reaches.{is_queue_of, reaches, targets}
-use Rattle.runtime_text.specs.Runtime.{given, is_given_badly, line_in, lines_in, module_key, module_of, object_of, parameters, routes, routes_key, routes_of_value, set_as, setting, whole_in, Entry, Route, Runtime}
-use Rattle.runtime_config.specs.Modules.{is_output, is_prefix, is_sieve, reads_file}
+use Rattle.runtime_text.specs.Runtime.{given, is_given_badly, lines_in, module_key, module_of, object_of, parameters, routes, routes_key, routes_of_value, set_as, setting, whole_in, Entry, Route, Runtime}
 use Rattle.runtime_config.specs.Sieves.{refusal_of, sieve_of}
 use Rattle.module_settings.specs.Table.{row_count, table_in}
 use Rattle.runtime_config.specs.declared.fault.LoadFault.{LoadFault}
@@ -64,9 +66,12 @@ bad_members bot =
 abbrev pub bad_names : Members → Entry → List (List ℕ)
 bad_names global bot = map (λ q. q.name) (filter (is_bad global bot) (parameters bot)) ++ bad_members bot
 
--- The least of them in byte order.
+-- the least of them in byte order
+abbrev pub parameter_fault : Members → Entry → Option LoadFault
+parameter_fault global bot = option_map (fault.Parameter bot.0) (least (bad_names global bot))
+
 abbrev pub bad_parameter : Place → Option LoadFault
-bad_parameter p = option_map (fault.Parameter p.bot.0) (least (bad_names p.runtime.global p.bot))
+bad_parameter p = parameter_fault p.runtime.global p.bot
 
 -- a parameter that must be given and is given nowhere
 abbrev pub is_missing : Members → Entry → Parameter → Bool
@@ -89,20 +94,23 @@ missing_members bot =
 abbrev pub missing_names : Members → Entry → List (List ℕ)
 missing_names global bot = map (λ q. q.name) (filter (is_missing global bot) (parameters bot)) ++ missing_members bot
 
--- The least of them in byte order.
+-- the least of them in byte order
+abbrev pub missing_fault : Members → Entry → Option LoadFault
+missing_fault global bot = option_map (fault.Missing bot.0) (least (missing_names global bot))
+
 abbrev pub missing_member : Place → Option LoadFault
-missing_member p = option_map (fault.Missing p.bot.0) (least (missing_names p.runtime.global p.bot))
+missing_member p = missing_fault p.runtime.global p.bot
 
 -- ---- files
-
--- the name of the bundle's file that the bot's module reads
-abbrev pub file_of : Members → Entry → Option (List ℕ)
-file_of global bot = if reads_file (module_of bot) then line_in (set_as global bot (codes "file")) else None
 
 -- the bytes of the first file of a name
 abbrev pub content_of : List (List ℕ × List ℕ) → List ℕ → Option (List ℕ)
 content_of [] name = None
 content_of (f ∷ fs) name = if bytes_eq f.0 name then Some f.1 else content_of fs name
+
+-- the bundle has a file of each of these names
+abbrev pub HasFiles : Bundle → List (List ℕ) → Type 0
+HasFiles bundle names = (name : List ℕ) → IsIn name names → is_some (content_of bundle.files name) ≡ true
 
 -- the bytes of the bot's file
 abbrev pub content : Bundle → Members → Entry → Option (List ℕ)
@@ -117,9 +125,9 @@ absent_file p = file_fault p.bundle p.runtime.global p.bot
 
 -- ---- sieves
 
--- the bytes of the file of a bot whose module is that of sieves
+-- the bytes of the bot's file, where it is a sieve's
 abbrev pub sieve_text : Bundle → Members → Entry → Option (List ℕ)
-sieve_text bundle global bot = if is_sieve (module_of bot) then content bundle global bot else None
+sieve_text bundle global bot = if reads_sieve (module_of bot) then content bundle global bot else None
 
 -- the bot's sieve; one with nothing in it where the bot has none
 unfoldable pub bot_sieve : Bundle → Members → Entry → SieveView
@@ -199,9 +207,9 @@ most_patterns = 32
 abbrev pub instances : Members → Entry → ℕ
 instances global bot = whole_in (set_as global bot (codes "instances_threads"))
 
--- the bytes of the file of a prefix expert
+-- the bytes of the bot's file, where it is a table
 abbrev pub table_text : Bundle → Members → Entry → Option (List ℕ)
-table_text bundle global bot = if is_prefix (module_of bot) then content bundle global bot else None
+table_text bundle global bot = if reads_table (module_of bot) then content bundle global bot else None
 
 -- the rows of its table
 abbrev pub rows : Bundle → Members → Entry → ℕ
@@ -272,17 +280,34 @@ bad_row p = table_fault p.bundle p.runtime.global p.bot
 
 -- ---- all rules, in their order
 
-abbrev pub rules : List (Place → Option LoadFault)
-rules =
-    unknown_module ∷ bad_parameter ∷ missing_member ∷ absent_file ∷ refused_sieve ∷ unknown_path ∷ on_cycle ∷ past_limit ∷ unknown_queue ∷ bad_row ∷ []
+abbrev pub Rule : Type 0
+Rule = Place → Option LoadFault
+
+-- those on the settings of a bot, on its sieve, and on it among the other bots
+abbrev pub rules_of_settings : List Rule
+rules_of_settings = unknown_module ∷ bad_parameter ∷ missing_member ∷ absent_file ∷ []
+
+abbrev pub rules_of_sieves : List Rule
+rules_of_sieves = refused_sieve ∷ unknown_path ∷ []
+
+abbrev pub rules_of_places : List Rule
+rules_of_places = on_cycle ∷ past_limit ∷ unknown_queue ∷ bad_row ∷ []
+
+abbrev pub rules : List Rule
+rules = rules_of_settings ++ rules_of_sieves ++ rules_of_places
+
+-- the fault that the first of these rules finds that finds one
+abbrev pub first_of : List Rule → Place → Option LoadFault
+first_of [] p = None
+first_of (rule ∷ rules) p = option_or (rule p) (first_of rules p)
+
+-- the bot's first fault
+unfoldable pub fault_of : Place → Option LoadFault
+fault_of p = first_of rules p
 
 abbrev pub first_some : List (Option LoadFault) → Option LoadFault
 first_some [] = None
 first_some (o ∷ os) = option_or o (first_some os)
-
--- the bot's first fault
-unfoldable pub fault_of : Place → Option LoadFault
-fault_of p = first_some (map (λ rule. rule p) rules)
 
 -- each bot with those before it
 abbrev pub places_from : Bundle → Runtime → List Entry → List Entry → List Place

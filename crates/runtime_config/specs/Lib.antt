@@ -1,5 +1,4 @@
 -- what public contracts cite
-pub mod Modules
 pub mod SieveIn
 pub mod Sieves
 pub mod Faults

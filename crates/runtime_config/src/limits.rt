@@ -2,7 +2,7 @@
 ghost use Rattle.std.specs.Prelude.{◌≡◌, ◌≤◌, ◌++◌, [], ◌∷◌, ◌||◌, false, length, unwrap_or, option_map, IfOk, OnOk};
 ghost use Rattle.std.specs.List.{list_all, list_any};
 ghost use Rattle.std.specs.Str.{bytes_eq};
-ghost use Rattle.runtime_config.specs.Faults.{is_route, pass_together, passes_own};
+ghost use Rattle.runtime_config.specs.Faults.{is_route, longest_file, most_rows, pass_together, passes_own};
 ghost use Rattle.runtime_text.specs.Read.{entries_of, entry_of, members_of};
 ghost use Rattle.runtime_config.specs.Sums.{new_bytes, passes_by, with_file, AreNumbers, AreSmall, AreSums};
 ghost use Rattle.module_settings.specs.Table.{row_count};
@@ -167,8 +167,8 @@ impl Sums {
     fn add(&mut self, numbers: Numbers) -> Result<(), OutOfMemory>
         requires small { AreSmall self.old }
         requires instances { numbers.instances ≤ 16 }
-        requires rows { numbers.rows ≤ 100000 }
-        requires length { numbers.length ≤ 4194304 }
+        requires rows { numbers.rows ≤ most_rows }
+        requires length { numbers.length ≤ longest_file }
         ensures { OnOk result (self.new ≡ added self.old numbers) }
     {
         let bytes = new_bytes(&self.files, &numbers.file, numbers.length);

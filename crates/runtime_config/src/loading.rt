@@ -1,21 +1,14 @@
 //! What a bundle means: the plan of its bots, or the first fault.
-ghost use Rattle.std.specs.Prelude.{◌≡◌, ◌<◌, ◌≤◌, ◌+◌, ◌++◌, ◌∷◌, ◌||◌, [], true, false, length, take, map, nat_lt, option_and_then, option_map, slice_get, None, Some, IfOk, MatchResult, OnOk, if◌then◌else◌};
-ghost use Rattle.std.specs.Option.{option_or};
-ghost use Rattle.std.specs.FinMap.{is_sorted};
-ghost use Rattle.std.specs.Ordering.{nat_cmp};
-ghost use Rattle.std.specs.Cmp.Lexicographic.{slice_cmp};
+ghost use Rattle.std.specs.Prelude.{◌≡◌, ◌<◌, ◌≤◌, ◌+◌, ◌++◌, ◌∷◌, [], false, length, take, map, nat_lt, option_and_then, option_map, slice_get, None, Some, IfOk, MatchResult, OnOk, if◌then◌else◌};
 ghost use Rattle.serde_json.specs.View.{view};
-ghost use Rattle.event_model.specs.Lenient.{least};
 ghost use Rattle.event_model.specs.Trees.{tree_in};
-ghost use Rattle.runtime_config.specs.Faults.{bad_names, bot_sieve, cycle_fault, fault_of, file_fault, first_fault, limit_fault, missing_names, module_fault, pass_together, passes_own, passes_patterns, path_fault, queue_fault, sieve_fault, table_fault};
+ghost use Rattle.runtime_config.specs.Faults.{absent_file, bad_parameter, bad_row, fault_of, first_fault, first_of, missing_member, past_limit, rules_of_places, rules_of_settings, rules_of_sieves, unknown_queue};
 ghost use Rattle.runtime_config.specs.Found.{IsFault, IsFound, IsPlannedAs, IsSieveOf};
 ghost use Rattle.runtime_config.specs.Load.{load, longest_runtime, of_runtime, planned, IsLoaded};
-ghost use Rattle.runtime_text.specs.Read.{entries_of, entry_of, members_of};
+ghost use Rattle.runtime_text.specs.Read.{entries_of, members_of};
 ghost use Rattle.runtime_text.specs.Reaches.{reaches};
 ghost use Rattle.runtime_text.specs.Runtime.{object_of, runtime_in, Entry};
-ghost use Rattle.runtime_config.specs.Sums.{AreSmall, AreSums};
-ghost use Rattle.runtime_config.specs.Whole.{place_at, runtime_as, IsWhole};
-ghost use Rattle.runtime_text.specs.Wires.{graph_of};
+ghost use Rattle.runtime_config.specs.Whole.{is_past, place_of, planned_at, runtime_as, sieve_at, AreSumsBefore, AreSumsOver, AreSumsWith, IsPlaced, IsPlannedThere, IsWhole};
 ghost use Rattle.runtime_config.specs.declared.fault.LoadFault.TheVariants as fault;
 
 use crate::limits::{Sums, is_past_limit};
@@ -23,11 +16,11 @@ use crate::paths::known_paths;
 use crate::planning::planned;
 use crate::rules::{absent_file, bad_parameter, missing_member, unknown_module};
 use crate::sieve::{bot_sieve, has_many_patterns, with_known_paths};
-use crate::whole::Whole;
+use crate::whole::{PlacedBot, Whole};
 use crate::{LoadFault, Plan, Planned, PlannedList};
 use base_types::OutOfMemory;
 use config_bundle::Bundle;
-use runtime_text::{Bot, Object, bots_in, comes_back, graph_of, object_of, tree_in};
+use runtime_text::{Object, bots_in, comes_back, graph_of, object_of, tree_in};
 use serde_json::Value as Tree;
 use sieve_tree::Sieve;
 use std::alloc::Global;
@@ -36,50 +29,30 @@ const LONGEST_RUNTIME: usize = 1_048_576;
 
 // ---- one bot, fault by fault
 
-fn members_fault(
-    alloc: Global,
-    bundle: &Bundle,
-    global: &Object,
-    bot: &Bot,
-) -> Result<(), LoadFault>
-    ensures { IsFound (option_or (option_map (fault.Missing (entry_of bot.now).0) (least (missing_names (members_of global.now) (entry_of bot.now))))
-        (file_fault bundle.now (members_of global.now) (entry_of bot.now))) result }
+fn members_fault(alloc: Global, at: &PlacedBot) -> Result<(), LoadFault>
+    ensures { IsFound (first_of (missing_member ∷ absent_file ∷ []) (place_of at.now)) result }
 {
-    match missing_member(alloc, global, bot) {
-        Ok(()) => absent_file(alloc, bundle, global, bot),
+    match missing_member(alloc, at.whole.global, at.bot) {
+        Ok(()) => absent_file(alloc, at.whole.bundle, at.whole.global, at.bot),
         Err(fault) => Err(fault),
     }
 }
 
-fn parameters_fault(
-    alloc: Global,
-    bundle: &Bundle,
-    global: &Object,
-    bot: &Bot,
-) -> Result<(), LoadFault>
-    ensures { IsFound (option_or (option_map (fault.Parameter (entry_of bot.now).0) (least (bad_names (members_of global.now) (entry_of bot.now))))
-        (option_or (option_map (fault.Missing (entry_of bot.now).0) (least (missing_names (members_of global.now) (entry_of bot.now))))
-        (file_fault bundle.now (members_of global.now) (entry_of bot.now)))) result }
+fn parameters_fault(alloc: Global, at: &PlacedBot) -> Result<(), LoadFault>
+    ensures { IsFound (first_of (bad_parameter ∷ missing_member ∷ absent_file ∷ []) (place_of at.now)) result }
 {
-    match bad_parameter(alloc, global, bot) {
-        Ok(()) => members_fault(alloc, bundle, global, bot),
+    match bad_parameter(alloc, at.whole.global, at.bot) {
+        Ok(()) => members_fault(alloc, at),
         Err(fault) => Err(fault),
     }
 }
 
 // A fault that the bot has by itself: of its module, its parameters, what it lacks, its file.
-fn settings_fault(
-    alloc: Global,
-    bundle: &Bundle,
-    global: &Object,
-    bot: &Bot,
-) -> Result<(), LoadFault>
-    ensures { IsFound (option_or (module_fault (entry_of bot.now)) (option_or (option_map (fault.Parameter (entry_of bot.now).0) (least (bad_names (members_of global.now) (entry_of bot.now))))
-        (option_or (option_map (fault.Missing (entry_of bot.now).0) (least (missing_names (members_of global.now) (entry_of bot.now))))
-        (file_fault bundle.now (members_of global.now) (entry_of bot.now))))) result }
+fn settings_fault(alloc: Global, at: &PlacedBot) -> Result<(), LoadFault>
+    ensures { IsFound (first_of rules_of_settings (place_of at.now)) result }
 {
-    match unknown_module(bot) {
-        Ok(()) => parameters_fault(alloc, bundle, global, bot),
+    match unknown_module(at.bot) {
+        Ok(()) => parameters_fault(alloc, at),
         Err(fault) => Err(fault),
     }
 }
@@ -94,15 +67,21 @@ fn is_on_cycle(alloc: Global, whole: &Whole, at: usize) -> Result<bool, OutOfMem
 }
 
 // The bot's plan, or a fault of its queues or its table.
-fn routed(alloc: Global, whole: &Whole, bot: &Bot, sieve: Sieve) -> Result<Planned, LoadFault>
-    requires whole { IsWhole whole.now }
-    requires sieve { sieve ≡ bot_sieve whole.now.bundle.now (members_of whole.now.global.now) (entry_of bot.now) }
-    ensures { IsPlannedAs (option_or (queue_fault (entries_of whole.now.bots.now) (entry_of bot.now)) (table_fault whole.now.bundle.now (members_of whole.now.global.now) (entry_of bot.now)))
-        (planned whole.now.bundle.now (members_of whole.now.global.now) (entry_of bot.now)) result }
+fn routed(alloc: Global, at: &PlacedBot, sieve: Sieve) -> Result<Planned, LoadFault>
+    requires placed { IsPlaced at.now }
+    requires sieve { sieve ≡ sieve_at (place_of at.now) }
+    ensures { IsPlannedAs (first_of (unknown_queue ∷ bad_row ∷ []) (place_of at.now)) (planned_at (place_of at.now)) result }
 {
-    match known_paths(alloc, whole.bots, bot)? {
-        Some(paths) => planned(alloc, whole.bundle, whole.global, bot, paths, sieve),
-        None => Err(LoadFault::Queue { bot: bot.name() }),
+    match known_paths(alloc, at.whole.bots, at.bot)? {
+        Some(paths) => planned(
+            alloc,
+            at.whole.bundle,
+            at.whole.global,
+            at.bot,
+            paths,
+            sieve,
+        ),
+        None => Err(LoadFault::Queue { bot: at.bot.name() }),
     }
 }
 
@@ -110,133 +89,99 @@ fn routed(alloc: Global, whole: &Whole, bot: &Bot, sieve: Sieve) -> Result<Plann
 // unless it is.
 fn passes_limit(
     alloc: Global,
-    whole: &Whole,
-    before: &[Bot],
-    bot: &Bot,
+    at: &PlacedBot,
     sieve: &Sieve,
     sums: &mut Sums,
 ) -> Result<bool, OutOfMemory>
-    requires sieve { sieve.now ≡ bot_sieve whole.now.bundle.now (members_of whole.now.global.now) (entry_of bot.now) }
-    requires sums { AreSums whole.now.bundle.now (members_of whole.now.global.now) (entries_of before.now) sums.old }
-    requires small { AreSmall sums.old }
-    ensures past { IfOk result (λ past. past ≡ (passes_patterns whole.now.bundle.now (members_of whole.now.global.now) (entry_of bot.now)
-        || (passes_own whole.now.bundle.now (members_of whole.now.global.now) (entry_of bot.now)
-        || pass_together whole.now.bundle.now (members_of whole.now.global.now) (entries_of before.now ++ entry_of bot.now ∷ [])))) }
-    ensures sums { IfOk result (λ past. past ≡ false → AreSums whole.now.bundle.now (members_of whole.now.global.now) (entries_of before.now ++ entry_of bot.now ∷ []) sums.new) }
-    ensures small { IfOk result (λ past. past ≡ false → AreSmall sums.new) }
+    requires sieve { sieve.now ≡ sieve_at (place_of at.now) }
+    requires sums { AreSumsBefore at.now sums.old }
+    ensures past { IfOk result (λ past. past ≡ is_past (place_of at.now)) }
+    ensures sums { IfOk result (λ past. past ≡ false → AreSumsWith at.now sums.new) }
 {
     if has_many_patterns(sieve) {
         return Ok(true);
     }
-    is_past_limit(alloc, whole.bundle, whole.global, before, bot, sums)
+    is_past_limit(
+        alloc,
+        at.whole.bundle,
+        at.whole.global,
+        at.before,
+        at.bot,
+        sums,
+    )
 }
 
 // The bot's plan, or a fault of its limits, its queues or its table.
 fn limited(
     alloc: Global,
-    whole: &Whole,
-    before: &[Bot],
-    bot: &Bot,
+    at: &PlacedBot,
     sieve: Sieve,
     sums: &mut Sums,
 ) -> Result<Planned, LoadFault>
-    requires whole { IsWhole whole.now }
-    requires sieve { sieve ≡ bot_sieve whole.now.bundle.now (members_of whole.now.global.now) (entry_of bot.now) }
-    requires sums { AreSums whole.now.bundle.now (members_of whole.now.global.now) (entries_of before.now) sums.old }
-    requires small { AreSmall sums.old }
-    ensures found { IsPlannedAs (option_or (limit_fault whole.now.bundle.now (members_of whole.now.global.now) (entries_of before.now) (entry_of bot.now))
-        (option_or (queue_fault (entries_of whole.now.bots.now) (entry_of bot.now)) (table_fault whole.now.bundle.now (members_of whole.now.global.now) (entry_of bot.now))))
-        (planned whole.now.bundle.now (members_of whole.now.global.now) (entry_of bot.now)) result }
-    ensures sums { OnOk result (AreSums whole.now.bundle.now (members_of whole.now.global.now) (entries_of before.now ++ entry_of bot.now ∷ []) sums.new) }
-    ensures small { OnOk result (AreSmall sums.new) }
+    requires placed { IsPlaced at.now }
+    requires sieve { sieve ≡ sieve_at (place_of at.now) }
+    requires sums { AreSumsBefore at.now sums.old }
+    ensures found { IsPlannedAs (first_of (past_limit ∷ unknown_queue ∷ bad_row ∷ []) (place_of at.now)) (planned_at (place_of at.now)) result }
+    ensures sums { OnOk result (AreSumsWith at.now sums.new) }
 {
-    if passes_limit(alloc, whole, before, bot, &sieve, sums)? {
-        return Err(LoadFault::Limit { bot: bot.name() });
+    if passes_limit(alloc, at, &sieve, sums)? {
+        return Err(LoadFault::Limit { bot: at.bot.name() });
     }
-    routed(alloc, whole, bot, sieve)
+    routed(alloc, at, sieve)
 }
 
 // The same, or that the bot is on a cycle before.
 fn ordered(
     alloc: Global,
-    whole: &Whole,
-    before: &[Bot],
-    bot: &Bot,
+    at: &PlacedBot,
     sieve: Sieve,
     sums: &mut Sums,
 ) -> Result<Planned, LoadFault>
-    requires whole { IsWhole whole.now }
-    requires sieve { sieve ≡ bot_sieve whole.now.bundle.now (members_of whole.now.global.now) (entry_of bot.now) }
-    requires place { slice_get (entries_of whole.now.bots.now) (length before.now) ≡ Some (entry_of bot.now) }
-    requires sums { AreSums whole.now.bundle.now (members_of whole.now.global.now) (entries_of before.now) sums.old }
-    requires small { AreSmall sums.old }
-    ensures found { IsPlannedAs (option_or (cycle_fault (entries_of whole.now.bots.now) (entry_of bot.now))
-        (option_or (limit_fault whole.now.bundle.now (members_of whole.now.global.now) (entries_of before.now) (entry_of bot.now))
-        (option_or (queue_fault (entries_of whole.now.bots.now) (entry_of bot.now)) (table_fault whole.now.bundle.now (members_of whole.now.global.now) (entry_of bot.now)))))
-        (planned whole.now.bundle.now (members_of whole.now.global.now) (entry_of bot.now)) result }
-    ensures sums { OnOk result (AreSums whole.now.bundle.now (members_of whole.now.global.now) (entries_of before.now ++ entry_of bot.now ∷ []) sums.new) }
-    ensures small { OnOk result (AreSmall sums.new) }
+    requires placed { IsPlaced at.now }
+    requires sieve { sieve ≡ sieve_at (place_of at.now) }
+    requires sums { AreSumsBefore at.now sums.old }
+    ensures found { IsPlannedAs (first_of rules_of_places (place_of at.now)) (planned_at (place_of at.now)) result }
+    ensures sums { OnOk result (AreSumsWith at.now sums.new) }
 {
-    if is_on_cycle(alloc, whole, before.len())? {
-        return Err(LoadFault::Cycle { bot: bot.name() });
+    if is_on_cycle(alloc, at.whole, at.before.len())? {
+        return Err(LoadFault::Cycle { bot: at.bot.name() });
     }
-    limited(alloc, whole, before, bot, sieve, sums)
+    limited(alloc, at, sieve, sums)
 }
 
 // The bot's sieve, or what is wrong with it or with its paths.
-fn sieve_for(alloc: Global, whole: &Whole, bot: &Bot) -> Result<Sieve, LoadFault>
-    ensures { IsSieveOf (option_or (sieve_fault whole.now.bundle.now (members_of whole.now.global.now) (entry_of bot.now)) (path_fault whole.now.bundle.now (members_of whole.now.global.now) (entry_of bot.now))) (bot_sieve whole.now.bundle.now (members_of whole.now.global.now) (entry_of bot.now)) result }
+fn sieve_for(alloc: Global, at: &PlacedBot) -> Result<Sieve, LoadFault>
+    ensures { IsSieveOf (first_of rules_of_sieves (place_of at.now)) (sieve_at (place_of at.now)) result }
 {
-    match bot_sieve(alloc, whole.bundle, whole.global, bot) {
-        Ok(sieve) => with_known_paths(bot, sieve),
+    match bot_sieve(alloc, at.whole.bundle, at.whole.global, at.bot) {
+        Ok(sieve) => with_known_paths(at.bot, sieve),
         Err(fault) => Err(fault),
     }
 }
 
 // The bot's plan, or a fault of its sieve, or one of those behind.
-fn sieved(
-    alloc: Global,
-    whole: &Whole,
-    before: &[Bot],
-    bot: &Bot,
-    sums: &mut Sums,
-) -> Result<Planned, LoadFault>
-    requires whole { IsWhole whole.now }
-    requires place { slice_get (entries_of whole.now.bots.now) (length before.now) ≡ Some (entry_of bot.now) }
-    requires sums { AreSums whole.now.bundle.now (members_of whole.now.global.now) (entries_of before.now) sums.old }
-    requires small { AreSmall sums.old }
-    ensures found { IsPlannedAs (option_or (option_or (sieve_fault whole.now.bundle.now (members_of whole.now.global.now) (entry_of bot.now)) (path_fault whole.now.bundle.now (members_of whole.now.global.now) (entry_of bot.now))) (option_or (cycle_fault (entries_of whole.now.bots.now) (entry_of bot.now))
-        (option_or (limit_fault whole.now.bundle.now (members_of whole.now.global.now) (entries_of before.now) (entry_of bot.now))
-        (option_or (queue_fault (entries_of whole.now.bots.now) (entry_of bot.now)) (table_fault whole.now.bundle.now (members_of whole.now.global.now) (entry_of bot.now))))))
-        (planned whole.now.bundle.now (members_of whole.now.global.now) (entry_of bot.now)) result }
-    ensures sums { OnOk result (AreSums whole.now.bundle.now (members_of whole.now.global.now) (entries_of before.now ++ entry_of bot.now ∷ []) sums.new) }
-    ensures small { OnOk result (AreSmall sums.new) }
+fn sieved(alloc: Global, at: &PlacedBot, sums: &mut Sums) -> Result<Planned, LoadFault>
+    requires placed { IsPlaced at.now }
+    requires sums { AreSumsBefore at.now sums.old }
+    ensures found { IsPlannedAs (first_of (rules_of_sieves ++ rules_of_places) (place_of at.now)) (planned_at (place_of at.now)) result }
+    ensures sums { OnOk result (AreSumsWith at.now sums.new) }
 {
-    match sieve_for(alloc, whole, bot) {
-        Ok(sieve) => ordered(alloc, whole, before, bot, sieve, sums),
+    match sieve_for(alloc, at) {
+        Ok(sieve) => ordered(alloc, at, sieve, sums),
         Err(fault) => Err(fault),
     }
 }
 
-// The plan of a bot behind these, or its first fault. The sums become those with this bot.
+// The plan of a bot, or its first fault. The sums become those with this bot.
 #[tactic(auto, unfolding(crate::specs::Faults::fault_of))]
-fn load_bot(
-    alloc: Global,
-    whole: &Whole,
-    before: &[Bot],
-    bot: &Bot,
-    sums: &mut Sums,
-) -> Result<Planned, LoadFault>
-    requires whole { IsWhole whole.now }
-    requires place { slice_get (entries_of whole.now.bots.now) (length before.now) ≡ Some (entry_of bot.now) }
-    requires sums { AreSums whole.now.bundle.now (members_of whole.now.global.now) (entries_of before.now) sums.old }
-    requires small { AreSmall sums.old }
-    ensures found { IsPlannedAs (fault_of (place_at whole.now (entries_of before.now) (entry_of bot.now))) (planned whole.now.bundle.now (members_of whole.now.global.now) (entry_of bot.now)) result }
-    ensures sums { OnOk result (AreSums whole.now.bundle.now (members_of whole.now.global.now) (entries_of before.now ++ entry_of bot.now ∷ []) sums.new) }
-    ensures small { OnOk result (AreSmall sums.new) }
+fn load_bot(alloc: Global, at: &PlacedBot, sums: &mut Sums) -> Result<Planned, LoadFault>
+    requires placed { IsPlaced at.now }
+    requires sums { AreSumsBefore at.now sums.old }
+    ensures found { IsPlannedAs (fault_of (place_of at.now)) (planned_at (place_of at.now)) result }
+    ensures sums { OnOk result (AreSumsWith at.now sums.new) }
 {
-    match settings_fault(alloc, whole.bundle, whole.global, bot) {
-        Ok(()) => sieved(alloc, whole, before, bot, sums),
+    match settings_fault(alloc, at) {
+        Ok(()) => sieved(alloc, at, sums),
         Err(fault) => Err(fault),
     }
 }
@@ -247,16 +192,16 @@ fn load_bot(
 fn bot_at(alloc: Global, whole: &Whole, at: usize, sums: &mut Sums) -> Result<Planned, LoadFault>
     requires whole { IsWhole whole.now }
     requires place { at < length whole.now.bots.now }
-    requires sums { AreSums whole.now.bundle.now (members_of whole.now.global.now) (take at (entries_of whole.now.bots.now)) sums.old }
-    requires small { AreSmall sums.old }
-    ensures found { (bot : Entry) → slice_get (entries_of whole.now.bots.now) at ≡ Some bot
-        → IsPlannedAs (fault_of (place_at whole.now (take at (entries_of whole.now.bots.now)) bot)) (planned whole.now.bundle.now (members_of whole.now.global.now) bot) result }
-    ensures sums { OnOk result (AreSums whole.now.bundle.now (members_of whole.now.global.now) (take (at + 1) (entries_of whole.now.bots.now)) sums.new) }
-    ensures small { OnOk result (AreSmall sums.new) }
+    requires sums { AreSumsOver whole.now (take at (entries_of whole.now.bots.now)) sums.old }
+    ensures found { (bot : Entry) → slice_get (entries_of whole.now.bots.now) at ≡ Some bot → IsPlannedThere whole.now (take at (entries_of whole.now.bots.now)) bot result }
+    ensures sums { OnOk result (AreSumsOver whole.now (take (at + 1) (entries_of whole.now.bots.now)) sums.new) }
 {
-    let before = &whole.bots[..at];
-    let bot = &whole.bots[at];
-    load_bot(alloc, whole, before, bot, sums)
+    let placed = PlacedBot {
+        whole,
+        before: &whole.bots[..at],
+        bot: &whole.bots[at],
+    };
+    load_bot(alloc, &placed, sums)
 }
 
 fn push_planned(bots: &mut PlannedList, planned: Planned) -> Result<(), LoadFault>
@@ -270,7 +215,7 @@ fn push_planned(bots: &mut PlannedList, planned: Planned) -> Result<(), LoadFaul
 
 fn load_bots(alloc: Global, whole: &Whole) -> Result<Plan, LoadFault>
     requires whole { IsWhole whole.now }
-    requires short { length whole.now.bundle.now.runtime ≤ 1048576 }
+    requires short { length whole.now.bundle.now.runtime ≤ longest_runtime }
     ensures { MatchResult result (λ plan. (first_fault whole.now.bundle.now (runtime_as whole.now) ≡ None)
         × (plan ≡ record { bots = map (planned whole.now.bundle.now (members_of whole.now.global.now)) (entries_of whole.now.bots.now) }))
         (IsFault (first_fault whole.now.bundle.now (runtime_as whole.now))) }
@@ -299,7 +244,7 @@ fn tree_of(alloc: Global, runtime: &[u8]) -> Result<Option<Tree>, OutOfMemory>
 // The plan of the bots of this tree, or their first fault. The tree is the caller's, so that its drop isn't proved at each of
 // these ends.
 fn load_tree(alloc: Global, bundle: &Bundle, tree: &Tree) -> Result<Plan, LoadFault>
-    requires { length bundle.now.runtime ≤ 1048576 }
+    requires { length bundle.now.runtime ≤ longest_runtime }
     ensures { IsLoaded (of_runtime bundle.now (option_and_then runtime_in (object_of (view tree.now)))) result }
 {
     let Some(members) = object_of(tree) else {

@@ -3,59 +3,27 @@ ghost use Rattle.std.specs.Prelude.{◌≡◌, ◌++◌, map, filter, option_map
 ghost use Rattle.serde_json.specs.Find.{get_member};
 ghost use Rattle.serde_json.specs.View.{view};
 ghost use Rattle.event_model.specs.Lenient.{least, lesser};
-ghost use Rattle.runtime_config.specs.Faults.{bad_members, bad_names, content, content_of, default_path, enabled_key, file_fault, file_of, has_path, is_bad, is_missing, is_true, missing_members, missing_names, module_fault, name_when, parameters_key, sieve_text, table_text};
+ghost use Rattle.runtime_config.specs.Faults.{bad_members, bad_names, content, content_of, default_path, enabled_key, file_fault, has_path, is_bad, is_missing, is_true, missing_fault, missing_members, missing_names, module_fault, name_when, parameter_fault, parameters_key, sieve_text, table_text};
 ghost use Rattle.runtime_config.specs.Found.{IsFound};
+ghost use Rattle.runtime_text.specs.Named.{file_of};
 ghost use Rattle.runtime_text.specs.Read.{entry_of, members_of};
 ghost use Rattle.module_settings.specs.Rows.{parameter_of};
 ghost use Rattle.runtime_text.specs.Runtime.{is_given_badly, object_of};
-ghost use Rattle.runtime_config.specs.Modules.{is_output, is_prefix, is_sieve, reads_file};
 ghost use Rattle.runtime_config.specs.declared.fault.LoadFault.TheVariants as fault;
 
 use crate::LoadFault;
 use base_types::{Blob, OutOfMemory, Text, TextList};
 use config_bundle::Bundle;
-use module_settings::{ModuleWord, Otherwise, Parameter, text_of};
-use runtime_text::given::{given, line_given, parameters_of, setting};
+use module_settings::{
+    Otherwise, Parameter, is_output, parameters_of, reads_sieve, reads_table, text_of,
+};
+use runtime_text::given::{given, setting};
 use runtime_text::{Bot, Object, object_of};
 use serde_json::Value as Tree;
 use std::alloc::Global;
 use std::cmp::Ordering;
 
 // ---- the module
-
-pub(crate) fn is_output(word: Option<ModuleWord>) -> bool
-    ensures { result ≡ is_output word }
-{
-    match word {
-        Some(ModuleWord::Output) => true,
-        _ => false,
-    }
-}
-
-fn is_prefix(word: Option<ModuleWord>) -> bool
-    ensures { result ≡ is_prefix word }
-{
-    match word {
-        Some(ModuleWord::Prefix) => true,
-        _ => false,
-    }
-}
-
-fn is_sieve(word: Option<ModuleWord>) -> bool
-    ensures { result ≡ is_sieve word }
-{
-    match word {
-        Some(ModuleWord::Sieve) => true,
-        _ => false,
-    }
-}
-
-// Whether the module reads a file of the bundle.
-fn reads_file(word: Option<ModuleWord>) -> bool
-    ensures { result ≡ reads_file word }
-{
-    is_sieve(word) || is_prefix(word)
-}
 
 /// A module that is none.
 pub(crate) fn unknown_module(bot: &Bot) -> Result<(), LoadFault>
@@ -187,7 +155,7 @@ fn bad_names(alloc: Global, global: &Object, bot: &Bot) -> Result<Vec<Text>, Out
 
 /// A parameter of another form; the least name.
 pub(crate) fn bad_parameter(alloc: Global, global: &Object, bot: &Bot) -> Result<(), LoadFault>
-    ensures { IsFound (option_map (fault.Parameter (entry_of bot.now).0) (least (bad_names (members_of global.now) (entry_of bot.now)))) result }
+    ensures { IsFound (parameter_fault (members_of global.now) (entry_of bot.now)) result }
 {
     match least(TextList::from(bad_names(alloc, global, bot)?)) {
         Some(name) => Err(LoadFault::Parameter {
@@ -257,7 +225,7 @@ fn missing_names(alloc: Global, global: &Object, bot: &Bot) -> Result<Vec<Text>,
 
 /// What must be given and isn't; the least name.
 pub(crate) fn missing_member(alloc: Global, global: &Object, bot: &Bot) -> Result<(), LoadFault>
-    ensures { IsFound (option_map (fault.Missing (entry_of bot.now).0) (least (missing_names (members_of global.now) (entry_of bot.now)))) result }
+    ensures { IsFound (missing_fault (members_of global.now) (entry_of bot.now)) result }
 {
     match least(TextList::from(missing_names(alloc, global, bot)?)) {
         Some(name) => Err(LoadFault::Missing {
@@ -278,10 +246,9 @@ pub(crate) fn file_of(
 ) -> Result<Option<Text>, OutOfMemory>
     ensures { IfOk result (λ name. name ≡ file_of (members_of global.now) (entry_of bot.now)) }
 {
-    if reads_file(bot.module()) {
-        line_given(alloc, global, bot, "file")
-    } else {
-        Ok(None)
+    match bot.file(global) {
+        Some(name) => Ok(Some(text_of(alloc, name)?)),
+        None => Ok(None),
     }
 }
 
@@ -321,7 +288,7 @@ pub(crate) fn sieve_text<'b>(
 ) -> Result<Option<&'b [u8]>, OutOfMemory>
     ensures { IfOk result (λ bytes. option_map (λ b. b.now) bytes ≡ sieve_text bundle.now (members_of global.now) (entry_of bot.now)) }
 {
-    if is_sieve(bot.module()) {
+    if reads_sieve(bot.module()) {
         content(alloc, bundle, global, bot)
     } else {
         Ok(None)
@@ -337,7 +304,7 @@ pub(crate) fn table_text<'b>(
 ) -> Result<Option<&'b [u8]>, OutOfMemory>
     ensures { IfOk result (λ bytes. option_map (λ b. b.now) bytes ≡ table_text bundle.now (members_of global.now) (entry_of bot.now)) }
 {
-    if is_prefix(bot.module()) {
+    if reads_table(bot.module()) {
         content(alloc, bundle, global, bot)
     } else {
         Ok(None)

@@ -9,3 +9,11 @@ pub(crate) struct Whole<'a, 't> {
     pub(crate) bots: &'a [Bot<'t>],
     pub(crate) graph: &'a [Vec<usize>],
 }
+
+/// One of the bots, and those before it.
+#[derive(Drop)]
+pub(crate) struct PlacedBot<'a, 't> {
+    pub(crate) whole: &'a Whole<'a, 't>,
+    pub(crate) before: &'a [Bot<'t>],
+    pub(crate) bot: &'a Bot<'t>,
+}

@@ -1,3 +1,4 @@
+pub mod AllNamed
 pub mod Bots
 pub mod Lists
 pub mod Marks

@@ -1,8 +1,11 @@
 -- Names of files, in byte order.
-use Rattle.std.proofs.Common.{◌≡◌, ◌<◌, ◌&&◌, ℕ, zero, suc, List, [], ◌∷◌, ◌++◌, Bool, true, false, length, take, drop, Option, Some, None, Ordering, Less, Equal, Greater, string_bytes, is_some, option_map, option_and_then, unwrap_or, codes, if◌then◌else◌, ◌-◌, refl, sym, ap, subst, ◌∙◌, arith}
-use Rattle.std.proofs.lemmas.List.{take-append-drop, take_rest}
-use Rattle.std.proofs.lemmas.Slice.Eq.{bytes_eq-Decides}
+use Rattle.std.proofs.Common.{◌≡◌, ◌≤◌, ◌&&◌, ℕ, List, [], ◌∷◌, ◌++◌, Bool, true, false, length, map, drop, Option, Some, None, Result, Ok, Err, Ordering, Less, Equal, Greater, string_bytes, is_some, option_map, option_and_then, unwrap_or, codes, if◌then◌else◌, refl, sym, ap, subst, ◌∙◌, arith, length-append}
+use Rattle.std.proofs.lemmas.Bool.{and_from, and_parts}
+use Rattle.std.proofs.Math.Seq.{drop-append_seam, take-append_seam}
+use Rattle.std.proofs.lemmas.List.{length-map, map-append}
 use Rattle.std.proofs.lemmas.Cmp.{nat_list_cmp_total, tied_itself}
+use Rattle.std.specs.FinMap.{is_sorted}
+use Rattle.std.specs.FinMap.Entries.{below_all}
 use Rattle.std.specs.Str.{bytes_eq}
 use Rattle.std.specs.Ordering.{is_lt, ordering_reverse}
 use Rattle.std.specs.List.{insert, AllByRecursion}
@@ -10,14 +13,16 @@ use Rattle.std.specs.List.Sorted.{IsStrictlySortedBy}
 use Rattle.serde_json.specs.Data.{Data, Members, member, no_members}
 use Rattle.serde_json.specs.Find.{as_str}
 use Rattle.serde_json.specs.View.{view, members_view}
-use Rattle.base_types.proofs.Places.{order, same_key}
+use Rattle.base_types.specs.Place.{is_above_all, BelongsAt, IsPlace, StandsAt}
+use Rattle.base_types.proofs.Places.{less_of, lt_of, order, PairsOf}
 use Rattle.event_model.specs.Trees.{tree_in}
 use Rattle.event_model.proofs.TreeLemmas.{Entry}
-use Rattle.runtime_text.specs.Named.{are_objects, file_given, file_name, file_named, is_first, is_first_below, named_files, named_from, named_in, placed, reads_file, with_file, with_name}
+use Rattle.runtime_text.specs.Named.{are_objects, file_given, file_name, file_named, named_files, named_from, named_in, placed, with_file, with_name, IsPlaceOf}
+use Rattle.module_settings.specs.Modules.{reads_file}
 use Rattle.module_settings.specs.Parameters.{is_file_name}
-use Rattle.runtime_text.specs.Runtime.{given, global_key, object_of, object_under}
+use Rattle.runtime_text.specs.Runtime.{given, global_key, module_of, object_of, object_under}
 
-abbrev Names : Type 0
+abbrev pub Names : Type 0
 Names = List (List ℕ)
 
 -- ---- one name
@@ -27,52 +32,82 @@ below_first Less name n ns rest is = refl
 below_first Equal name n ns rest is = absurd (cc)
 below_first Greater name n ns rest is = absurd (cc)
 
--- behind a name that is below, the place is looked for among the others
-pub one_below : (name : List ℕ) (names : Names) (i : ℕ) → is_first_below name (drop i names) ≡ true
-    → (i < length names) × (take i names ++ with_name name (drop i names) ≡ take (suc i) names ++ with_name name (drop (suc i) names))
-one_below name [] zero below = absurd (cc)
-one_below name [] (suc i) below = absurd (cc)
-one_below name (n ∷ ns) zero below = (omega arith, below_first (order n name) name n ns (with_name name ns) below)
-one_below name (n ∷ ns) (suc i) below =
-    let later = one_below name ns i below in
-    (omega (arith, later.0), ap (λ (xs : Names). n ∷ xs) later.1)
-
 equal_first : (r : Ordering) (name n : List ℕ) (ns rest : Names) → r ≡ Equal → placed r name n ns rest ≡ n ∷ ns
 equal_first Less name n ns rest is = absurd (cc)
 equal_first Equal name n ns rest is = refl
 equal_first Greater name n ns rest is = absurd (cc)
 
--- a name that is there
-there : (name : List ℕ) (rest : Names) → is_first name rest ≡ true → with_name name rest ≡ rest
-there name [] is = absurd (cc)
-there name (n ∷ ns) is =
-    let same : n ≡ name = (bytes_eq-Decides n name).0 is in
-    equal_first (order n name) name n ns (with_name name ns) (ap (λ (x : List ℕ). order x name) same ∙ tied_itself nat_list_cmp_total name)
+above_first : (r : Ordering) (name n : List ℕ) (ns rest : Names) → r ≡ Greater → placed r name n ns rest ≡ name ∷ n ∷ ns
+above_first Less name n ns rest is = absurd (cc)
+above_first Equal name n ns rest is = absurd (cc)
+above_first Greater name n ns rest is = refl
 
-above_first : (name n : List ℕ) (ns rest : Names) (r : Ordering) → order n name ≡ r → bytes_eq n name ≡ false → is_lt r ≡ false → placed r name n ns rest ≡ name ∷ n ∷ ns
-above_first name n ns rest Less is other above = absurd (cc)
-above_first name n ns rest Equal is other above = absurd (cc ((bytes_eq-Decides n name).1 (same_key n name is)))
-above_first name n ns rest Greater is other above = refl
+-- names as pairs, which a search goes by
+abbrev Pairs : Type 0
+Pairs = PairsOf (Unit {0})
 
--- a name that isn't
-new : (name : List ℕ) (rest : Names) → is_first name rest ≡ false → is_first_below name rest ≡ false → with_name name rest ≡ name ∷ rest
-new name [] other above = refl
-new name (n ∷ ns) other above = above_first name n ns (with_name name ns) (order n name) refl other above
+abbrev pub paired : List ℕ → List ℕ × Unit {0}
+paired name = (name, tt)
 
-module _ (name : List ℕ) (names read seen : Names) (i : ℕ) (read_is : read ≡ names) (seen_is : seen ≡ names) (found : with_name name read ≡ take i read ++ with_name name (drop i read)) where
-  here : with_name name names ≡ take i names ++ with_name name (drop i names)
-  here = subst (λ (ns : Names). with_name name ns ≡ take i ns ++ with_name name (drop i ns)) read_is found
+abbrev unpaired : Pairs → Names
+unpaired pairs = map (λ (p : List ℕ × Unit {0}). p.0) pairs
 
-  pub put_there : true ≡ is_first name (take (length seen - i) (drop i seen)) → names ≡ with_name name names
-  put_there is =
-      let first : is_first name (drop i names) ≡ true = ap (is_first name) (sym (take_rest names i)) ∙ ap (λ (ns : Names). is_first name (take (length ns - i) (drop i ns))) (sym seen_is) ∙ sym is in
-      sym (here ∙ ap (λ (xs : Names). take i names ++ xs) (there name (drop i names) first) ∙ take-append-drop i names)
+names_again : (names : Names) → unpaired (map paired names) ≡ names
+names_again [] = refl
+names_again (n ∷ ns) = ap (λ (xs : Names). n ∷ xs) (names_again ns)
 
-  pub put_new : false ≡ is_first name (take (length seen - i) (drop i seen)) → is_first_below name (drop i read) ≡ false → insert names i name ≡ with_name name names
-  put_new is stops =
-      let other : is_first name (drop i names) ≡ false = ap (is_first name) (sym (take_rest names i)) ∙ ap (λ (ns : Names). is_first name (take (length ns - i) (drop i ns))) (sym seen_is) ∙ sym is in
-      let above : is_first_below name (drop i names) ≡ false = ap (λ (ns : Names). is_first_below name (drop i ns)) (sym read_is) ∙ stops in
-      sym (here ∙ ap (λ (xs : Names). take i names ++ xs) (new name (drop i names) other above))
+below_pairs : (x : List ℕ) (ns : Names) → AllByRecursion (λ y. order x y ≡ Less) ns → below_all order x (map paired ns) ≡ true
+below_pairs x [] all = refl
+below_pairs x (n ∷ ns) all = and_from _ _ (lt_of _ all.0) (below_pairs x ns all.1)
+
+pub pairs_rise : (names : Names) → IsStrictlySortedBy order names → is_sorted order (map paired names) ≡ true
+unfolding IsStrictlySortedBy
+pairs_rise [] rise = refl
+pairs_rise (n ∷ ns) rise = and_from _ _ (below_pairs n ns rise.0) (pairs_rise ns rise.1)
+
+-- a name is put among what stands behind lower ones
+behind_lower : (name : List ℕ) (front : Pairs) (rest : Names) → is_above_all name front ≡ true → with_name name (unpaired front ++ rest) ≡ unpaired front ++ with_name name rest
+behind_lower name [] rest above = refl
+behind_lower name (e ∷ front) rest above =
+    let parts = and_parts (is_lt (order e.0 name)) (is_above_all name front) above in
+    below_first (order e.0 name) name e.0 (unpaired front ++ rest) (with_name name (unpaired front ++ rest)) parts.0
+    ∙ ap (λ (xs : Names). e.0 ∷ xs) (behind_lower name front rest parts.1)
+
+-- in front of higher ones
+before_higher : (name : List ℕ) (back : Pairs) → below_all order name back ≡ true → with_name name (unpaired back) ≡ name ∷ unpaired back
+before_higher name [] below = refl
+before_higher name (e ∷ back) below =
+    let less : order name e.0 ≡ Less = less_of _ (and_parts (is_lt (order name e.0)) (below_all order name back) below).0 in
+    let higher : order e.0 name ≡ Greater = nat_list_cmp_total.antisymm e.0 name ∙ ap ordering_reverse less in
+    above_first (order e.0 name) name e.0 (unpaired back) (with_name name (unpaired back)) higher
+
+split_names : (names : Names) (front back : Pairs) → map paired names ≡ front ++ back → names ≡ unpaired front ++ unpaired back
+split_names names front back splits = sym (names_again names) ∙ ap unpaired splits ∙ map-append (λ (p : List ℕ × Unit {0}). p.0) front back
+
+there : (name : List ℕ) (names : Names) (i : ℕ) → StandsAt name (map paired names) i → with_name name names ≡ names
+there name names i at =
+    let back = (name, at.value) ∷ at.back in
+    let split = split_names names at.front back at.splits in
+    let same = equal_first (order name name) name name (unpaired at.back) (with_name name (unpaired at.back)) (tied_itself nat_list_cmp_total name) in
+    ap (with_name name) split ∙ behind_lower name at.front (unpaired back) at.above ∙ ap (λ (xs : Names). unpaired at.front ++ xs) same ∙ sym split
+
+inserted : (front back names : Names) (i : ℕ) (name : List ℕ) → names ≡ front ++ back → length front ≡ i → (i ≤ length names) × (insert names i name ≡ front ++ name ∷ back)
+inserted front back names i name split place = (
+  subst (λ (k : ℕ). k ≤ length names) place (subst (λ (xs : Names). length front ≤ length xs) (sym split) (omega (arith, length-append front back))),
+  ap (λ (xs : Names). insert xs i name) split ∙ ap (λ (k : ℕ). insert (front ++ back) k name) (sym place) ∙ ap (λ (xs : Names). xs ++ name ∷ drop (length front) (front ++ back)) (take-append_seam front back)
+      ∙ ap (λ (xs : Names). front ++ name ∷ xs) (drop-append_seam front back),
+)
+
+new : (name : List ℕ) (names : Names) (i : ℕ) → BelongsAt name (map paired names) i → (i ≤ length names) × (with_name name names ≡ insert names i name)
+new name names i at =
+    let split = split_names names at.front at.back at.splits in
+    let in_place = inserted (unpaired at.front) (unpaired at.back) names i name split (length-map at.front (λ (p : List ℕ × Unit {0}). p.0) ∙ at.place) in
+    (in_place.0, ap (with_name name) split ∙ behind_lower name at.front (unpaired at.back) at.above ∙ ap (λ (xs : Names). unpaired at.front ++ xs) (before_higher name at.back at.below) ∙ sym in_place.1)
+
+-- what is found among the pairs is where the name stands, or would stand
+pub placed_so : (name : List ℕ) (names : Names) (r : Result ℕ ℕ) → IsPlace name (map paired names) r → IsPlaceOf name names r
+placed_so name names (Ok i) at = there name names i at
+placed_so name names (Err i) at = new name names i at
 
 -- ---- the members of a runtime text
 
@@ -94,9 +129,9 @@ named_first global names left rest e name step same =
 turned : (a b : List ℕ) → order a b ≡ Greater → order b a ≡ Less
 turned a b is = nat_list_cmp_total.antisymm b a ∙ ap ordering_reverse is
 
-below_all : (x y : List ℕ) (ns : Names) → order x y ≡ Less → AllByRecursion (λ n. order y n ≡ Less) ns → AllByRecursion (λ n. order x n ≡ Less) ns
-below_all x y [] less below = tt
-below_all x y (n ∷ ns) less below = (nat_list_cmp_total.trans x y n less below.0, below_all x y ns less below.1)
+below_each : (x y : List ℕ) (ns : Names) → order x y ≡ Less → AllByRecursion (λ n. order y n ≡ Less) ns → AllByRecursion (λ n. order x n ≡ Less) ns
+below_each x y [] less below = tt
+below_each x y (n ∷ ns) less below = (nat_list_cmp_total.trans x y n less below.0, below_each x y ns less below.1)
 
 -- what holds of a name and of others holds of all of them
 all_placed : (P : List ℕ → Type 0) (r : Ordering) (name n : List ℕ) (ns rest : Names) → P name → AllByRecursion P (n ∷ ns) → AllByRecursion P rest → AllByRecursion P (placed r name n ns rest)
@@ -120,22 +155,22 @@ rise_placed : (r : Ordering) (name n : List ℕ) (ns : Names) → order n name �
 unfolding IsStrictlySortedBy
 rise_placed Less name n ns is rise later = (all_with (λ y. order n y ≡ Less) name ns is rise.0, later)
 rise_placed Equal name n ns is rise later = rise
-rise_placed Greater name n ns is rise later = ((turned n name is, below_all name n ns (turned n name is) rise.0), rise)
+rise_placed Greater name n ns is rise later = ((turned n name is, below_each name n ns (turned n name is) rise.0), rise)
 
 rise_with : (name : List ℕ) (names : Names) → IsStrictlySortedBy order names → IsStrictlySortedBy order (with_name name names)
 unfolding IsStrictlySortedBy
 rise_with name [] rise = (tt, tt)
 rise_with name (n ∷ ns) rise = rise_placed (order n name) name n ns refl rise (rise_with name ns rise.1)
 
+pub rise_with_file : (o : Option (List ℕ)) (names : Names) → IsStrictlySortedBy order names → IsStrictlySortedBy order (with_file o names)
+rise_with_file None names rise = rise
+rise_with_file (Some f) names rise = rise_with f names rise
+
 rise_from : (global : Members) (names : Names) (ms : Members) → IsStrictlySortedBy order names → IsStrictlySortedBy order (named_from global names ms)
 rise_from global names no_members rise = rise
-rise_from global names (member name d ms) rise = rise_from global (with_file (file_named global name d) names) ms (one (file_named global name d))
-  where
-    one : (o : Option (List ℕ)) → IsStrictlySortedBy order (with_file o names)
-    one None = rise
-    one (Some f) = rise_with f names rise
+rise_from global names (member name d ms) rise = rise_from global (with_file (file_named global name d) names) ms (rise_with_file (file_named global name d) names rise)
 
-no_names : IsStrictlySortedBy order []
+pub no_names : IsStrictlySortedBy order []
 unfolding IsStrictlySortedBy
 no_names = tt
 
@@ -159,7 +194,7 @@ short_given false o f is = absurd (cc)
 
 short_named : (b : Bool) (global bot : Members) (f : List ℕ) → (if b then None else file_given global bot) ≡ Some f → is_file_name f ≡ true
 short_named true global bot f is = absurd (cc)
-short_named false global bot f is = short_given (reads_file bot) (given global ([], bot) (codes "file")) f is
+short_named false global bot f is = short_given (reads_file (module_of ([], bot))) (given global ([], bot) (codes "file")) f is
 
 -- ---- the files of a runtime text
 

@@ -14,7 +14,8 @@ use Rattle.base_types.specs.Name.{queue_ending, queue_name}
 use Rattle.base_types.specs.Place.{is_above_all, BelongsAt, StandsAt}
 use Rattle.base_types.proofs.Places.{less_of, order}
 use Rattle.runtime_text.specs.Reaches.{is_queue_of}
-use Rattle.runtime_text.specs.Runtime.{is_collector, module_of, Entry, Route}
+use Rattle.module_settings.specs.Modules.{is_collector}
+use Rattle.runtime_text.specs.Runtime.{module_of, Entry, Route}
 use Rattle.runtime_text.specs.Wires.{owner}
 
 -- the test passes for none of these

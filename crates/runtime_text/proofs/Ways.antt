@@ -14,7 +14,8 @@ use Rattle.base_types.proofs.Places.{order}
 use Rattle.runtime_text.proofs.Owners.{found_owner, owner_inside, owner_stands}
 use Rattle.runtime_text.proofs.Reached.{all_reached, joined, reached}
 use Rattle.runtime_text.specs.Reaches.{is_queue_of, reaches, sends, targets, At-once, Reaches, Through}
-use Rattle.runtime_text.specs.Runtime.{is_collector, module_of, Entry}
+use Rattle.module_settings.specs.Modules.{is_collector}
+use Rattle.runtime_text.specs.Runtime.{module_of, Entry}
 use Rattle.runtime_text.specs.Wires.{graph_of, owner, wires_at, wires_of, AreInside, First, Leads, Next}
 
 -- ---- bots and their places

@@ -1,15 +1,17 @@
 -- Which files a runtime text names.
-use Rattle.std.specs.Prelude.{ℕ, List, [], ◌∷◌, ◌&&◌, ◌||◌, Bool, true, false, codes, is_some, Option, Some, None, option_and_then, unwrap_or, if◌then◌else◌}
+use Rattle.std.specs.Prelude.{◌≡◌, ◌≤◌, ℕ, List, [], ◌∷◌, ◌&&◌, Bool, true, codes, is_some, Option, Some, None, option_and_then, unwrap_or, length, Result, Ok, Err, if◌then◌else◌}
+use Rattle.std.specs.List.{insert}
 use Rattle.std.specs.declared.cmp.Ordering.{Ordering}
 use Rattle.std.specs.declared.cmp.Ordering.TheVariants.{Less, Equal, Greater}
-use Rattle.std.specs.Ordering.{is_lt, nat_cmp}
+use Rattle.std.specs.Ordering.{nat_cmp}
 use Rattle.std.specs.Cmp.Lexicographic.{slice_cmp}
 use Rattle.std.specs.Str.{bytes_eq}
 use Rattle.serde_json.specs.Data.{Data, Members, no_members, member}
-use Rattle.serde_json.specs.Find.{as_str, get_member}
+use Rattle.serde_json.specs.Find.{as_str}
 use Rattle.event_model.specs.Trees.{tree_in}
+use Rattle.module_settings.specs.Modules.{reads_file}
 use Rattle.module_settings.specs.Parameters.{is_file_name}
-use Rattle.runtime_text.specs.Runtime.{given, global_key, module_key, object_of, object_under}
+use Rattle.runtime_text.specs.Runtime.{given, global_key, module_of, object_of, object_under, Entry}
 
 -- ---- names in byte order
 
@@ -29,25 +31,16 @@ with_file (Some name) names = with_name name names
 
 -- ---- one bot
 
--- the modules that read a file of the bundle
-abbrev pub is_file_module : List ℕ → Bool
-is_file_module word = bytes_eq word (codes "expert.sieve") || bytes_eq word (codes "expert.prefix")
-
-abbrev pub passes : Option (List ℕ) → Bool
-passes None = false
-passes (Some word) = is_file_module word
-
--- the bot's module is one of them
-abbrev pub reads_file : Members → Bool
-reads_file bot = passes (option_and_then as_str (get_member module_key bot))
-
 -- a text that may be the name of a file
 abbrev pub file_name : Data → Option (List ℕ)
 file_name d = option_and_then (λ text. if is_file_name text then Some text else None) (as_str d)
 
--- the file that such a bot is given, its own or that of all bots
+-- the file that a bot is given whose module reads one, its own or that of all bots; by the bot's members, and by the bot
 abbrev pub file_given : Members → Members → Option (List ℕ)
-file_given global bot = if reads_file bot then option_and_then file_name (given global ([], bot) (codes "file")) else None
+file_given global bot = if reads_file (module_of ([], bot)) then option_and_then file_name (given global ([], bot) (codes "file")) else None
+
+abbrev pub file_of : Members → Entry → Option (List ℕ)
+file_of global bot = file_given global bot.1
 
 -- the file that a member names; each but `global` counts as a bot
 abbrev pub file_named : Members → List ℕ → Data → Option (List ℕ)
@@ -74,11 +67,7 @@ named_files runtime = named_in (option_and_then object_of (tree_in runtime))
 
 -- ---- what private contracts cite
 
--- the first of these names is below another; it is that one
-abbrev pub is_first_below : List ℕ → List (List ℕ) → Bool
-is_first_below name [] = false
-is_first_below name (n ∷ ns) = is_lt (slice_cmp nat_cmp n name)
-
-abbrev pub is_first : List ℕ → List (List ℕ) → Bool
-is_first name [] = false
-is_first name (n ∷ ns) = bytes_eq n name
+-- the name is there; or it isn't, and would stand there
+abbrev pub IsPlaceOf : List ℕ → List (List ℕ) → Result ℕ ℕ → Type 0
+IsPlaceOf name names (Ok i) = with_name name names ≡ names
+IsPlaceOf name names (Err i) = (i ≤ length names) × (with_name name names ≡ insert names i name)

@@ -4,7 +4,8 @@ use Rattle.std.specs.List.{flat_map, list_any}
 use Rattle.std.specs.Str.{bytes_eq}
 use Rattle.base_types.specs.Lists.{IsIn}
 use Rattle.base_types.specs.Name.{queue_name}
-use Rattle.runtime_text.specs.Runtime.{is_collector, module_of, routes, Entry}
+use Rattle.module_settings.specs.Modules.{is_collector}
+use Rattle.runtime_text.specs.Runtime.{module_of, routes, Entry}
 
 -- the queues of all paths of a bot
 abbrev pub targets : Entry → List (List ℕ)

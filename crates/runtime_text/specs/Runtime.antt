@@ -1,5 +1,5 @@
 -- A runtime text: its bots, and the parameters that are given to them.
-use Rattle.std.specs.Prelude.{ℕ, List, [], ◌∷◌, Bool, true, false, not, codes, is_some, Option, Some, None, option_map, option_and_then, unwrap_or, if◌then◌else◌}
+use Rattle.std.specs.Prelude.{ℕ, List, [], ◌∷◌, Bool, false, not, codes, is_some, Option, Some, None, option_map, option_and_then, unwrap_or, if◌then◌else◌}
 use Rattle.std.specs.FinMap.{empty}
 use Rattle.std.specs.Option.{option_or}
 use Rattle.std.specs.Str.{bytes_eq}
@@ -8,9 +8,9 @@ use Rattle.serde_json.specs.Find.{as_array, as_object, get_member}
 use Rattle.base_types.specs.Name.{is_bot_name}
 use Rattle.event_model.specs.Fields.{FieldMap}
 use Rattle.event_model.specs.Trees.{both, lexeme_in}
-use Rattle.module_settings.specs.Parameters.{module_of_value, parameters_of, setting_of, texts_in, Parameter}
+use Rattle.module_settings.specs.Modules.{module_of_value}
+use Rattle.module_settings.specs.Parameters.{parameters_of, setting_of, texts_in, Parameter}
 use Rattle.module_settings.specs.declared.module.ModuleWord.{ModuleWord}
-use Rattle.module_settings.specs.declared.module.ModuleWord.TheVariants as modules
 use Rattle.module_settings.specs.declared.setting.Setting.{Setting}
 use Rattle.module_settings.specs.declared.setting.Setting.TheVariants.{Whole, Switch, Line, Lines, Defaults}
 
@@ -54,11 +54,6 @@ module_key = codes "module"
 
 abbrev pub module_of : Entry → Option ModuleWord
 module_of bot = option_and_then module_of_value (get_member module_key bot.1)
-
--- the module is that of collectors
-abbrev pub is_collector : Option ModuleWord → Bool
-is_collector (Some modules.Collector) = true
-is_collector _ = false
 
 -- a path, and its queues
 abbrev pub Route : Type 0

@@ -3,8 +3,10 @@ ghost use Rattle.std.specs.Prelude.{◌≡◌, option_map, option_and_then, is_s
 ghost use Rattle.serde_json.specs.Find.{as_array, get_member};
 ghost use Rattle.serde_json.specs.View.{view, members_view};
 ghost use Rattle.module_settings.specs.Parameters.{texts_in};
+ghost use Rattle.runtime_text.specs.Named.{file_of};
 ghost use Rattle.runtime_text.specs.Runtime.{is_given_badly, module_of, object_under, routes, routes_given, routes_in, routes_key, routes_of_value};
 
+use crate::named::file_given;
 use crate::object::{Object, member, object_of};
 use base_types::{BotName, ListOf, OutOfMemory, Text, TextList};
 use module_settings::{ModuleWord, module_of, text_of, texts_in};
@@ -113,6 +115,14 @@ impl<'t> Bot<'t> {
             Some(tree) => module_of(tree),
             None => None,
         }
+    }
+
+    /// The name of the file of a bundle that the bot's module reads: the bot's parameter, or that of all bots, where it is a
+    /// text of 1 to 255 bytes.
+    pub fn file(&self, global: &Object<'t>) -> Option<&'t str>
+        ensures { option_map (λ name. name.now) result ≡ file_of (members_of global.now) (entry_of self.now) }
+    {
+        file_given(global, self.members)
     }
 
     /// The bot's paths with the names of their queues, in byte order of the paths.

@@ -1,5 +1,5 @@
 //! The parameters that are given to a bot.
-ghost use Rattle.std.specs.Prelude.{◌≡◌, ◌++◌, [], map, option_map, unwrap_or, IfOk};
+ghost use Rattle.std.specs.Prelude.{◌≡◌, [], map, option_map, unwrap_or, IfOk};
 ghost use Rattle.std.specs.Option.{option_or};
 ghost use Rattle.serde_json.specs.Find.{get_member};
 ghost use Rattle.serde_json.specs.View.{view};
@@ -12,9 +12,7 @@ use crate::bot::Bot;
 use crate::object::Object;
 use base_types::{OutOfMemory, Text, TextList};
 use event_model::Fields;
-use module_settings::{
-    ModuleWord, Parameter, Setting, own_parameters, setting_of, shared_parameters,
-};
+use module_settings::{ModuleWord, Parameter, Setting, parameters_of, setting_of};
 use serde_json::Value as Tree;
 use std::alloc::Global;
 
@@ -33,22 +31,6 @@ pub fn given<'t>(global: &Object<'t>, bot: &Bot<'t>, name: &str) -> Option<&'t T
     ensures { option_map (λ tree. view tree.now) result ≡ given (members_of global.now) (entry_of bot.now) name.now }
 {
     given_in(global, &bot.object("parameters"), name)
-}
-
-static NO_PARAMETERS: [Parameter; 0] = [];
-
-/// The parameters of all bots and those of the module.
-pub fn parameters_of(word: Option<ModuleWord>) -> (&'static [Parameter], &'static [Parameter])
-    ensures { map parameter_of result.0.now ++ map parameter_of result.1.now ≡ parameters_of word }
-{
-    match word {
-        Some(ModuleWord::Collector) => (
-            shared_parameters(true),
-            own_parameters(ModuleWord::Collector),
-        ),
-        Some(word) => (shared_parameters(false), own_parameters(word)),
-        None => (shared_parameters(false), &NO_PARAMETERS),
-    }
 }
 
 fn named_in(parameters: &'static [Parameter], name: &str) -> Option<&'static Parameter>

@@ -1,36 +1,30 @@
 //! The files that a runtime text names.
-ghost use Rattle.std.specs.Prelude.{◌≡◌, ◌≤◌, ◌++◌, [], length, take, drop, false, option_map, IfOk, OnOk};
+ghost use Rattle.std.specs.Prelude.{◌≡◌, [], option_map, IfOk, OnOk};
+ghost use Rattle.std.specs.Ordering.{nat_cmp};
+ghost use Rattle.std.specs.Cmp.Lexicographic.{slice_cmp};
+ghost use Rattle.std.specs.List.Sorted.{IsStrictlySortedBy};
 ghost use Rattle.serde_json.specs.View.{view, members_view};
-ghost use Rattle.runtime_text.specs.Named.{are_objects, file_given, file_name, file_named, is_file_module, is_first, is_first_below, named_files, named_from, reads_file, with_file, with_name};
+ghost use Rattle.runtime_text.specs.Named.{are_objects, file_given, file_name, file_named, named_files, named_from, with_file, with_name, IsPlaceOf};
 ghost use Rattle.runtime_text.specs.Read.{members_of};
-ghost use Rattle.runtime_text.specs.Runtime.{global_key, object_under};
+ghost use Rattle.runtime_text.specs.Runtime.{global_key, module_of, object_under};
 
 use crate::given::given_in;
 use crate::object::{Object, member, object_of};
 use crate::runtime::tree_in;
 use base_types::{OutOfMemory, Text, TextList};
-use module_settings::{is_file_name, text_of};
+use module_settings::{ModuleWord, is_file_name, module_of, reads_file, text_of};
 use serde_json::{Map, Value as Tree};
 use std::alloc::Global;
+use std::cmp::Ordering;
 
 // ---- one bot
 
-fn is_file_module(word: &str) -> bool
-    ensures { result ≡ is_file_module word.now }
-{
-    word == "expert.sieve" || word == "expert.prefix"
-}
-
-// Whether the module of a bot reads a file of the bundle.
-fn reads_file(bot: &Map<String, Tree>) -> bool
-    ensures { result ≡ reads_file (members_view bot.now.entries) }
+fn module_in(bot: &Map<String, Tree>) -> Option<ModuleWord>
+    ensures { result ≡ module_of ([], members_view bot.now.entries) }
 {
     match member(bot, "module") {
-        Some(tree) => match tree.as_str() {
-            Some(word) => is_file_module(word),
-            None => false,
-        },
-        None => false,
+        Some(tree) => module_of(tree),
+        None => None,
     }
 }
 
@@ -43,11 +37,11 @@ fn file_name(tree: &Tree) -> Option<&str>
     }
 }
 
-// The file that a bot is given whose module reads one.
-fn file_given<'t>(global: &Object<'t>, bot: &'t Map<String, Tree>) -> Option<&'t str>
+/// The file that a bot is given whose module reads one, of the bot's members.
+pub(crate) fn file_given<'t>(global: &Object<'t>, bot: &'t Map<String, Tree>) -> Option<&'t str>
     ensures { option_map (λ name. name.now) result ≡ file_given (members_of global.now) (members_view bot.now.entries) }
 {
-    if !reads_file(bot) {
+    if !reads_file(module_in(bot)) {
         return None;
     }
     match given_in(global, &Object::under(bot, "parameters"), "file") {
@@ -71,51 +65,34 @@ fn file_named<'t>(global: &Object<'t>, name: &str, tree: &'t Tree) -> Option<&'t
 
 // ---- names in byte order
 
-// Whether the first of these names is below another.
-fn is_first_below(names: &[Text], name: &str) -> bool
-    ensures { result ≡ is_first_below name.now names.now }
+fn compare(text: &Text, name: &str) -> Ordering
+    ensures { result ≡ slice_cmp nat_cmp text.now name.now }
 {
-    match names {
-        [first, ..] => first.bytes().cmp(name.as_bytes()).is_lt(),
-        [] => false,
-    }
+    text.bytes().cmp(name.as_bytes())
 }
 
-fn is_first(names: &[Text], name: &str) -> bool
-    ensures { result ≡ is_first name.now names.now }
+// Where a name stands, or where it would stand.
+fn place_of(names: &[Text], name: &str) -> Result<usize, usize>
+    requires { IsStrictlySortedBy (slice_cmp nat_cmp) names.now }
+    ensures { IsPlaceOf name.now names.now result }
 {
-    match names {
-        [first, ..] => first.as_str() == name,
-        [] => false,
-    }
-}
-
-// How many of the names are below another.
-fn place_of(names: &[Text], name: &str) -> usize
-    ensures within { result ≤ length names.now }
-    ensures behind { with_name name.now names.now ≡ take result names.now ++ with_name name.now (drop result names.now) }
-    ensures stops { is_first_below name.now (drop result names.now) ≡ false }
-{
-    let mut place = 0;
-    'names: while is_first_below(&names[place..], name) {
-        place += 1;
-    }
-    place
+    names.binary_search_by(|text| compare(text, name))
 }
 
 // Puts a name at its place, unless it is there.
 fn put_name(alloc: Global, names: &mut Vec<Text>, name: &str) -> Result<(), OutOfMemory>
+    requires { IsStrictlySortedBy (slice_cmp nat_cmp) names.old.items }
     ensures { OnOk result (names.new.items ≡ with_name name.now names.old.items) }
 {
-    let place = place_of(names, name);
-    if is_first(&names[place..], name) {
+    let Err(place) = place_of(names, name) else {
         return Ok(());
-    }
+    };
     names.insert(place, text_of(alloc, name)?)?;
     Ok(())
 }
 
 fn put_file(alloc: Global, names: &mut Vec<Text>, file: Option<&str>) -> Result<(), OutOfMemory>
+    requires { IsStrictlySortedBy (slice_cmp nat_cmp) names.old.items }
     ensures { OnOk result (names.new.items ≡ with_file (option_map (λ name. name.now) file.entry) names.old.items) }
 {
     match file {

@@ -5,13 +5,13 @@ ghost use Rattle.std.specs.Ordering.{nat_cmp};
 ghost use Rattle.std.specs.Cmp.Lexicographic.{slice_cmp};
 ghost use Rattle.base_types.specs.Name.{queue_ending};
 ghost use Rattle.base_types.specs.Place.{IsPlace};
+ghost use Rattle.module_settings.specs.Modules.{is_collector};
 ghost use Rattle.runtime_text.specs.Read.{entries_of, entry_of};
-ghost use Rattle.runtime_text.specs.Runtime.{is_collector, module_of};
+ghost use Rattle.runtime_text.specs.Runtime.{module_of};
 ghost use Rattle.runtime_text.specs.Wires.{graph_of, owner, wires_of};
 
 use crate::bot::Bot;
 use base_types::{OutOfMemory, Text, TextList};
-use module_settings::ModuleWord;
 use std::alloc::Global;
 use std::cmp::Ordering;
 
@@ -20,10 +20,7 @@ const QUEUE_ENDING: &[u8] = b"-queue";
 fn is_collector(bot: &Bot) -> bool
     ensures { result ≡ is_collector (module_of (entry_of bot.now)) }
 {
-    match bot.module() {
-        Some(ModuleWord::Collector) => true,
-        _ => false,
-    }
+    module_settings::is_collector(bot.module())
 }
 
 fn compare(bot: &Bot, name: &[u8]) -> Ordering

@@ -32,6 +32,8 @@ Make a store, and run its bots:
     --reload NAME        put another bundle in force first
     --round new          read the feeds that were read to their ends once more
                            intelpipe out/demo drain --round new
+  run                    the same, with a thread for each instance of a bot; it takes what drain takes
+                           intelpipe out/demo run
 
 Look at a store, and mend it:
   status                 print what waits, what is in hand, how far feeds are read, and which file is which output
@@ -111,8 +113,8 @@ where
     told(rt, &run_words(rt, is_terminal, words))
 }
 
-// Tells how it ended, unless all is done. Answers the exit status.
-fn told<E: Eprint>(rt: &E, status: &Status) -> u8
+/// Tells how it ended, unless all is done. Answers the exit status.
+pub(crate) fn told<E: Eprint>(rt: &E, status: &Status) -> u8
     ensures { result ≡ number_of status.now }
 {
     if *status != Status::Done {
@@ -122,8 +124,8 @@ fn told<E: Eprint>(rt: &E, status: &Status) -> u8
     status.number()
 }
 
-// The words of the command line without the program's name.
-fn command_line<R: Env + AllocGlobal>(rt: &R) -> Result<Vec<Text>, Status> {
+/// The words of the command line without the program's name.
+pub(crate) fn command_line<R: Env + AllocGlobal>(rt: &R) -> Result<Vec<Text>, Status> {
     let arguments = match env::args(rt) {
         Ok(arguments) => arguments,
         Err(e) if e.kind() == io::ErrorKind::OutOfMemory => return Err(Status::Memory),
@@ -154,8 +156,8 @@ where
     }
 }
 
-// Does what a word says that stands alone.
-fn run_alone<R: Print>(rt: &R, word: &Text) -> Status
+/// Does what a word says that stands alone.
+pub(crate) fn run_alone<R: Print>(rt: &R, word: &Text) -> Status
     ensures { (result ≡ Status.Words) ↔ (stands_alone word.now ≡ false) }
 {
     if word.as_str() == "--help" {

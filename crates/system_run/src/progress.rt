@@ -74,13 +74,13 @@ impl<'a, R: rt::Clock + Eprint> Progress<'a, R> {
         }
     }
 
-    // Writes the line, so many seconds after it was written last.
+    // Writes the line, so many seconds after it was written last. Of several threads one does.
     fn tell(&self, rest: u64, feed: Option<Reading<'_>>) {
         let now = seconds(self.system);
-        if now < self.told.load(Ordering::Relaxed).saturating_add(rest) {
+        let told = self.told.load(Ordering::Relaxed);
+        if now < told.saturating_add(rest) || !self.is_first(told, now) {
             return;
         }
-        self.told.store(now, Ordering::Relaxed);
         let line = Line {
             feed,
             steps: self.steps.load(Ordering::Relaxed),
@@ -88,6 +88,13 @@ impl<'a, R: rt::Clock + Eprint> Progress<'a, R> {
             seconds: now.saturating_sub(self.began),
         };
         let _ = eprint!(self.system; "{CLEARED}{line}");
+    }
+
+    // Whether no other thread has told since then. Then this one tells now.
+    fn is_first(&self, told: u64, now: u64) -> bool {
+        self.told
+            .compare_exchange(told, now, Ordering::Relaxed, Ordering::Relaxed)
+            .is_ok()
     }
 }
 

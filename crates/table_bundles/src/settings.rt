@@ -4,7 +4,7 @@ use base_types::OutOfMemory;
 use event_model::{Fields, ReadFault, read_tree};
 use field_types::push_value;
 use module_settings::{
-    Form, ModuleWord, Parameter, Setting, Words, module_of, own_parameters, setting_of,
+    Form, Instances, ModuleWord, Parameter, Setting, Words, module_of, own_parameters, setting_of,
     shared_parameters, taken_as,
 };
 use serde_json::Value as Tree;
@@ -42,7 +42,12 @@ pub fn own(alloc: Global, case: &str) -> Result<String, OutOfMemory> {
 
 /// What the parameters of all bots are where they aren't given.
 pub fn shared(alloc: Global, case: &str) -> Result<String, OutOfMemory> {
-    defaults_text(alloc, shared_parameters(case == "collector"))
+    let instances = if case == "collector" {
+        Instances::One
+    } else {
+        Instances::Several
+    };
+    defaults_text(alloc, shared_parameters(instances))
 }
 
 fn defaults_text(alloc: Global, parameters: &[Parameter]) -> Result<String, OutOfMemory> {

@@ -78,6 +78,7 @@ fn answer_of_text(alloc: Global, call: &str, text: &str) -> Result<String, OutOf
         }
         "edits" => edits::edits(alloc, text),
         "words" => words::command(alloc, text),
+        "run words" => words::run(alloc, text),
         "no words" => words::no_words(alloc),
         "status" => statuses::status(alloc, text),
         "falling tree" => messages::falling(alloc, text),

@@ -1,15 +1,29 @@
 //! What the words of a command line ask for.
 use base_types::{OutOfMemory, Text};
-use command_words::{Ask, Command, command_of};
+use command_words::{Ask, Command, command_of, run_of};
 use std::alloc::Global;
 
 /// The command that words are, which stand with a blank between two.
 pub fn command(alloc: Global, line: &str) -> Result<String, OutOfMemory> {
+    let words = words_of(alloc, line)?;
+    shown(alloc, command_of(&words))
+}
+
+/// What words ask of bots on threads.
+pub fn run(alloc: Global, line: &str) -> Result<String, OutOfMemory> {
+    let words = words_of(alloc, line)?;
+    match run_of(&words) {
+        None => Ok(String::from_str(alloc, "none")?),
+        Some(ask) => asked(alloc, "run", ask),
+    }
+}
+
+fn words_of(alloc: Global, line: &str) -> Result<Vec<Text>, OutOfMemory> {
     let mut words = Vec::new(alloc);
     for word in line.split(' ') {
         words.push(Text::from(String::from_str(alloc, word)?))?;
     }
-    shown(alloc, command_of(&words))
+    Ok(words)
 }
 
 /// The command that no words are.
@@ -30,11 +44,11 @@ fn shown(alloc: Global, command: Option<Command<'_>>) -> Result<String, OutOfMem
         Some(Command::Drill { lines, number }) => {
             Ok(format!(in alloc; "drill, lines {lines}, number {number}")?)
         }
-        Some(Command::Drain(ask)) => drain(alloc, ask),
+        Some(Command::Drain(ask)) => asked(alloc, "drain", ask),
     }
 }
 
-fn drain(alloc: Global, ask: Ask<'_>) -> Result<String, OutOfMemory> {
+fn asked(alloc: Global, word: &str, ask: Ask<'_>) -> Result<String, OutOfMemory> {
     let steps = match ask.steps {
         Some(steps) => format!(in alloc; "{steps}")?,
         None => String::from_str(alloc, "none")?,
@@ -44,5 +58,5 @@ fn drain(alloc: Global, ask: Ask<'_>) -> Result<String, OutOfMemory> {
         None => "none",
     };
     let round = ask.round;
-    Ok(format!(in alloc; "drain, steps {steps}, reload {reload}, round {round}")?)
+    Ok(format!(in alloc; "{word}, steps {steps}, reload {reload}, round {round}")?)
 }

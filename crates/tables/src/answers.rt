@@ -30,6 +30,7 @@ impl Answers {
         let answer = match table {
             "texts" => table_texts::answer(alloc, &mut self.cleaner, case)?,
             "codes" => table_codes::answer(alloc, case)?,
+            "holds" => table_holds::answer(alloc, case)?,
             "sieves" => table_sieves::answer(alloc, case)?,
             "bundles" => {
                 let case = table_bundles::with_files(rt, case)?;

@@ -25,3 +25,6 @@ pub returns-in-Err-fetch_files-clause-fetched : goal.returns-in-Err-fetch_files-
 returns-in-Err-fetch_files-clause-fetched g c = λ shelf told.
     file_lacks shelf c.args.name.now c.in-Ok.runtime c.in_ok-names.names c.in-Err-fetch_files.fault (c.in-Ok.ensures.front shelf told) (c.in_ok-names.ensures ∙ ap named_files c.bytes.ensures)
     (c.in-Err-fetch_files.ensures.files shelf (c.fetch_front.ensures.told ∙ told))
+
+pub returns-in-Ok-fetch_files-clause-named : goal.returns-in-Ok-fetch_files-clause-named
+returns-in-Ok-fetch_files-clause-named g c = c.in-Ok-fetch_files.ensures.names ∙ c.in_ok-names.ensures ∙ ap named_files c.bytes.ensures

@@ -6,6 +6,7 @@ use Rattle.book_runs.specs.Calls.{IsEarlierIn}
 use Rattle.book_runs.proofs.Called.{left_closed, left_open}
 use Rattle.store_commands.specs.declared.end.StoreEnd.{StoreEnd}
 use Rattle.store_commands.specs.declared.end.StoreEnd.TheVariants as end
+use Rattle.drain_turns.specs.Drained.{Drains}
 use Rattle.drain_turns.specs.declared.end.TurnsEnd.{TurnsEnd}
 use Rattle.drain_turns.specs.declared.end.TurnsEnd.TheVariants as last
 use Rattle.drain_loop.specs.Calls.{outside}
@@ -25,12 +26,12 @@ returns-in_default-clause-drained g c = λ files told.
     let is : Reopened g.D.Disk.disk m files c.args.disk opened =
     reopened_so files c.args.disk c.args.rules 67_108_864 opened c.in-Ok.ensures.book (c.in-Ok.ensures.opens files told) (c.in-Ok.ensures.root files told) (c.in-Ok.ensures.long files told) c.in-Ok.ensures.kept c.in-Ok.ensures.any_moment in
     let why = c.make_turns-last.result in
-    let turned = subst (λ (n : ℕ). IsTurned g.D.Disk.disk (outside m shelf clock n) c.args.asked opened mid why) (ap (λ (b : BookView _ _). b.limit) c.in-Ok.ensures.book) c.make_turns-last.ensures.turned in
+    let turned = subst (λ (n : ℕ). IsTurned g.D.Disk.disk Drains (outside m shelf clock n) c.args.asked opened mid why) (ap (λ (b : BookView _ _). b.limit) c.in-Ok.ensures.book) c.make_turns-last.ensures.turned in
     let now = g.H.Shelf.shelf c.make_turns-last.new.shelf in
     let before = g.S.Sink.sink c.args.out.now in let after = g.S.Sink.sink c.finish-end.new.out in
     subst (λ d. IsDrainCall g.D.Disk.disk o now files c.args.asked (g.D.Disk.disk c.args.disk) (g.D.Disk.disk d) c.ended.result before after) (sym c.into_disk-in_default.ensures)
     (subst (λ (r : Result TurnsEnd StoreEnd). IsDrainCall g.D.Disk.disk o now files c.args.asked (g.D.Disk.disk c.args.disk) (g.D.Disk.disk later.disk) r before after) (sym c.ended.ensures)
-    (drain_called o c.each_message_stands_in_one_place.ensures files c.args.asked c.args.disk opened mid later is why turned c.finish-end.ensures.goes_on now (failed_beyond o now mid.state why c.make_turns-last.ensures.failed)
+    (drain_called Drains o c.each_message_stands_in_one_place.ensures files c.args.asked c.args.disk opened mid later is why turned c.finish-end.ensures.goes_on now (failed_beyond o now mid.state why c.make_turns-last.ensures.failed)
     c.in_default.not-Disk c.in_default.not-Damaged c.has_memory-is_said.result c.has_memory-is_said.ensures.1 c.finish-end.result before after
     c.finish-end.ensures.finished c.finish-end.ensures.durable c.finish-end.ensures.completed c.finish-end.ensures.written c.finish-end.ensures.undamaged c.finish-end.ensures.untold))
 
@@ -69,9 +70,9 @@ returns-in-Disk-clause-drained g c = λ files told.
     let is : Reopened g.D.Disk.disk m files c.args.disk opened =
     reopened_so files c.args.disk c.args.rules 67_108_864 opened c.in-Ok.ensures.book (c.in-Ok.ensures.opens files told) (c.in-Ok.ensures.root files told) (c.in-Ok.ensures.long files told) c.in-Ok.ensures.kept c.in-Ok.ensures.any_moment in
     let why = c.make_turns-last.result in
-    let turned = subst (λ (n : ℕ). IsTurned g.D.Disk.disk (outside m shelf clock n) c.args.asked opened mid why) (ap (λ (b : BookView _ _). b.limit) c.in-Ok.ensures.book) c.make_turns-last.ensures.turned in
+    let turned = subst (λ (n : ℕ). IsTurned g.D.Disk.disk Drains (outside m shelf clock n) c.args.asked opened mid why) (ap (λ (b : BookView _ _). b.limit) c.in-Ok.ensures.book) c.make_turns-last.ensures.turned in
     subst (λ d. IsDrainCall g.D.Disk.disk o now files c.args.asked (g.D.Disk.disk c.args.disk) (g.D.Disk.disk d) (Err end.Disk) sink sink) (sym c.into_disk.ensures)
-    (drain_broken o c.each_message_stands_in_one_place.ensures files c.args.asked c.args.disk opened mid mid is why turned (goes_nowhere mid (g.met.D.Disk.only_now mid.disk)) now sink)
+    (drain_broken Drains o c.each_message_stands_in_one_place.ensures files c.args.asked c.args.disk opened mid mid is why turned (goes_nowhere mid (g.met.D.Disk.only_now mid.disk)) now sink)
 
 pub returns-in-Disk-clause-others : goal.returns-in-Disk-clause-others
 returns-in-Disk-clause-others g c = λ files told.
@@ -88,7 +89,7 @@ returns-in-Err-clause-drained g c = λ files told.
     let sink = g.S.Sink.sink c.args.out.now in
     let disk = c.in-Err.disk in
     subst (λ (e : StoreEnd). IsDrainCall g.D.Disk.disk o o.shelf files c.args.asked (g.D.Disk.disk c.args.disk) (g.D.Disk.disk disk) (Err e) sink sink) (sym c.end_of.ensures)
-    (drain_closed g.D.Disk.disk o o.shelf files c.args.asked (g.D.Disk.disk c.args.disk) (g.D.Disk.disk disk) (g.D.Disk.disk c.args.disk).told c.in-Err.fault sink told c.in-Err.ensures.fault
+    (drain_closed g.D.Disk.disk Drains o o.shelf files c.args.asked (g.D.Disk.disk c.args.disk) (g.D.Disk.disk disk) (g.D.Disk.disk c.args.disk).told c.in-Err.fault sink told c.in-Err.ensures.fault
     (λ origin steps more was. record { any_moment = c.in-Err.ensures.any_moment_err origin steps more was; now = c.in-Err.ensures.still_err origin steps more was }))
 
 pub returns-in-Err-clause-others : goal.returns-in-Err-clause-others

@@ -1,4 +1,4 @@
-use Rattle.std.proofs.Common.{◌≡◌, ◌≢◌, ◌≤◌, ℕ, List, [], ◌∷◌, None, refl, sym, ap, subst, ◌∙◌, arith}
+use Rattle.std.proofs.Common.{◌≡◌, ◌≢◌, ℕ, List, [], ◌∷◌, None, refl, sym, ap, subst, ◌∙◌, arith}
 use Rattle.edge_traits.specs.Shelf.{ShelfView, count_on}
 use Rattle.edge_traits.proofs.Outputs.{Took-nothing}
 use Rattle.bot_rules.specs.Intel.{intel}

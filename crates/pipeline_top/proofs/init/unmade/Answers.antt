@@ -1,4 +1,4 @@
-use Rattle.std.proofs.Common.{◌≡◌, ◌<◌, ℕ, List, [], inl, inr, refl, sym, subst, arith}
+use Rattle.std.proofs.Common.{◌≡◌, [], inl, inr, refl, sym, subst, arith}
 use Rattle.edge_traits.specs.Sink.{SinkView, Took}
 use Rattle.edge_traits.proofs.Outputs.{Took-nothing}
 use Rattle.bot_rules.specs.Intel.{intel}

@@ -1,14 +1,10 @@
 use Rattle.runtime_config.proofs.Faulty.{fault_split, first_fault_is, later_planned, same_fault, same_planned}
-use Rattle.runtime_text.specs.Read.{entries_of, entry_of}
-use Rattle.runtime_config.specs.Whole.{place_at}
+use Rattle.runtime_config.specs.Whole.{place_of}
 use Rattle.runtime_config.proofs.loading.load_bot.Goals as goal
 
 pub returns-in-Ok-clause-found : goal.returns-in-Ok-clause-found
 returns-in-Ok-clause-found c =
-    same_planned _ _ _ c.sieved.result (fault_split (place_at c.args.whole.now (entries_of c.args.before.now) (entry_of c.args.bot.now)))
-    (later_planned _ _ _ c.sieved.result c.in-Ok.ensures c.sieved.ensures.found)
+    same_planned _ _ _ c.sieved.result (fault_split (place_of c.args.at.now)) (later_planned _ _ _ c.sieved.result c.in-Ok.ensures c.sieved.ensures.found)
 
 pub returns-in-Err-clause-found : goal.returns-in-Err-clause-found
-returns-in-Err-clause-found c =
-    same_fault _ _ c.in-Err.fault (fault_split (place_at c.args.whole.now (entries_of c.args.before.now) (entry_of c.args.bot.now)))
-    (first_fault_is _ _ c.in-Err.fault c.in-Err.ensures)
+returns-in-Err-clause-found c = same_fault _ _ c.in-Err.fault (fault_split (place_of c.args.at.now)) (first_fault_is _ _ c.in-Err.fault c.in-Err.ensures)

@@ -16,15 +16,17 @@ bots-init c = record {
   done = c.new-bots.ensures;
   faults = refl;
   sums = record {
-    instances_are = c.new-sums.ensures.instances;
-    rows_are = c.new-sums.ensures.rows;
-    files_are = c.new-sums.ensures.files;
-    bytes_are = omega (arith, c.new-sums.ensures.bytes);
-  };
-  small = record {
-    few_instances = omega (arith, c.new-sums.ensures.instances);
-    few_rows = omega (arith, c.new-sums.ensures.rows);
-    short = omega (arith, c.new-sums.ensures.bytes, c.requires.short);
+    sums = record {
+      instances_are = c.new-sums.ensures.instances;
+      rows_are = c.new-sums.ensures.rows;
+      files_are = c.new-sums.ensures.files;
+      bytes_are = omega (arith, c.new-sums.ensures.bytes);
+    };
+    small = record {
+      few_instances = omega (arith, c.new-sums.ensures.instances);
+      few_rows = omega (arith, c.new-sums.ensures.rows);
+      short = omega (arith, c.new-sums.ensures.bytes, c.requires.short);
+    };
   };
 }
 
@@ -52,5 +54,4 @@ bots-preserved c =
       done = next_planned (planned w.bundle.now (members_of w.global.now)) bots at bot c.bots.bots c.push_planned.new.bots c.in-Ok.planned within there c.bots.invariant.done c.in_ok-push_planned-in-Ok.ensures found.1;
       faults = none_first _ _ _ found.0 (sym (next_fault w.bundle.now (runtime_as w) bots at bot within there) ∙ c.bots.invariant.faults);
       sums = c.in-Ok.ensures.sums;
-      small = c.in-Ok.ensures.small;
     }

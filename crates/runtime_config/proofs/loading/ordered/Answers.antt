@@ -7,16 +7,19 @@ use Rattle.runtime_config.specs.declared.fault.LoadFault.TheVariants as fault
 use Rattle.runtime_config.proofs.loading.ordered.Goals as goal
 
 pub is_on_cycle-requires : goal.is_on_cycle-requires
-is_on_cycle-requires c = record {
-  whole = c.requires.whole;
-  place = subst (λ n. length c.args.before.now < n) (length-map c.args.whole.now.bots.now entry_of) (get_inside (entries_of c.args.whole.now.bots.now) (length c.args.before.now) (entry_of c.args.bot.now) c.requires.place);
-}
+is_on_cycle-requires c =
+    let at = c.args.at.now in
+    record {
+      whole = c.requires.placed.whole;
+      place = subst (λ n. length at.before.now < n) (length-map at.whole.now.bots.now entry_of) (get_inside (entries_of at.whole.now.bots.now) (length at.before.now) (entry_of at.bot.now) c.requires.placed.place);
+    }
 
 pub returns-then-branch-clause-found : goal.returns-then-branch-clause-found
 returns-then-branch-clause-found c =
-    there _ (fault.Cycle (entry_of c.args.bot.now).0) (fault.Cycle c.name.result) _ (sym (c.in_ok-is_on_cycle.ensures (entry_of c.args.bot.now) c.requires.place) ∙ c.if-branch.true) (ap fault.Cycle c.name.ensures)
+    let bot = entry_of c.args.at.now.bot.now in
+    there _ (fault.Cycle bot.0) (fault.Cycle c.name.result) _ (sym (c.in_ok-is_on_cycle.ensures bot c.requires.placed.place) ∙ c.if-branch.true) (ap fault.Cycle c.name.ensures)
 
 pub returns-clause-found : goal.returns-clause-found
 returns-clause-found c =
-    later_planned _ _ _ c.limited.result
-    (absent _ (fault.Cycle (entry_of c.args.bot.now).0) (sym (c.in_ok-is_on_cycle.ensures (entry_of c.args.bot.now) c.requires.place) ∙ c.if-branch.false)) c.limited.ensures.found
+    let bot = entry_of c.args.at.now.bot.now in
+    later_planned _ _ _ c.limited.result (absent _ (fault.Cycle bot.0) (sym (c.in_ok-is_on_cycle.ensures bot c.requires.placed.place) ∙ c.if-branch.false)) c.limited.ensures.found

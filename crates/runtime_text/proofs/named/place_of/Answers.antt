@@ -1,18 +1,17 @@
-use Rattle.std.proofs.Common.{◌≡◌, ◌++◌, ◌+◌, ℕ, suc, true, take, drop, sym, ap, ◌∙◌, arith}
-use Rattle.std.proofs.lemmas.List.{take_rest}
-use Rattle.runtime_text.specs.Named.{is_first_below, with_name}
-use Rattle.runtime_text.proofs.Naming.{one_below}
+use Rattle.std.proofs.Common.{ℕ, List, rules, map}
+use Rattle.std.proofs.lemmas.Fn.{always_returns_same}
+use Rattle.base_types.proofs.Places.{order, searched}
+use Rattle.runtime_text.proofs.Naming.{paired, pairs_rise, placed_so}
+use Rattle.runtime_text.proofs.Searches.{range_mapped, searched_mapped}
 use Rattle.runtime_text.proofs.named.place_of.Goals as goal
 
-pub names-preserved : goal.names-preserved
-names-preserved c =
-    let names = c.args.names.now in
+pub returns : goal.returns
+returns c =
+    let facts = c.binary_search_by.ensures in
     let name = c.args.name.now in
-    let place = c.names.place in
-    let below : is_first_below name (drop place names) ≡ true = ap (is_first_below name) (sym (take_rest names place)) ∙ sym c.is_first_below.ensures ∙ c.names-test.true in
-    let more = one_below name names place below in
-    let next : suc place ≡ place + 1 = omega arith in
-    record {
-      within = omega (arith, more.0);
-      behind = c.names.invariant.behind ∙ more.1 ∙ ap (λ (n : ℕ). take n names ++ with_name name (drop n names)) next;
-    }
+    let names = c.args.names.now in
+    let r = c.binary_search_by.result in
+    let ord = λ (p : List ℕ × Unit {0}). order p.0 name in
+    placed_so name names r
+    (searched name (map paired names) r (pairs_rise names c.requires) (range_mapped paired ord names r facts.bound)
+    (searched_mapped paired ord names r facts.bound (facts.position (λ text. order text name) (always_returns_same _ _ _ (λ a r g called. (search rules, search rules))))))

@@ -1,0 +1,12 @@
+pub mod Lists
+pub mod Entries
+pub mod Parts
+pub mod Instances
+pub mod Feeds
+pub mod Worked
+pub mod Waiting
+pub mod Joining
+pub mod Counting
+pub mod Running
+pub mod Sends
+pub mod Slotted

@@ -1,0 +1,9 @@
+use Rattle.std.proofs.Common.{◌≡◌}
+use Rattle.book_lock.specs.Seats.{knows, opening, IsSeatOf}
+use Rattle.bot_runner.specs.Parts.{IsWaiting}
+use Rattle.bot_runner.proofs.caller_part.caller_part.Given as goal
+
+abbrev pub invariant-looks : goal.invariant-looks
+invariant-looks g l =
+    (goal.iterator-looks g).can_next l.iterator' × (goal.iterator-looks g).is_finite l.iterator'
+    × IsSeatOf l.fn.lock l.seat × ((knows l.seat).parts ≡ (knows l.fn.seat).parts) × IsWaiting g.R.Rules.meaning (opening l.fn.lock).opening (knows l.seat)

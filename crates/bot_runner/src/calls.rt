@@ -1,0 +1,55 @@
+//! Calls on threads, beside one on this thread.
+ghost use Rattle.std.specs.Fork.{AcceptsEach};
+ghost use Rattle.std.specs.Thread.{IsSend, IsSync};
+ghost use Rattle.bot_runner.specs.Calls.{Accepts, AreCalled, IsCalled};
+
+use std::thread;
+use std::thread::Threads;
+
+// Calls one at each slot, each on a thread of its own where one can be made, and the other beside them on this thread.
+pub(crate) fn call_each_beside<
+    R: Threads + Sync,
+    T: Send,
+    W,
+    F: Fn(usize, &mut T) + Sync,
+    G: Fn(&mut W),
+>(rt: &R, each: &F, beside: &G, slots: &mut [T], mine: &mut W)
+    requires accepts { AcceptsEach F.Fn each.now slots.old }
+    requires beside { Accepts G.Fn beside.now mine.old }
+    ensures each { AreCalled F.Fn each.now slots.old slots.new }
+    ensures beside { IsCalled G.Fn beside.now mine.old mine.new }
+{
+    let mut all = ||
+        requires { IsSync R.row × IsSync F.row × IsSend T.row × AcceptsEach F.Fn each.now slots.now }
+        ensures { AreCalled F.Fn each.entry.now slots.entry.now slots.exit.now }
+    { call_each(rt, each, slots) };
+    let mut one = ||
+        requires { Accepts G.Fn beside.now mine.now }
+        ensures { IsCalled G.Fn beside.entry.now mine.entry.now mine.exit.now }
+    { call_one(beside, mine) };
+    thread::join_mut(rt, &mut all, &mut one);
+}
+
+// Calls this at each slot, each on a thread of its own where one can be made.
+fn call_each<R: Threads + Sync, T: Send, F: Fn(usize, &mut T) + Sync>(
+    rt: &R,
+    each: &F,
+    slots: &mut [T],
+)
+    requires { AcceptsEach F.Fn each.now slots.old }
+    ensures { AreCalled F.Fn each.now slots.old slots.new }
+{
+    if slots.is_empty() {
+        return;
+    }
+    let threads = slots.len();
+    thread::for_each_mut(rt, slots, threads, each);
+}
+
+// Calls this once.
+fn call_one<W, G: Fn(&mut W)>(beside: &G, mine: &mut W)
+    requires { Accepts G.Fn beside.now mine.old }
+    ensures { IsCalled G.Fn beside.now mine.old mine.new }
+{
+    beside(mine);
+}

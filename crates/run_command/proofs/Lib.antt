@@ -1,0 +1,6 @@
+mod Begun
+mod Ending
+mod Fetched
+mod Lapping
+mod Turned
+mod Worked

@@ -1,0 +1,13 @@
+//! Tests of bots on threads, over a shelf and a disk in memory.
+#![tactic(auto)]
+
+#[cfg(test)]
+mod lines;
+#[cfg(test)]
+mod meeting;
+#[cfg(test)]
+mod pipelines;
+#[cfg(test)]
+mod playing;
+#[cfg(test)]
+mod runs;
