@@ -6,6 +6,7 @@ ghost use Rattle.bot_runner.specs.Round.{WaiterEnds};
 
 use crate::Why;
 use crate::ends::{QUIET_LOOKS, why_of};
+use crate::turns::take_turn;
 use book_lock::{BookLock, Seat};
 use edge_traits::{Disk, Gate};
 use locked_book::Locked;
@@ -48,7 +49,7 @@ pub(crate) fn caller_part<T: Wait, D: Disk, R: Rules, G: Gate>(
     let mut seen = u64::MAX;
     let mut rests = 0u32;
     'looks: for _ in rt.forever() {
-        let (back, looked) = flush_hold(rt, lock, seat, seen);
+        let (back, looked) = flush_hold(rt, lock, seat, gate, seen);
         seat = back;
         match looked {
             Ok(at) => {
@@ -66,10 +67,11 @@ pub(crate) fn caller_part<T: Wait, D: Disk, R: Rules, G: Gate>(
 }
 
 // A hold in which steps are made durable, if none came since the one before it.
-fn flush_hold<T: Wait, D: Disk, R: Rules>(
+fn flush_hold<T: Wait, D: Disk, R: Rules, G: Gate>(
     rt: &T,
     lock: &BookLock<Locked<D, R>>,
     seat: Seat<Locked<D, R>>,
+    gate: &G,
     seen: u64,
 ) -> (Seat<Locked<D, R>>, Result<u64, HoldEnd>)
     requires lock { IsSeatOf lock.now seat }
@@ -78,7 +80,7 @@ fn flush_hold<T: Wait, D: Disk, R: Rules>(
     ensures parts { (knows result.0).parts ≡ (knows seat).parts }
     ensures waited { HasWaited R.meaning (opening lock.now).opening (knows result.0) result.1 }
 {
-    let mut held = lock.lock(rt, seat);
+    let mut held = take_turn(rt, lock, seat, gate);
     let locked = held.value();
     let _ = locked.core();
     let looked = caller_turn(locked, seen);

@@ -12,6 +12,7 @@ ghost use Rattle.bot_runner.specs.Feeds.{HasHeldFeed, HasLookedOn, IsAtFeed, IsR
 
 use crate::ends::{QUIET_LOOKS, why_of};
 use crate::outside::Outside;
+use crate::turns::take_turn;
 use crate::{FeedSource, Why};
 use base_types::BotName;
 use book_lock::{BookLock, Seat};
@@ -202,7 +203,7 @@ fn feed_hold<T: Wait, D: Disk, R: Rules, S: Source, C: Clock, G: Gate>(
 {
     let before = reading.worker.steps.len();
     let sight = reading.sight.take();
-    let mut held = lock.lock(rt, seat);
+    let mut held = take_turn(rt, lock, seat, outside.gate);
     let locked = held.value();
     let _ = locked.core();
     let looked = collector_turn(

@@ -8,6 +8,7 @@ ghost use Rattle.bot_runner.specs.Parts.{HasActed, HasEnded, HasHeld, HasLooked,
 use crate::Why;
 use crate::ends::{QUIET_LOOKS, why_of};
 use crate::outside::Outside;
+use crate::turns::take_turn;
 use base_types::{BotName, OutOfMemory};
 use book_lock::{BookLock, Seat};
 use edge_traits::{Clock, Disk, Gate, When};
@@ -94,7 +95,7 @@ fn act<T: Wait, D: Disk, R: Rules, C: Clock, G: Gate>(
         work.waits -= 1;
         work.done = None;
         outside.gate.rest(LOOK_MILLIS);
-        let (seat, mark) = look(rt, lock, seat, &work.worker);
+        let (seat, mark) = look(rt, lock, seat, &work.worker, outside.gate);
         return match mark {
             Some(mark) => (seat, Some(why_of(HoldEnd::Found(mark)))),
             None => (seat, None),
@@ -144,7 +145,7 @@ fn hold<T: Wait, D: Disk, R: Rules, C: Clock, G: Gate>(
     ensures held { HasHeld R.meaning R.task_of (C.told outside.now.clock.now) outside.now.left (opening lock.now).opening worker.old.bot worker.old.number (knows result.0) worker.new result.1 }
 {
     let before = worker.steps.len();
-    let mut held = lock.lock(rt, seat);
+    let mut held = take_turn(rt, lock, seat, outside.gate);
     let locked = held.value();
     let _ = locked.core();
     let turned = instance_turn(
@@ -165,11 +166,12 @@ fn hold<T: Wait, D: Disk, R: Rules, C: Clock, G: Gate>(
 }
 
 // A look at the round, in which nothing is done. Answers its mark, if it has one.
-fn look<T: Wait, D: Disk, R: Rules>(
+fn look<T: Wait, D: Disk, R: Rules, G: Gate>(
     rt: &T,
     lock: &BookLock<Locked<D, R>>,
     seat: Seat<Locked<D, R>>,
     worker: &Instance<R::Work>,
+    gate: &G,
 ) -> (Seat<Locked<D, R>>, Option<EndMark>)
     requires lock { IsSeatOf lock.now seat }
     ensures lock { IsSeatOf lock.now result.0 }
@@ -177,7 +179,7 @@ fn look<T: Wait, D: Disk, R: Rules>(
     ensures looked { (clock left : Option ℕ) → IsAtWork R.meaning R.task_of clock left (opening lock.now).opening worker.now.bot worker.now.number (knows seat) worker.now None
         → HasLooked R.meaning R.task_of clock left (opening lock.now).opening worker.now.bot worker.now.number (knows result.0) worker.now result.1 }
 {
-    let mut held = lock.lock(rt, seat);
+    let mut held = take_turn(rt, lock, seat, gate);
     let locked = held.value();
     let _ = locked.core();
     let mark = locked.mark();

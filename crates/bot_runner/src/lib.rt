@@ -9,6 +9,7 @@ mod instance_part;
 mod outside;
 mod round;
 mod slots;
+mod turns;
 mod worker;
 mod worker_part;
 

@@ -1,7 +1,7 @@
-ghost use Rattle.std.specs.Prelude.{◌≡◌, ◌≤◌, ℕ, List, Some, Ok, Err, IfOk, IsSome};
+ghost use Rattle.std.specs.Prelude.{◌≡◌, ◌≤◌, ℕ, List, true, Some, Ok, Err, IfOk, IsSome};
 ghost use Rattle.std.specs.Option.{option_copied};
 ghost use Rattle.edge_traits.specs.Count.{Rose};
-ghost use Rattle.edge_traits.specs.Shelf.{count_on};
+ghost use Rattle.edge_traits.specs.Shelf.{count_on, lacks};
 ghost use Rattle.bot_rules.specs.Intel.{intel};
 ghost use Rattle.config_bundle.specs.Bundle.{bundle_code, IsBundle};
 ghost use Rattle.runtime_config.specs.Load.{load as loaded};
@@ -57,6 +57,7 @@ pub fn bring<H: Shelf>(
 
     // What was fetched lacks no file that a bot is given.
     ensures complete { (bot : List ℕ) → result ≡ Err (Unbrought.Config (fault.File bot)) → ⊥ }
+    ensures absent { (other : List ℕ) → result ≡ Err (Unbrought.Absent other) → lacks (H.shelf shelf.old) other ≡ true }
     ensures failed { (other : List ℕ) → result ≡ Err (Unbrought.Failed other) → Rose (count_on (H.shelf shelf.old) other) (count_on (H.shelf shelf.new) other) }
     ensures told { (H.shelf shelf.new).told ≡ (H.shelf shelf.old).told }
     ensures counts { (other : List ℕ) → count_on (H.shelf shelf.old) other ≤ count_on (H.shelf shelf.new) other }
@@ -99,6 +100,7 @@ pub fn bring_code<H: Shelf>(
 ) -> Result<Option<Blob>, Unbrought>
     ensures named { Names (H.shelf shelf.old) (option_copied name.entry) result }
     ensures loads { (code : List ℕ) → result ≡ Ok (Some code) → IsSome (intel.facts code) }
+    ensures absent { (other : List ℕ) → result ≡ Err (Unbrought.Absent other) → lacks (H.shelf shelf.old) other ≡ true }
     ensures failed { (other : List ℕ) → result ≡ Err (Unbrought.Failed other) → Rose (count_on (H.shelf shelf.old) other) (count_on (H.shelf shelf.new) other) }
     ensures told { (H.shelf shelf.new).told ≡ (H.shelf shelf.old).told }
     ensures counts { (other : List ℕ) → count_on (H.shelf shelf.old) other ≤ count_on (H.shelf shelf.new) other }

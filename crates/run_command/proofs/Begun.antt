@@ -24,6 +24,7 @@ module _ {D R : Type 0} {disk : D → DiskView} where
       splits = refl;
       here = place_of mid left;
       opened = refl;
+      left = opened.left;
       state = opened.goes_on.state;
       begins = opened.opens;
       own = lapped.worked.own;

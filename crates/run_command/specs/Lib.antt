@@ -1,4 +1,5 @@
 -- what public contracts cite
+pub mod Laws
 pub mod Runs
 -- what only private contracts cite
 pub mod Fetched

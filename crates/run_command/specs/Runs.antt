@@ -46,6 +46,7 @@ pub record HasWorked (o : Outside) (start : Place) (made : List Step) (why : Tur
   pub splits : made ≡ begun ++ worked
   pub here : Place
   pub opened : here.opening ≡ []
+  pub left : here.left ≡ left_behind start.left (length begun)
   pub state : IsSealOf (replay o.meaning start.state begun) here.state
   pub begins : (more : List Step) (last : TurnsEnd) → Drains o here more last → Drains o start (begun ++ more) last
   pub own : AreWorkerSteps o here.state worked

@@ -3,9 +3,11 @@
 #![tactic(auto)]
 
 mod laps;
+mod laws;
 mod rounds;
 mod running;
 mod turning;
 mod workers;
 
+pub use laws::free_runs_end_idle;
 pub use running::run;

@@ -7,7 +7,7 @@ use base_types::BotName;
 use runtime_config::LoadFault;
 
 /// The number of a fault. Want of memory is none, and has 0.
-pub(crate) fn fault_number(fault: &LoadFault) -> u8
+pub fn fault_number(fault: &LoadFault) -> u8
     ensures { result ≡ fault_number fault.now }
 {
     match fault {

@@ -4,4 +4,5 @@
 mod fault;
 mod status;
 
+pub use fault::fault_number;
 pub use status::{FeedWhy, Status, status_text};

@@ -42,15 +42,23 @@ fn two_bots_meet(rt: HostRuntime) -> Result<(), Fail> {
     Ok(())
 }
 
-const PIPELINES: [Files; 2] = [TWO_FEEDS, ONE_BAD_LINE];
+// 4 events and a dump of a report: a start, a piece, the end of the feed, and two steps for each of 5 messages; a dump is a sixth.
+const ONE_BAD_LINE_DONE: &str =
+    "done\nsteps 13\nbundle 1\nmessages 6\nwaiting 0\nin hand 0\ndumped 1\nprocessed 5\nlines 4\ndone\nlegal 13\n";
+
+const PIPELINES: [(Files, &str); 2] = [
+    (TWO_FEEDS, TWO_FEEDS_DONE),
+    (ONE_BAD_LINE, ONE_BAD_LINE_DONE),
+];
 
 #[test]
 fn a_run_comes_to_what_a_drain_comes_to(rt: HostRuntime) -> Result<(), Fail> {
     let alloc = rt.alloc();
-    for files in PIPELINES {
+    for (files, want) in PIPELINES {
         let (told, lines) = made_by(&rt, alloc, files, "run", &NoGate)?;
-        let (want, in_order) = made_by(&rt, alloc, files, "drain", &NoGate)?;
-        assert_eq!(rt; told.as_str(), want.as_str());
+        let (drained, in_order) = made_by(&rt, alloc, files, "drain", &NoGate)?;
+        assert_eq!(rt; told.as_str(), want);
+        assert_eq!(rt; drained.as_str(), want);
         assert!(rt;
             are_same_lines(lines.as_slice(), in_order.as_slice()),
             "other lines"

@@ -9,13 +9,13 @@ use Rattle.bot_runner.proofs.caller_part.flush_hold.Goals as goal
 pub unlock-requires : goal.unlock-requires
 unlock-requires g c =
     let m = g.R.Rules.meaning in
-    let is = c.lock-held.ensures.turn.2 ∙ ap (entries_of m) (sym c.value-locked.ensures.value) in
+    let is = c.take_turn-held.ensures.turn.2 ∙ ap (entries_of m) (sym c.value-locked.ensures.value) in
     let t = c.caller_turn-looked in
     grows_prefix {left = None} {Is = Nothing} c.value-locked.result.now t.new.locked [] [] _ is (waits_grow m c.value-locked.result.now t.new.locked t.ensures.still t.ensures.marks)
 
 pub returns-clause-waited : goal.returns-clause-waited
 returns-clause-waited g c =
-    let h = c.lock-held in
+    let h = c.take_turn-held in
     let t = c.caller_turn-looked in
     let m = g.R.Rules.meaning in
     let o = (opening c.args.lock.now).opening in
@@ -26,4 +26,4 @@ returns-clause-waited g c =
     (waited_on m o _ old t.new.locked _ t.result c.requires.waiting is h.ensures.seen h.ensures.mine (state_of old c.core.ensures.round) t.ensures.still t.ensures.marks t.ensures.at t.ensures.end)
 
 pub returns-clause-lock : goal.returns-clause-lock
-returns-clause-lock g c = c.unlock.ensures.lock c.lock-held.result.here ∙ (sym c.lock-held.result.here ∙ c.lock-held.ensures.turn.0)
+returns-clause-lock g c = c.unlock.ensures.lock c.take_turn-held.result.here ∙ (sym c.take_turn-held.result.here ∙ c.take_turn-held.ensures.turn.0)

@@ -10,17 +10,17 @@ use Rattle.bot_runner.proofs.instance_part.hold.Goals as goal
 
 pub instance_turn-turned-requires-clause-ready : goal.instance_turn-turned-requires-clause-ready
 instance_turn-turned-requires-clause-ready g c =
-    let is = c.lock-held.ensures.turn.2 ∙ ap (entries_of g.R.Rules.meaning) (sym c.value-locked.ensures.value) in
-    finds_ready _ _ _ _ _ _ _ _ _ _ c.requires.at_work _ _ is c.lock-held.ensures.seen
+    let is = c.take_turn-held.ensures.turn.2 ∙ ap (entries_of g.R.Rules.meaning) (sym c.value-locked.ensures.value) in
+    finds_ready _ _ _ _ _ _ _ _ _ _ c.requires.at_work _ _ is c.take_turn-held.ensures.seen
 
 pub instance_turn-turned-requires-clause-done : goal.instance_turn-turned-requires-clause-done
 instance_turn-turned-requires-clause-done g c =
-    let is = c.lock-held.ensures.turn.2 ∙ ap (entries_of g.R.Rules.meaning) (sym c.value-locked.ensures.value) in
-    finds_done _ _ _ _ _ _ _ _ _ _ c.requires.at_work _ _ is c.lock-held.ensures.seen
+    let is = c.take_turn-held.ensures.turn.2 ∙ ap (entries_of g.R.Rules.meaning) (sym c.value-locked.ensures.value) in
+    finds_done _ _ _ _ _ _ _ _ _ _ c.requires.at_work _ _ is c.take_turn-held.ensures.seen
 
 pub unlock-seat-requires : goal.unlock-seat-requires
 unlock-seat-requires g c =
-    let is = c.lock-held.ensures.turn.2 ∙ ap (entries_of g.R.Rules.meaning) (sym c.value-locked.ensures.value) in
+    let is = c.take_turn-held.ensures.turn.2 ∙ ap (entries_of g.R.Rules.meaning) (sym c.value-locked.ensures.value) in
     let t = c.instance_turn-turned in
     let clock = g.C.Clock.told c.args.outside.now.clock.now in
     let own = IsInstanceStep clock c.args.worker.now.bot c.args.worker.now.number in
@@ -28,11 +28,11 @@ unlock-seat-requires g c =
     (grows c.value-locked.result.now t.new.locked c.args.worker.now.steps.items t.new.worker.steps.items (λ some. let s = t.ensures.still some in (s.0, ap (λ (w : Instance _). w.steps.items) s.1)) t.ensures.adds t.ensures.few)
 
 pub returns-clause-lock : goal.returns-clause-lock
-returns-clause-lock g c = c.unlock-seat.ensures.lock c.lock-held.result.here ∙ (sym c.lock-held.result.here ∙ c.lock-held.ensures.turn.0)
+returns-clause-lock g c = c.unlock-seat.ensures.lock c.take_turn-held.result.here ∙ (sym c.take_turn-held.result.here ∙ c.take_turn-held.ensures.turn.0)
 
 pub returns-clause-held : goal.returns-clause-held
 returns-clause-held g c =
-    let h = c.lock-held in
+    let h = c.take_turn-held in
     let t = c.instance_turn-turned in
     let m = g.R.Rules.meaning in
     let o = (opening c.args.lock.now).opening in

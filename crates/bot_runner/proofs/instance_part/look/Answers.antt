@@ -8,12 +8,12 @@ use Rattle.bot_runner.proofs.instance_part.look.Goals as goal
 
 pub unlock-requires : goal.unlock-requires
 unlock-requires g c =
-    let is = c.lock-held.ensures.turn.2 ∙ ap (entries_of g.R.Rules.meaning) (sym c.value-locked.ensures.value) in
-    ([], append-nil (found c.lock-held.result) ∙ is)
+    let is = c.take_turn-held.ensures.turn.2 ∙ ap (entries_of g.R.Rules.meaning) (sym c.value-locked.ensures.value) in
+    ([], append-nil (found c.take_turn-held.result) ∙ is)
 
 pub returns-clause-looked : goal.returns-clause-looked
 returns-clause-looked g c = λ clock left at.
-    let h = c.lock-held in
+    let h = c.take_turn-held in
     let m = g.R.Rules.meaning in
     let o = (opening c.args.lock.now).opening in
     let old = c.value-locked.result.now in
@@ -23,4 +23,4 @@ returns-clause-looked g c = λ clock left at.
     (looked_on m g.R.Rules.task_of clock left o c.args.worker.now.bot c.args.worker.now.number _ c.args.worker.now None at old _ is h.ensures.seen c.mark-mark.result h.ensures.mine (state_of old c.core.ensures.round) c.mark-mark.ensures refl)
 
 pub returns-clause-lock : goal.returns-clause-lock
-returns-clause-lock g c = c.unlock.ensures.lock c.lock-held.result.here ∙ (sym c.lock-held.result.here ∙ c.lock-held.ensures.turn.0)
+returns-clause-lock g c = c.unlock.ensures.lock c.take_turn-held.result.here ∙ (sym c.take_turn-held.result.here ∙ c.take_turn-held.ensures.turn.0)

@@ -1,0 +1,5 @@
+//! Tests of the lines of control.
+#![tactic(auto)]
+
+#[cfg(test)]
+mod tests;
