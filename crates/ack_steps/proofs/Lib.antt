@@ -3,6 +3,7 @@ mod Orderly
 mod Coming
 mod Counted
 mod Entries
+mod Fewer
 mod Hands
 mod Kept
 mod Lists

@@ -18,3 +18,8 @@ taken_first_is b bot instance now (m ∷ others) v w queues hands taken =
     let left = ap (λ (w : BrokerView). w.queues) taken ∙ ap (changed (is_queue (queue_name bot)) (λ q. record q { messages = drop 1 q.messages })) queues in
     let held = ap (λ (w : BrokerView). w.hands) taken ∙ ap (λ (l : List Hand). l ++ hand ∷ []) hands in
     λ i. record b { queues = left i; hands = held i }
+
+-- nothing is sent where a message is taken
+pub taken_pushed : (bot : List ℕ) (instance : ℕ) (now : Moment) (messages : List Msg) (old new : BrokerView) → IsTaken bot instance now messages old new → new.pushed ≡ old.pushed
+taken_pushed bot instance now [] old new taken = absurd taken
+taken_pushed bot instance now (message ∷ messages) old new taken = ap (λ (v : BrokerView). v.pushed) taken

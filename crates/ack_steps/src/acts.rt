@@ -1,5 +1,5 @@
 //! What the steps of collectors and the plain steps on messages do. All memory is taken before anything changes.
-ghost use Rattle.std.specs.Prelude.{◌≡◌, ◌+◌, ◌<◌, ◌≤◌, [], ℕ, true, false, length, find, OnOk, OnErr, Some, None};
+ghost use Rattle.std.specs.Prelude.{◌≡◌, ◌+◌, ◌<◌, ◌≤◌, ◌^◌, [], ℕ, true, false, length, find, OnOk, OnErr, Some, None};
 ghost use Rattle.base_types.specs.Lists.{changed};
 ghost use Rattle.base_types.specs.Name.{queue_name};
 ghost use Rattle.base_types.specs.Number.{last_u64};
@@ -9,7 +9,7 @@ ghost use Rattle.stored_types.specs.declared.hand.Hand.{Hand};
 ghost use Rattle.step_code.specs.After.{next_round, redone, sent, taken_first};
 ghost use Rattle.step_code.specs.Spent.{last_given};
 ghost use Rattle.step_code.specs.State.{hand_of, is_dump, is_feed, waiting};
-ghost use Rattle.core_state.specs.State.{state_of};
+ghost use Rattle.core_state.specs.State.{AreSendsNumbered, state_of};
 
 use base_types::{Blob, BotName, Moment, OutOfMemory, QueueName, queue_of};
 use core_state::feeds;
@@ -21,6 +21,7 @@ use queue_broker::TakeFault;
 pub fn start(state: &mut State)
     ensures start { state_of state.new ≡ record (state_of state.old) { halted = [] } }
     ensures outs { state.new.outs ≡ state.old.outs }
+    ensures pushed { AreSendsNumbered state.old state.new }
 {
     state.halted.clear();
 }
@@ -28,6 +29,7 @@ pub fn start(state: &mut State)
 pub fn end_feed(state: &mut State, bot: &BotName)
     ensures end { state_of state.new ≡ record (state_of state.old) { feeds = changed (is_feed bot.now) (λ f. record f { finished = true }) (state_of state.old).feeds } }
     ensures outs { state.new.outs ≡ state.old.outs }
+    ensures pushed { AreSendsNumbered state.old state.new }
 {
     feeds::finish(&mut state.feeds, bot);
 }
@@ -37,6 +39,7 @@ pub fn begin_round(state: &mut State, bot: &BotName)
     requires { (f : Feed) → find (is_feed bot.now) state.old.feeds.items ≡ Some f → f.round < last_u64 }
     ensures round { state_of state.new ≡ record (state_of state.old) { feeds = changed (is_feed bot.now) next_round (state_of state.old).feeds } }
     ensures outs { state.new.outs ≡ state.old.outs }
+    ensures pushed { AreSendsNumbered state.old state.new }
 {
     feeds::begin_again(&mut state.feeds, bot);
 }
@@ -48,12 +51,14 @@ pub fn collect(
     upto: u64,
     sends: Vec<(QueueName, Blob)>,
 ) -> Result<(), OutOfMemory>
-    requires { state.old.next_message + length sends.items ≤ last_given + 1 }
+    requires numbers { state.old.next_message + length sends.items ≤ last_given + 1 }
+    requires few { state.old.broker.pushed + length sends.items ≤ 2 ^ 63 }
     ensures ok { OnOk result (state_of state.new ≡ sent sends.items (record (state_of state.old) {
       feeds = changed (is_feed bot.now) (λ f. record f { position = upto }) (state_of state.old).feeds;
     })) }
     ensures err { OnErr result (state_of state.new ≡ state_of state.old) }
     ensures outs { state.new.outs ≡ state.old.outs }
+    ensures pushed { AreSendsNumbered state.old state.new }
 {
     make_room(&mut state.broker, &sends)?;
     send_all(state, sends);
@@ -67,6 +72,7 @@ pub fn take(state: &mut State, bot: &BotName, instance: u8, now: Moment) -> Resu
     ensures ok { OnOk result (state_of state.new ≡ taken_first bot.now instance now (waiting (queue_name bot.now) (state_of state.old)) (state_of state.old)) }
     ensures err { OnErr result (state_of state.new ≡ state_of state.old) }
     ensures outs { state.new.outs ≡ state.old.outs }
+    ensures pushed { AreSendsNumbered state.old state.new }
 {
     make_hand_room(&mut state.broker)?;
     match state.broker.take(bot, instance, now) {
@@ -82,15 +88,19 @@ pub fn retry(state: &mut State, bot: &BotName, instance: u8)
     requires full { hand_of bot.now instance (state_of state.old) ≡ None → ⊥ }
     ensures tried { state_of state.new ≡ record (state_of state.old) { hands = changed (is_hand bot.now instance) (λ h. record h { tries = h.tries + 1 }) (state_of state.old).hands } }
     ensures outs { state.new.outs ≡ state.old.outs }
+    ensures pushed { AreSendsNumbered state.old state.new }
 {
     state.broker.tried(bot, instance);
 }
 
 /// The message of a dump goes to the end of its bot's queue.
 pub fn redo(state: &mut State, dump: u64) -> Result<(), OutOfMemory>
+    requires few { state.old.broker.pushed < 2 ^ 63 }
     ensures ok { OnOk result (state_of state.new ≡ redone dump (find (is_dump dump) (state_of state.old).dumps) (state_of state.old)) }
     ensures err { OnErr result (state_of state.new ≡ state_of state.old) }
     ensures outs { state.new.outs ≡ state.old.outs }
+    ensures pushed { OnOk result (state.new.broker.pushed ≤ state.old.broker.pushed + 1) }
+    ensures unsent { OnErr result (state.new.broker.pushed ≡ state.old.broker.pushed) }
 {
     make_message_room(&mut state.broker)?;
     if let Some(dump) = state.dumps.take_out(dump) {

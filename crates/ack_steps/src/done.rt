@@ -1,5 +1,5 @@
 //! The step of a bot that is done with a message: successors, dumps, mark, line and acknowledgement are one.
-ghost use Rattle.std.specs.Prelude.{◌≡◌, ◌+◌, ◌≤◌, ◌++◌, true, false, ℕ, List, length, Some, OnOk, OnErr};
+ghost use Rattle.std.specs.Prelude.{◌≡◌, ◌+◌, ◌≤◌, ◌^◌, ◌++◌, true, false, ℕ, List, length, Some, OnOk, OnErr};
 ghost use Rattle.base_types.specs.Lists.{without};
 ghost use Rattle.stored_types.specs.Hand.{is_hand};
 ghost use Rattle.stored_types.specs.Mark.{fresh, is_marked};
@@ -11,7 +11,7 @@ ghost use Rattle.ack_steps.specs.Held.{IsHeld};
 ghost use Rattle.dedup_cache.specs.Cache.{ArePast};
 ghost use Rattle.core_state.specs.Outputs.{HasLineRoom, HaveLengths};
 ghost use Rattle.core_state.specs.Room.{AreAbove, HasRoom, HaveDumpsBelow};
-ghost use Rattle.core_state.specs.State.{state_of};
+ghost use Rattle.core_state.specs.State.{AreSendsNumbered, state_of};
 
 use crate::held::Held;
 use base_types::{Blob, BotName, FaultNote, OutOfMemory, QueueName};
@@ -78,6 +78,7 @@ fn make_all_room(
     ensures sends { OnOk result (HasRoom sends.now state.new.broker) }
     ensures dumps { OnOk result (dumps ≤ state.new.dumps.spare) }
     ensures line { OnOk result (HasLineRoom bot.now state.new.outs.items) }
+    ensures pushed { state.new.broker.pushed ≡ state.old.broker.pushed }
 {
     outputs::make_room(&mut state.outs, bot)?;
     make_dump_room(&mut state.dumps, dumps)?;
@@ -93,6 +94,7 @@ fn acknowledge(state: &mut State, held: Held, line: bool)
       hands = without (is_hand held.bot held.instance) (state_of state.old).hands;
     } }
     ensures lengths { HaveLengths state.old.outs.items → HaveLengths state.new.outs.items }
+    ensures pushed { state.new.broker.pushed ≡ state.old.broker.pushed }
 {
     let Ok(message) = state.broker.ack(&held.bot, held.instance, held.message) else {
         unreachable!()
@@ -115,6 +117,7 @@ pub fn done(
     requires past { ArePast held.now.0 (marks_of held.bot (state_of state.old).caches) }
     requires new { (r : CacheRule) (k : List ℕ) → rule ≡ Some r → made.key.now ≡ Some k → is_marked k (fresh r.ttl held.now.0 (marks_of held.bot (state_of state.old).caches)) ≡ false }
     requires messages { state.old.next_message + length made.sends.now + length made.dumps.now ≤ last_given + 1 }
+    requires few { state.old.broker.pushed + length made.sends.now ≤ 2 ^ 63 }
     requires dumps { state.old.next_dump + length made.dumps.now ≤ last_given + 1 }
     ensures ok { OnOk result (state_of state.new ≡ dumped held.bot held.now made.entry.dumps.now (sent made.entry.sends.now (record (state_of state.old) {
       caches = cached rule held.bot held.now made.entry.key.now (state_of state.old).caches;
@@ -123,6 +126,7 @@ pub fn done(
     }))) }
     ensures err { OnErr result (state_of state.new ≡ state_of state.old) }
     ensures lengths { HaveLengths state.old.outs.items → HaveLengths state.new.outs.items }
+    ensures pushed { AreSendsNumbered state.old state.new }
 {
     let sends = copies(alloc, made.sends)?;
     let no = state.next_message + sends.len() as u64;

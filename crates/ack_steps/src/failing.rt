@@ -1,6 +1,6 @@
 //! The step of a bot that failed with a message: the message is put aside, and a copy goes to each queue of the path for
 //! failures.
-ghost use Rattle.std.specs.Prelude.{◌≡◌, ◌+◌, ◌≤◌, ◌<◌, ◌++◌, ℕ, List, true, false, length, map, OnOk, OnErr, IfOk, vec_len, vec_capacity};
+ghost use Rattle.std.specs.Prelude.{◌≡◌, ◌+◌, ◌≤◌, ◌<◌, ◌^◌, ◌++◌, ℕ, List, true, false, length, map, OnOk, OnErr, IfOk, vec_len, vec_capacity};
 ghost use Rattle.std.specs.List.{list_any};
 ghost use Rattle.std.specs.Str.{bytes_eq};
 ghost use Rattle.step_code.specs.After.{body_in_hand, halted_by, put_aside, sent};
@@ -8,7 +8,7 @@ ghost use Rattle.step_code.specs.Spent.{last_given};
 ghost use Rattle.ack_steps.specs.Held.{IsHeld};
 ghost use Rattle.core_state.specs.Outputs.{HaveLengths};
 ghost use Rattle.core_state.specs.Room.{HasRoom, HaveDumpsBelow};
-ghost use Rattle.core_state.specs.State.{state_of};
+ghost use Rattle.core_state.specs.State.{AreSendsNumbered, state_of};
 
 use crate::held::Held;
 use base_types::{Blob, BotName, FaultNote, OutOfMemory, QueueName};
@@ -60,6 +60,7 @@ fn dump_held(state: &mut State, held: Held, note: FaultNote)
     ensures put_aside { state_of state.new ≡ put_aside held.bot held.instance held.message note held.now (state_of state.old) }
     ensures queues { (sends : List (List ℕ × List ℕ)) → HasRoom sends state.old.broker → HasRoom sends state.new.broker }
     ensures same { state.new ≡ record state.old { broker = state.new.broker; dumps = state.new.dumps; next_dump = state.new.next_dump } }
+    ensures pushed { state.new.broker.pushed ≡ state.old.broker.pushed }
 {
     let Ok(message) = state.broker.ack(&held.bot, held.instance, held.message) else {
         unreachable!()
@@ -78,6 +79,7 @@ fn dump_held(state: &mut State, held: Held, note: FaultNote)
 fn make_all_room(state: &mut State, sends: &[(QueueName, Blob)]) -> Result<(), OutOfMemory>
     ensures same { state_of state.new ≡ state_of state.old }
     ensures outs { state.new.outs ≡ state.old.outs }
+    ensures pushed { state.new.broker.pushed ≡ state.old.broker.pushed }
     ensures sends { OnOk result (HasRoom sends.now state.new.broker) }
     ensures dump { OnOk result (1 ≤ state.new.dumps.spare) }
     ensures halted { OnOk result (vec_len state.new.halted < vec_capacity state.new.halted) }
@@ -100,10 +102,12 @@ pub fn fail(
     requires below { HaveDumpsBelow (state_of state.old) }
     requires messages { state.old.next_message + length queues.now ≤ last_given + 1 }
     requires dumps { state.old.next_dump ≤ last_given }
+    requires few { state.old.broker.pushed + length queues.now ≤ 2 ^ 63 }
     ensures ok { OnOk result (state_of state.new ≡ sent (map (λ queue. (queue, body_in_hand held.bot held.instance (state_of state.old))) queues.now)
         (put_aside held.bot held.instance held.message note.now held.now (record (state_of state.old) { halted = halted_by halts held.bot (state_of state.old).halted }))) }
     ensures err { OnErr result (state_of state.new ≡ state_of state.old) }
     ensures outs { state.new.outs ≡ state.old.outs }
+    ensures pushed { AreSendsNumbered state.old state.new }
 {
     let copies = copies_of_body(alloc, state, held, queues)?;
     let note = note.copy(alloc)?;

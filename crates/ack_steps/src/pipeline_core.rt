@@ -9,7 +9,7 @@ ghost use Rattle.ack_steps.specs.Core.{reload_of, HasSmallNumbers, HasSoundHands
 ghost use Rattle.core_state.specs.Outputs.{HaveLengths};
 ghost use Rattle.core_state.specs.Sealing.{HaveSmallOutputs, sealed_whole};
 ghost use Rattle.step_code.specs.Spent.{last_given, spent, StaysSmall};
-ghost use Rattle.core_state.specs.State.{state_of};
+ghost use Rattle.core_state.specs.State.{AreSendsNumbered, HasFewSends, state_of};
 
 use crate::acts;
 use crate::content::{is_in_time, rule_of, shows};
@@ -60,14 +60,14 @@ impl<R: Rules> Model for Core<R> {
     ghost use Rattle.std.specs.Prelude.{◌≡◌};
     ghost use Rattle.ack_steps.specs.Core.{CoreView, HasNearFeeds, HasSoundHands, IsOrderly};
     ghost use Rattle.core_state.specs.Outputs.{HaveLengths};
-    ghost use Rattle.core_state.specs.State.{state_of};
+    ghost use Rattle.core_state.specs.State.{HasFewSends, state_of};
 
     ghost Value = { CoreView R };
 
     ghost view = { λ c. record { rules = c.rules; state = state_of c.state } };
 
     ghost invariant = { λ c. (R.bundle_of c.plan ≡ c.state.bundle) × IsPlanOf R.meaning c.state.bundle (R.bots_of c.plan) × HaveLengths c.state.outs.items × IsOrderly (state_of c.state)
-        × HasSoundHands R.meaning (state_of c.state) × HasNearFeeds (state_of c.state) };
+        × HasSoundHands R.meaning (state_of c.state) × HasNearFeeds (state_of c.state) × HasFewSends c.state };
 }
 
 // The plan of the state's bundle, where a store may hold the state.
@@ -106,9 +106,11 @@ fn collect<R: Rules>(
     requires collector { is_collector (R.bots_of plan.now) bot.now ≡ true }
     requires time { now.0 ≤ last_moment }
     requires small { state.old.next_message + length (reports R.meaning (state_of state.old) bot.now piece.now now) ≤ last_given + 1 }
+    requires few { state.old.broker.pushed + length (reports R.meaning (state_of state.old) bot.now piece.now now) ≤ 2 ^ 63 }
     ensures ok { (from : ℕ) → OnOk result (state_of state.new ≡ acted R.meaning now (state_of state.old) (kind.Collect bot.now from upto piece.now)) }
     ensures err { OnErr result (state_of state.new ≡ state_of state.old) }
     ensures outs { state.new.outs ≡ state.old.outs }
+    ensures pushed { AreSendsNumbered state.old state.new }
 {
     match bot_named(rules.facts(plan).as_slice(), bot) {
         Some(facts) => {
@@ -136,9 +138,12 @@ fn act<R: Rules>(
     requires small { HasSmallNumbers (after R.meaning (state_of state.old) step.now) }
     requires orderly { IsOrderly (state_of state.old) }
     requires kind { IsNoReload step.now.what }
+    requires few { HasFewSends state.old }
     ensures ok { OnOk result (state_of state.new ≡ acted R.meaning step.now.moment (state_of state.old) step.now.what) }
     ensures err { OnErr result (state_of state.new ≡ state_of state.old) }
     ensures lengths { HaveLengths state.old.outs.items → HaveLengths state.new.outs.items }
+    ensures pushed { OnOk result (state.new.broker.pushed + state.old.next_message ≤ state.old.broker.pushed + state.new.next_message + 1) }
+    ensures unsent { OnErr result (state.new.broker.pushed ≤ state.old.broker.pushed) }
 {
     let now = step.moment;
     match &step.what {
@@ -216,11 +221,13 @@ fn act_and_count<R: Rules>(
     requires small { HasSmallNumbers (after R.meaning (state_of state.old) step.now) }
     requires orderly { IsOrderly (state_of state.old) }
     requires kind { IsNoReload step.now.what }
+    requires few { HasFewSends state.old }
     ensures ok { OnOk result (state_of state.new ≡ after R.meaning (state_of state.old) step.now) }
     ensures err { OnErr result (state_of state.new ≡ state_of state.old) }
     ensures bundle { state.new.bundle ≡ state.old.bundle }
     ensures orderly { IsOrderly (state_of state.new) }
     ensures lengths { HaveLengths state.old.outs.items → HaveLengths state.new.outs.items }
+    ensures few { HasFewSends state.new }
 {
     act(rules, plan, state, alloc, step)?;
     state.steps += 1;
@@ -238,6 +245,7 @@ fn prepare(
     ensures bundle { IfOk result (λ copy. copy ≡ bundle.now) }
     ensures same { state_of state.new ≡ state_of state.old }
     ensures outs { state.new.outs.items ≡ state.old.outs.items }
+    ensures pushed { state.new.broker.pushed ≡ state.old.broker.pushed }
     ensures feed_room { OnOk result (length state.new.feeds.items + length bots.now ≤ vec_capacity state.new.feeds) }
     ensures out_room { OnOk result (length state.new.outs.items + length bots.now ≤ vec_capacity state.new.outs) }
 {
@@ -258,6 +266,7 @@ fn put_in_force<R: Rules>(
     requires plan { IsPlanOf R.meaning state.old.bundle (R.bots_of plan.old) }
     requires small { Fits R.meaning (state_of state.old) (reload_of bundle.now now) → HasSmallNumbers (after R.meaning (state_of state.old) (reload_of bundle.now now)) }
     requires orderly { IsOrderly (state_of state.old) }
+    requires few { HasFewSends state.old }
     requires order { Fits R.meaning (state_of state.old) (reload_of bundle.now now) → state.old.latest.0 ≤ now.0 }
     ensures fits { OnOk result (Fits R.meaning (state_of state.old) (reload_of bundle.now now)) }
     ensures ok { OnOk result (state_of state.new ≡ after R.meaning (state_of state.old) (reload_of bundle.now now)) }
@@ -267,6 +276,7 @@ fn put_in_force<R: Rules>(
     ensures refused { IfErr result (IsRefusal (first_failing (parts R.meaning (state_of state.old) (kind.Reload bundle.now)))) }
     ensures err { OnErr result ((state_of state.new ≡ state_of state.old) × (plan.new ≡ plan.old)) }
     ensures lengths { HaveLengths state.old.outs.items → HaveLengths state.new.outs.items }
+    ensures few { HasFewSends state.new }
 {
     let coming = match rules.plan(alloc, bundle) {
         Ok(coming) => coming,

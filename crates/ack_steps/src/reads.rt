@@ -3,7 +3,7 @@ ghost use Rattle.std.specs.Prelude.{◌≡◌, ◌<◌, length, min, find, optio
 ghost use Rattle.base_types.specs.Name.{queue_name};
 ghost use Rattle.base_types.specs.Number.{last_u64};
 ghost use Rattle.stored_types.specs.Queue.{queued};
-ghost use Rattle.queue_broker.specs.Broker.{front_of, total};
+ghost use Rattle.queue_broker.specs.Broker.{front_of, lent, total};
 ghost use Rattle.ack_steps.specs.Core.{HasNearFeeds};
 ghost use Rattle.core_state.specs.Outputs.{outs_of};
 ghost use Rattle.step_code.specs.Content.{is_duplicate};
@@ -17,9 +17,8 @@ use core_state::backlog::live_bytes;
 use core_state::feeds;
 use core_state::outputs::Written;
 use dump_store::Dumps;
-use queue_broker::InHand;
+use queue_broker::{HandAt, InHand};
 use step_code::{Feed, Rules};
-use stored_types::Hand;
 
 /// An output as it stands: so many bytes and lines are sealed in its file, and these lines stand behind them.
 #[derive(Clone, Copy, Debug)]
@@ -122,9 +121,9 @@ impl<R: Rules> Core<R> {
     }
 
     /// The k-th full hand, from 0, in the order in which they were filled.
-    pub fn hand_at(&self, k: usize) -> &Hand
+    pub fn hand_at(&self, k: usize) -> HandAt<'_>
         requires { k < length self.now.state.hands }
-        ensures { slice_get self.now.state.hands k ≡ Some result.now }
+        ensures { slice_get self.now.state.hands k ≡ Some (lent result) }
     {
         self.state.broker.hand_at(k)
     }

@@ -6,7 +6,7 @@ ghost use Rattle.step_code.specs.After.{all_given_back, falling, file_of, given_
 ghost use Rattle.step_code.specs.State.{is_feed, is_instance, is_out};
 ghost use Rattle.ack_steps.specs.Entries.{new_feeds, new_outs};
 ghost use Rattle.core_state.specs.Outputs.{HaveLengths, outs_of};
-ghost use Rattle.core_state.specs.State.{state_of};
+ghost use Rattle.core_state.specs.State.{HasFewSends, state_of};
 
 use base_types::{Blob, BotName, OutOfMemory, Text};
 use core_state::feeds::begin_round;
@@ -129,16 +129,19 @@ fn add_outs(outs: &mut Vec<Written>, alloc: Global, bots: &[Facts])
 fn give_back(state: &mut State, bots: &[Facts], bot: &BotName, instance: u8)
     ensures given_back { state_of state.new ≡ (if is_instance bots.now bot.now instance then state_of state.old else given_back bot.now instance (state_of state.old)) }
     ensures same { state.new ≡ record state.old { broker = state.new.broker } }
+    ensures pushed { state.new.broker.pushed ≡ state.old.broker.pushed }
 {
-    if !is_instance(bots, bot, instance) {
-        state.broker.give_back(bot, instance);
+    if is_instance(bots, bot, instance) {
+        return;
     }
+    state.broker.give_back(bot, instance);
 }
 
 // The same for the first instances of a bot, the last of them first.
 fn give_back_all_of(state: &mut State, bots: &[Facts], bot: &BotName, instances: u8)
     ensures given_back { state_of state.new ≡ all_given_back bots.now (map (λ instance. (bot.now, instance)) (falling instances)) (state_of state.old) }
     ensures same { state.new ≡ record state.old { broker = state.new.broker } }
+    ensures pushed { state.new.broker.pushed ≡ state.old.broker.pushed }
 {
     let mut instance = instances;
     'instances: while instance > 0 {
@@ -151,6 +154,7 @@ fn give_back_all_of(state: &mut State, bots: &[Facts], bot: &BotName, instances:
 fn give_back_bot(state: &mut State, bots: &[Facts], facts: &Facts)
     ensures given_back { state_of state.new ≡ all_given_back bots.now (instances_of (facts.now ∷ [])) (state_of state.old) }
     ensures same { state.new ≡ record state.old { broker = state.new.broker } }
+    ensures pushed { state.new.broker.pushed ≡ state.old.broker.pushed }
 {
     if !collects(facts) {
         give_back_all_of(state, bots, &facts.bot, facts.instances);
@@ -161,6 +165,7 @@ fn give_back_bot(state: &mut State, bots: &[Facts], facts: &Facts)
 fn give_back_all(state: &mut State, bots: &[Facts], before: &[Facts])
     ensures given_back { state_of state.new ≡ all_given_back bots.now (instances_of before.now) (state_of state.old) }
     ensures same { state.new ≡ record state.old { broker = state.new.broker } }
+    ensures pushed { state.new.broker.pushed ≡ state.old.broker.pushed }
 {
     'bots: for facts in before {
         give_back_bot(state, bots, facts);
@@ -172,6 +177,7 @@ pub fn make_entry_room(state: &mut State, bots: &[Facts]) -> Result<(), OutOfMem
     ensures same { state_of state.new ≡ state_of state.old }
     ensures outs { state.new.outs.items ≡ state.old.outs.items }
     ensures feeds { state.new.feeds.items ≡ state.old.feeds.items }
+    ensures pushed { state.new.broker.pushed ≡ state.old.broker.pushed }
     ensures feed_room { OnOk result (length state.new.feeds.items + length bots.now ≤ vec_capacity state.new.feeds) }
     ensures out_room { OnOk result (length state.new.outs.items + length bots.now ≤ vec_capacity state.new.outs) }
 {
@@ -195,6 +201,7 @@ fn make_entries(state: &mut State, alloc: Global, bots: &[Facts], before: &[Fact
     } }
     ensures bundle { state.new.bundle ≡ bundle }
     ensures lengths { HaveLengths state.old.outs.items → HaveLengths state.new.outs.items }
+    ensures few { HasFewSends state.old → HasFewSends state.new }
 {
     renew_all(&mut state.feeds, before, bots);
     add_feeds(&mut state.feeds, bots);
@@ -213,6 +220,7 @@ pub fn reload(state: &mut State, alloc: Global, bots: &[Facts], before: &[Facts]
     ensures reloaded { state_of state.new ≡ reloaded before.now bots.now bundle (state_of state.old) }
     ensures bundle { state.new.bundle ≡ bundle }
     ensures lengths { HaveLengths state.old.outs.items → HaveLengths state.new.outs.items }
+    ensures few { HasFewSends state.old → HasFewSends state.new }
 {
     make_entries(state, alloc, bots, before, bundle);
     give_back_all(state, bots, before);

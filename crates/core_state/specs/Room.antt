@@ -20,10 +20,11 @@ pub record HasRoom (sends : List (List ℕ × List ℕ)) (broker : BrokerView) :
   pub nodes : length sends ≤ broker.spare
   pub places : (n : ℕ) → length (put_all n sends broker.queues) ≤ broker.queue_room
 
--- the queues and the hands are the same
+-- the queues and the hands are the same, and no message was sent
 pub record HasSameLists (old new : BrokerView) : Type 0 where
   pub queues : new.queues ≡ old.queues
   pub hands : new.hands ≡ old.hands
+  pub pushed : new.pushed ≡ old.pushed
 
 -- each of these dumps has a number above those of the dumps in front of it
 abbrev pub AreAbove : List Dump → List Dump → Type 0

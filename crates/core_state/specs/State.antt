@@ -1,4 +1,5 @@
 -- The state in its parts, as the lists that it stands for.
+use Rattle.std.specs.Prelude.{◌≤◌, ◌+◌}
 use Rattle.step_code.specs.declared.base.Base.{Base}
 use Rattle.core_state.specs.Caches.{caches_of}
 use Rattle.core_state.specs.Outputs.{outs_of}
@@ -21,3 +22,12 @@ state_of s = record {
   feeds = s.feeds.items;
   halted = s.halted.items;
 }
+
+-- no more messages were sent than numbers were given
+abbrev pub AreSendsNumbered : State → State → Type 0
+AreSendsNumbered old new = new.broker.pushed + old.next_message ≤ old.broker.pushed + new.next_message
+
+-- fewer messages were sent than numbers were given and steps were taken, together: a step sends at most one message that has its number
+-- already
+abbrev pub HasFewSends : State → Type 0
+HasFewSends s = s.broker.pushed + 1 ≤ s.next_message + s.steps

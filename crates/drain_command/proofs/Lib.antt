@@ -1,2 +1,2 @@
 pub mod Made
-mod Unhindered
+pub mod Unhindered

@@ -129,14 +129,14 @@ module _ {D R : Type 0} {disk : D → DiskView} (Makes : Outside → Place → L
   }
 
   -- all of it is durable where all steps of the book are
-  all_number : later.kept ≡ length later.steps → made_durable ≡ length turned.made
+  pub all_number : later.kept ≡ length later.steps → made_durable ≡ length turned.made
   all_number all = number all is.all (ap length run.splits)
     where
       number : later.kept ≡ length later.steps → opened.kept ≡ length opened.steps → length (opened.steps ++ turned.made) ≡ length (run.archived ++ later.steps) → made_durable ≡ length turned.made
       number now was splits = omega (arith, now, was, splits, length-append opened.steps turned.made, length-append run.archived later.steps)
 
   -- each output is whole where the outputs were completed
-  whole : (told : Option Image) (after : Image) (completes : Image → Type 0) → (told ≡ None → (disk later.disk).told ≡ None) → (disk later.disk).told ≡ Some after → ((before : Image) → told ≡ Some before → completes before) → (before : Image) × completes before
+  pub whole : (told : Option Image) (after : Image) (completes : Image → Type 0) → (told ≡ None → (disk later.disk).told ≡ None) → (disk later.disk).told ≡ Some after → ((before : Image) → told ≡ Some before → completes before) → (before : Image) × completes before
   whole None after completes untold tells each = absurd (cc (untold refl, tells))
   whole (Some before) after completes untold tells each = (before, each before refl)
 

@@ -34,7 +34,7 @@ rounds_open : (bots : List Facts) → AllByRecursion MayOpen (map (λ f. round_o
 rounds_open [] = tt
 rounds_open (f ∷ fs) = (tt, rounds_open fs)
 
-opens_so : (m : Meaning) (s : Base) (asked : Asked) → AllByRecursion MayOpen (opening_of m s asked.opening.bundle asked.opening.rounds)
+pub opens_so : (m : Meaning) (s : Base) (asked : Asked) → AllByRecursion MayOpen (opening_of m s asked.opening.bundle asked.opening.rounds)
 opens_so m s asked = (tt, reloads asked.opening.bundle (rounds_of m (with_bundle m s asked.opening.bundle) asked.opening.rounds) (rounds asked.opening.rounds))
   where
     reloads : (bundle : Option (List ℕ)) (more : List StepKind) → AllByRecursion MayOpen more → AllByRecursion MayOpen (reload_of bundle ++ more)

@@ -2,6 +2,7 @@
 use Rattle.std.proofs.Common.{◌≡◌, ◌≢◌, ◌≤◌, ◌+◌, ◌-◌, ◌++◌, ℕ, Bool, true, false, List, [], ◌∷◌, length, map, filter, find, Option, Some, None, Result, Ok, Err, OnOk, option_map, refl, sym, ap, subst, ◌∙◌, arith, append_assoc, length-append, if◌then◌else◌}
 use Rattle.std.specs.List.{AllByRecursion, IsDistinct}
 use Rattle.std.specs.Str.{bytes_eq}
+use Rattle.std.proofs.lemmas.List.{map-append}
 use Rattle.std.proofs.lemmas.Slice.Eq.{bytes_eq-Decides}
 use Rattle.base_types.specs.declared.message.Moment.{Moment}
 use Rattle.base_types.specs.Lists.{changed}
@@ -95,21 +96,28 @@ fewer_on None left fewer front rest one more = more ∙ ap (option_map (λ n. n 
 fewer_on (Some n) left fewer front rest one more =
     more ∙ ap (option_map (λ n. n - length rest)) one ∙ ap (λ (k : ℕ). Some k) (sym (fewer_of n (length front) (length rest)) ∙ ap (λ (k : ℕ). n - k) (sym (length-append front rest)))
 
+-- ---- which steps were made
+
+kinds_on : (opening between later : List StepKind) (front rest : List Step) → opening ≡ map (λ step. step.what) front ++ between → between ≡ map (λ step. step.what) rest ++ later → opening ≡ map (λ step. step.what) (front ++ rest) ++ later
+kinds_on opening between later front rest one more =
+    one ∙ ap (λ (ks : List StepKind). map (λ (step : Step). step.what) front ++ ks) more ∙ sym (append_assoc (map (λ (step : Step). step.what) front) (map (λ (step : Step). step.what) rest) later)
+    ∙ ap (λ (ks : List StepKind). ks ++ later) (sym (map-append (λ (step : Step). step.what) front rest))
+
 -- ---- steps one behind the other
 
 module _ {D R : Type 0} {disk : D → DiskView} where
   -- none is made
   pub opens_none : (o : Outside) (later : List StepKind) (left : Option ℕ) (book : BookView D R) → ((image : Image) → (disk book.disk).left_since (disk book.disk).moment image → IsImage (disk book.disk).may_leave image)
       → IsOpened disk o (place_with later book left) later book book (Ok left)
-  opens_none o later left book only = record { made = []; goes_on = goes_nowhere book only; opens = λ more last rest. rest; left = none_fewer left }
+  opens_none o later left book only = record { made = []; goes_on = goes_nowhere book only; opens = λ more last rest. rest; left = none_fewer left; kinds = refl }
 
   -- the call ends at once
   pub ends_opening : (o : Outside) (start : Place) (later : List StepKind) (old new : BookView D R) (last : TurnsEnd) → Ends o start last → GoesOn disk o.meaning old new [] → IsOpened disk o start later old new (Err last)
-  ends_opening o start later old new last ends still = record { made = []; goes_on = still; opens = ends; left = tt }
+  ends_opening o start later old new last ends still = record { made = []; goes_on = still; opens = ends; left = tt; kinds = tt }
 
   -- where it ends, no steps to come matter
   pub ends_anyhow : (o : Outside) (start : Place) (later other : List StepKind) (old new : BookView D R) (last : TurnsEnd) → IsOpened disk o start later old new (Err last) → IsOpened disk o start other old new (Err last)
-  ends_anyhow o start later other old new last is = record { made = is.made; goes_on = is.goes_on; opens = is.opens; left = tt }
+  ends_anyhow o start later other old new last is = record { made = is.made; goes_on = is.goes_on; opens = is.opens; left = tt; kinds = tt }
 
   -- one is made
   pub opens_one : (o : Outside) (what : StepKind) (later : List StepKind) (left fewer : Option ℕ) (old new : BookView D R) (step : Step) → o.limit ≡ old.limit → IsMade o (place_with (what ∷ later) old left) step → GoesOn disk o.meaning old new (step ∷ [])
@@ -122,6 +130,7 @@ module _ {D R : Type 0} {disk : D → DiskView} where
       subst (λ (p : Place). Drains o p more last) (sym (behind_is o (what ∷ later) left old new step limit book)) (subst (λ (l : Option ℕ). Drains o (place_with later new l) more last) is rest),
     );
     left = is;
+    kinds = ap (λ (w : StepKind). w ∷ later) (sym made.due.next);
   }
 
   -- and others behind
@@ -132,12 +141,14 @@ module _ {D R : Type 0} {disk : D → DiskView} where
     goes_on = goes_further old mid new front.made rest.made front.goes_on rest.goes_on;
     opens = λ more last drains. subst (λ (ss : List Step). Drains o start ss last) (sym (append_assoc front.made rest.made more)) (front.opens (rest.made ++ more) last (rest.opens more last drains));
     left = fewer_on start.left left fewer front.made rest.made front.left rest.left;
+    kinds = kinds_on start.opening between later front.made rest.made front.kinds rest.kinds;
   }
   opens_more o start between later left old mid new (Err last) front rest = record {
     made = front.made ++ rest.made;
     goes_on = goes_further old mid new front.made rest.made front.goes_on rest.goes_on;
     opens = front.opens rest.made last rest.opens;
     left = tt;
+    kinds = tt;
   }
 
 -- ---- rounds depend on the bundle and the feeds alone

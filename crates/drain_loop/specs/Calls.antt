@@ -60,13 +60,15 @@ rounds_of m s asked = if asked then map (λ f. round_of f.bot) (filter (λ f. ha
 abbrev pub opening_of : Meaning → Base → Option (List ℕ) → Bool → List StepKind
 opening_of m s bundle asked = kind.Start ∷ (reload_of bundle ++ rounds_of m (with_bundle m s bundle) asked)
 
--- steps were made from this place on. Where they are all that were to be made, whatever a call drains from where they end, with
--- those steps still to open with, it drains from the place, behind them, and so many fewer may be made then; else the call ends so
+-- steps were made from this place on. Where they are all that were to be made, they are those of the opening ahead of the ones still to
+-- open with; whatever a call drains from where they end, it drains from the place, behind them, and so many fewer may be made then; else
+-- the call ends so
 pub record IsOpened {D R : Type 0} (disk : D → DiskView) (o : Outside) (start : Place) (later : List StepKind) (old new : BookView D R) (result : Result (Option ℕ) TurnsEnd) : Type 0 where
   pub made : List Step
   pub goes_on : GoesOn disk o.meaning old new made
   pub opens : MatchResult result (λ left. (more : List Step) (last : TurnsEnd) → Drains o (place_with later new left) more last → Drains o start (made ++ more) last) (λ last. Drains o start made last)
   pub left : MatchResult result (λ left. left ≡ option_map (λ n. n - length made) start.left) (λ last. Unit {0})
+  pub kinds : MatchResult result (λ left. start.opening ≡ map (λ step. step.what) made ++ later) (λ last. Unit {0})
 
 -- an end ahead of the turns, at which no feed was looked at
 abbrev pub IsEarlyEnd : TurnsEnd → Type 0

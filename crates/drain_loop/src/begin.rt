@@ -79,8 +79,13 @@ pub fn open_turns<D: Disk, R: Rules, C: Clock>(
     }
 }
 
-// Puts a bundle in force, where one is named.
-fn reload<D: Disk, R: Rules, C: Clock>(
+/// Commits the reload by which a bundle is put in force, where one is named by its code. Answers how many more steps may be made,
+/// where that is bounded.
+///
+/// # Errors
+///
+/// Why the call ends ahead of its turns: `Left`, `Spent`, `Full`, `Disk` or `Memory`.
+pub fn reload<D: Disk, R: Rules, C: Clock>(
     book: &mut Book<D, R>,
     clock: &C,
     bundle: Option<Blob>,
@@ -106,8 +111,13 @@ fn reload<D: Disk, R: Rules, C: Clock>(
     }
 }
 
-// Begins new rounds of the collectors that have read their feeds to the end.
-fn open_rounds<D: Disk, R: Rules, C: Clock>(
+/// Commits the rounds by which each collector that has read its feed to the end begins anew, in byte order of their names. Answers how
+/// many more steps may be made, where that is bounded.
+///
+/// # Errors
+///
+/// Why the call ends ahead of its turns: `Left`, `Spent`, `Full`, `Disk` or `Memory`.
+pub fn open_rounds<D: Disk, R: Rules, C: Clock>(
     alloc: Global,
     book: &mut Book<D, R>,
     clock: &C,

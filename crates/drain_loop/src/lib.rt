@@ -8,5 +8,5 @@ mod drain;
 mod feeds;
 mod next;
 
-pub use begin::{Opening, open_turns};
+pub use begin::{Opening, open_rounds, open_turns, reload};
 pub use drain::drain_book;

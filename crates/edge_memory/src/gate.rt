@@ -9,4 +9,6 @@ impl Gate for NoGate {
     fn at(&self, _bot: &BotName, _instance: u8, _when: When) {}
 
     fn rest(&self, _millis: u64) {}
+
+    fn pause(&self) {}
 }

@@ -2,7 +2,6 @@
 pub mod Count
 pub mod Disk
 pub mod Named
-pub mod Orders
 pub mod Output
 pub mod Shelf
 pub mod Sink

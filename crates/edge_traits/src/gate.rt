@@ -14,4 +14,7 @@ pub trait Gate {
 
     /// Waits for so many milliseconds.
     fn rest(&self, millis: u64);
+
+    /// Waits for some tens of microseconds, in which a step or two may be made.
+    fn pause(&self);
 }

@@ -1,4 +1,4 @@
-//! The outside as traits: what a feed, a shelf of files, an output, a disk, a clock and who gives orders may do.
+//! The outside as traits: what a feed, a shelf of files, an output, a disk and a clock may do.
 //!
 //! Each object counts its faults, and the count never falls. Some objects tell what they hold, as those in memory
 //! do, and others don't, as those over the system's files: a clause on what is held speaks of the first alone.
@@ -8,7 +8,6 @@ mod clock;
 mod disk;
 mod gate;
 mod no_disk;
-mod orders;
 mod shelf;
 mod sink;
 mod source;
@@ -18,7 +17,6 @@ pub use clock::Clock;
 pub use disk::Disk;
 pub use gate::{Gate, When};
 pub use no_disk::NoDisk;
-pub use orders::{NoOrders, Order, Orders};
 pub use shelf::{Shelf, ShelfFault};
 pub use sink::Sink;
 pub use source::{Failed, Source};

@@ -23,3 +23,4 @@ pub use leaves::{flattens, is_dropped_text};
 pub use message::{Kind, Message};
 pub use place::PlaceHint;
 pub use read::read_tree;
+pub use tree_value::value_of;

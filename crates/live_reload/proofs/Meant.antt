@@ -1,8 +1,8 @@
 -- What lines ask for, and what they are answered with.
 use Rattle.std.proofs.Common.{◌≡◌, ℕ, inl, inr, Option, Some, None, Result, Ok, Err, List, sym, ap, ◌∙◌}
 use Rattle.edge_traits.specs.Shelf.{ShelfView}
-use Rattle.edge_traits.specs.declared.orders.Order.{Order}
-use Rattle.edge_traits.specs.declared.orders.Order.TheVariants as order
+use Rattle.live_reload.specs.declared.order.Order.{Order}
+use Rattle.live_reload.specs.declared.order.Order.TheVariants as order
 use Rattle.bundle_fetch.specs.Fetch.{bundle_from, Files}
 use Rattle.bundle_bringing.specs.Brought.{IsNamed}
 use Rattle.bundle_bringing.specs.declared.bringing.Unbrought.{Unbrought}

@@ -3,16 +3,14 @@ use Rattle.std.proofs.Common.{◌≡◌, ℕ, suc, zero, ◌+◌, inl, inr, Some
 use Rattle.std.specs.List.{slice_get}
 use Rattle.edge_traits.specs.Count.{Rose}
 use Rattle.edge_traits.specs.Output.{TookFront}
-use Rattle.edge_traits.specs.Shelf.{ShelfView}
-use Rattle.edge_traits.specs.Sink.{SinkView, Took}
+use Rattle.edge_traits.specs.Sink.{Took}
 use Rattle.edge_traits.specs.Source.{SourceView}
-use Rattle.edge_traits.specs.declared.orders.Order.{Order}
-use Rattle.edge_traits.specs.declared.orders.Order.TheVariants as order
+use Rattle.live_reload.specs.declared.order.Order.{Order}
+use Rattle.live_reload.specs.declared.order.Order.TheVariants as order
 use Rattle.edge_traits.specs.declared.source.Failed.{Failed}
 use Rattle.live_reload.specs.Answers.{answer_text}
 use Rattle.live_reload.specs.Lines.{control_lines, lines_from, IsNextLine}
 use Rattle.live_reload.specs.Live.{LiveView, Takes, TakesTurn, Turns}
-use Rattle.live_reload.specs.declared.end.OrdersEnd.{OrdersEnd}
 use Rattle.live_reload.specs.declared.end.OrdersEnd.TheVariants as end
 use Rattle.live_reload.specs.declared.word.Word.{Word}
 
@@ -51,13 +49,4 @@ turns_since first last control o same (inl answers) = inl (record { word = answe
 turns_since first last control o same (inr (inl failed)) =
     let u = failed.1 in
     inr (inr (inr (inl (failed.0, record { word = u.word; order = u.order; takes = takes_since first last control u.word u.order same u.takes; printed = u.printed; rose = u.rose; end = u.end }))))
-turns_since first last control o same (inr (inr memory)) = inr (inr (inr (inr memory)))
-
--- control was read to its end
-pub waiting : (first same : LiveView) (control : SourceView) → first ≡ same → ((content : List ℕ) → first.control.told ≡ Some content → slice_get (control_lines content) first.taken ≡ None) → Turns same (record first { control = control; end = end.AtEnd }) order.Nothing
-waiting first same control is none = subst (λ (v : LiveView). Turns v (record first { control = control; end = end.AtEnd }) order.Nothing) is (inr (inl (refl, record { none = none; out = refl; shelf = refl; taken = refl; end = refl })))
-
--- the same, where a line was taken
-pub taking : (first same : LiveView) (shelf : ShelfView) (out : SinkView) (at taken : ℕ) (what : OrdersEnd) (o : Order) → first ≡ same → TakesTurn first (record first { shelf = shelf; out = out; at = at; taken = taken; end = what }) o
-    → TakesTurn same (record first { shelf = shelf; out = out; at = at; taken = taken; end = what }) o
-taking first same shelf out at taken what o is turns = subst (λ (v : LiveView). TakesTurn v (record first { shelf = shelf; out = out; at = at; taken = taken; end = what }) o) is turns
+turns_since first last control o same (inr (inr memory)) = inr (inr (inr (inr (memory.0, record { out = memory.1.out; taken = memory.1.taken; end = memory.1.end }))))

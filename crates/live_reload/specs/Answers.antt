@@ -1,8 +1,8 @@
 -- The answers to lines of control, and the orders that they give.
 use Rattle.std.specs.Prelude.{◌≡◌, ◌⊎◌, ℕ, List, ◌++◌, codes, decimal, Option, Some, None, Result, Ok, Err}
 use Rattle.edge_traits.specs.Shelf.{ShelfView}
-use Rattle.edge_traits.specs.declared.orders.Order.{Order}
-use Rattle.edge_traits.specs.declared.orders.Order.TheVariants as order
+use Rattle.live_reload.specs.declared.order.Order.{Order}
+use Rattle.live_reload.specs.declared.order.Order.TheVariants as order
 use Rattle.status_texts.specs.StatusText.{fault_number}
 use Rattle.bundle_fetch.specs.Fetch.{bundle_from, Files}
 use Rattle.config_bundle.specs.Bundle.{bundle_code}

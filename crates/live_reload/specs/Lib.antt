@@ -1,6 +1,6 @@
 -- what public contracts cite
 pub mod Answers
 pub mod Control
-pub mod Given
+pub mod Followed
 pub mod Lines
 pub mod Live

@@ -1,40 +1,45 @@
 -- Orders of a control that is followed, as contracts see them.
-use Rattle.std.specs.Prelude.{◌≡◌, ◌≤◌, ℕ, suc, ◌+◌, ◌⊎◌, List, true, Some, None, IsSome}
+use Rattle.std.specs.Prelude.{◌≡◌, ◌≤◌, ℕ, suc, nat_lt, if◌then◌else◌, ◌⊎◌, true, List, drop, Option, Some, None, IsSome}
 use Rattle.std.specs.List.{slice_get}
 use Rattle.edge_traits.specs.Count.{Rose}
-use Rattle.edge_traits.specs.Orders.{OrdersView}
 use Rattle.edge_traits.specs.Output.{TookFront}
 use Rattle.edge_traits.specs.Shelf.{ShelfView, count_on, lacks}
 use Rattle.edge_traits.specs.Sink.{SinkView, Took}
 use Rattle.edge_traits.specs.Source.{SourceView}
-use Rattle.edge_traits.specs.declared.orders.Order.{Order}
-use Rattle.edge_traits.specs.declared.orders.Order.TheVariants as order
 use Rattle.live_reload.specs.Answers.{answer_in, answer_text, IsAnswerTo, IsMeant}
 use Rattle.live_reload.specs.Control.{control_in}
-use Rattle.live_reload.specs.Lines.{control_lines}
+use Rattle.live_reload.specs.Lines.{control_lines, lines_from, longest_control}
+use Rattle.live_reload.specs.declared.control.Control.{Control}
 use Rattle.live_reload.specs.declared.end.OrdersEnd.{OrdersEnd}
 use Rattle.live_reload.specs.declared.end.OrdersEnd.TheVariants as end
-use Rattle.live_reload.specs.declared.control.Control.{Control}
+use Rattle.live_reload.specs.declared.live.LiveOrders.{LiveOrders}
+use Rattle.live_reload.specs.declared.order.Order.{Order}
+use Rattle.live_reload.specs.declared.order.Order.TheVariants as order
 use Rattle.live_reload.specs.declared.word.Word.{Word}
 use Rattle.live_reload.specs.declared.word.Word.TheVariants as word
 use Rattle.bot_rules.specs.Intel.{intel}
 use Rattle.bundle_fetch.specs.Fetch.{Files}
 
--- control, the shelf and the output; the offset in control behind the lines that were taken, and how many they are; the orders that were given, and how many `Nothing`s came since;
--- and what came of the last that was asked for
+-- control, the shelf and the output; how many lines were taken; and what came of the last order that was asked for
 pub record LiveView : Type 0 where
   pub control : SourceView
   pub shelf : ShelfView
   pub out : SinkView
-  pub at : ℕ
   pub taken : ℕ
-  pub given : List Order
-  pub nothings : ℕ
   pub end : OrdersEnd
 
--- as orders: its faults are those of control and of the output
-abbrev pub orders_of : LiveView → OrdersView
-orders_of live = record { given = live.given; nothings = live.nothings; faults = live.control.faults + live.out.faults }
+abbrev pub live_at : SourceView → ShelfView → SinkView → LiveOrders → LiveView
+live_at control shelf out live = record { control = control; shelf = shelf; out = out; taken = live.taken; end = live.end }
+
+-- so many lines of control were taken, up to an offset of it
+pub record Follows (control : SourceView) (live : LiveOrders) : Type 0 where
+  pub near : live.at ≤ longest_control
+  pub few : live.taken ≤ live.at
+  pub left : (content : List ℕ) → control.told ≡ Some content → lines_from live.at content ≡ drop live.taken (control_lines content)
+
+-- behind so many bytes of control there may be more later, unless as many were read as may be
+abbrev pub watched_by : LiveOrders → Option ℕ
+watched_by live = if nat_lt live.read longest_control then Some live.read else None
 
 -- the next line of control was taken, the one behind those that were taken: what it asks for, its answer, and the order that it
 -- gives. `absent` is answered only where the shelf tells that it lacks a name, `failed` only where the count on a name rose, and a
@@ -69,7 +74,6 @@ pub record Unprinted (old new : LiveView) : Type 0 where
 pub record Waits (old new : LiveView) : Type 0 where
   pub none : (content : List ℕ) → old.control.told ≡ Some content → slice_get (control_lines content) old.taken ≡ None
   pub out : new.out ≡ old.out
-  pub shelf : new.shelf ≡ old.shelf
   pub taken : new.taken ≡ old.taken
   pub end : new.end ≡ end.AtEnd
 
@@ -77,22 +81,27 @@ pub record Waits (old new : LiveView) : Type 0 where
 pub record Unread (old new : LiveView) : Type 0 where
   pub rose : Rose old.control.faults new.control.faults
   pub out : new.out ≡ old.out
-  pub shelf : new.shelf ≡ old.shelf
   pub taken : new.taken ≡ old.taken
   pub end : new.end ≡ end.Control
 
--- what comes of asking for an order: `Nothing` also where a line is answered that gives none; want of memory says nothing of the line
+-- memory ran out ahead of an answer
+pub record Starves (old new : LiveView) : Type 0 where
+  pub out : new.out ≡ old.out
+  pub taken : new.taken ≡ old.taken
+  pub end : new.end ≡ end.Open
+
+-- what comes of asking for an order: `Nothing` also where a line is answered that gives none
 abbrev pub Turns : LiveView → LiveView → Order → Type 0
 Turns old new o =
     Answers old new o
     ⊎ ((o ≡ order.Nothing) × Waits old new)
     ⊎ ((o ≡ order.Failed) × Unread old new)
     ⊎ ((o ≡ order.Failed) × Unprinted old new)
-    ⊎ ((o ≡ order.OutOfMemory) × (new.end ≡ end.Open))
+    ⊎ ((o ≡ order.OutOfMemory) × Starves old new)
 
 -- the same, where control has a next line
 abbrev pub TakesTurn : LiveView → LiveView → Order → Type 0
-TakesTurn old new o = Answers old new o ⊎ ((o ≡ order.Failed) × Unprinted old new) ⊎ ((o ≡ order.OutOfMemory) × (new.end ≡ end.Open))
+TakesTurn old new o = Answers old new o ⊎ ((o ≡ order.Failed) × Unprinted old new) ⊎ ((o ≡ order.OutOfMemory) × Starves old new)
 
 -- what stays: what control and the shelf tell, and no count falls
 pub record Stays (old new : LiveView) : Type 0 where

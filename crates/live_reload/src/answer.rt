@@ -6,10 +6,10 @@ ghost use Rattle.edge_traits.specs.Shelf.{count_on, lacks};
 ghost use Rattle.live_reload.specs.Answers.{IsAnswerTo, brought_answer};
 ghost use Rattle.live_reload.specs.declared.word.Word.TheVariants as word;
 
-use crate::{Control, Word};
+use crate::{Control, Order, Word};
 use base_types::Blob;
 use bundle_bringing::{Unbrought, bring_code};
-use edge_traits::{Order, Shelf};
+use edge_traits::Shelf;
 use status_texts::fault_number;
 use std::alloc::Global;
 

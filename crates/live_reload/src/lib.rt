@@ -4,13 +4,13 @@
 mod answer;
 mod control;
 mod end;
-mod given;
-mod kept;
 mod live;
+mod order;
 mod reading;
 mod word;
 
 pub use control::{Control, read_control};
 pub use end::OrdersEnd;
 pub use live::LiveOrders;
+pub use order::Order;
 pub use word::Word;

@@ -14,7 +14,7 @@ use std::alloc::{AllocError, Global};
 const LONGEST_LINE: usize = 1024;
 
 // Behind this offset control isn't read.
-const LONGEST_CONTROL: u64 = 1_073_741_824;
+pub(crate) const LONGEST_CONTROL: u64 = 1_073_741_824;
 
 // So many bytes are read at a time.
 const PIECE: usize = 256;
@@ -61,16 +61,17 @@ fn read_piece<K: Source>(control: &mut K, at: u64, piece: &mut [u8; PIECE]) -> R
     }
 }
 
-// The next line that ends with a newline, of a long one its first bytes; and the offset behind it.
+// The next line that ends with a newline, of a long one its first bytes, and the offset behind it; where there is none, the offset up to
+// which control was read.
 fn next_line<K: Source>(
     alloc: Global,
     control: &mut K,
     at: u64,
-) -> Result<Option<(Vec<u8>, u64)>, ReaderFault>
+) -> Result<(Option<Vec<u8>>, u64), ReaderFault>
     requires { at ≤ longest_control }
     ensures line { (content : List ℕ) → (K.source control.old).told ≡ Some content
-        → IfOk result (λ found. MatchOption found (lines_from at content ≡ []) (λ next. (line : List ℕ) × IsNextLine content at line next.1 × (next.0.items ≡ take longest_line line))) }
-    ensures behind { IfOk result (λ found. IfSome found (λ next. (at < next.1) × (next.1 ≤ longest_control))) }
+        → IfOk result (λ next. MatchOption next.0 (lines_from at content ≡ []) (λ held. (line : List ℕ) × IsNextLine content at line next.1 × (held.items ≡ take longest_line line))) }
+    ensures behind { IfOk result (λ next. IfSome next.0 (λ held. at < next.1) × (next.1 ≤ longest_control)) }
     ensures failed { IsErrOf result ReaderFault.Failed → Rose (K.source control.old).faults (K.source control.new).faults }
     ensures told { (K.source control.new).told ≡ (K.source control.old).told }
     ensures count { (K.source control.old).faults ≤ (K.source control.new).faults }
@@ -81,12 +82,12 @@ fn next_line<K: Source>(
     'pieces: loop {
         let n = read_piece(control, upto, &mut piece)?;
         if n == 0 {
-            return Ok(None);
+            return Ok((None, upto));
         }
         match newline_in(&piece[..n]) {
             Some(end) => {
                 hold(&mut front, &piece[..end])?;
-                return Ok(Some((front, upto + end as u64 + 1)));
+                return Ok((Some(front), upto + end as u64 + 1));
             }
             None => {
                 hold(&mut front, &piece[..n])?;
@@ -96,23 +97,25 @@ fn next_line<K: Source>(
     }
 }
 
-/// What the next line of control asks for, and the offset behind it. There is none where no further line ends with a newline.
+/// What the next line of control asks for, and the offset behind it; where no further line ends with a newline, the offset up to which
+/// control was read.
 pub(crate) fn next_control<K: Source>(
     alloc: Global,
     control: &mut K,
     at: u64,
-) -> Result<Option<(Control, u64)>, ReaderFault>
+) -> Result<(Option<Control>, u64), ReaderFault>
     requires { at ≤ longest_control }
     ensures asked { (content : List ℕ) → (K.source control.old).told ≡ Some content
-        → IfOk result (λ found. MatchOption found (lines_from at content ≡ []) (λ next. (line : List ℕ) × IsNextLine content at line next.1 × (next.0 ≡ control_in line))) }
-    ensures behind { IfOk result (λ found. IfSome found (λ next. (at < next.1) × (next.1 ≤ longest_control))) }
+        → IfOk result (λ next. MatchOption next.0 (lines_from at content ≡ []) (λ asked. (line : List ℕ) × IsNextLine content at line next.1 × (asked ≡ control_in line))) }
+    ensures behind { IfOk result (λ next. IfSome next.0 (λ asked. at < next.1) × (next.1 ≤ longest_control)) }
     ensures failed { IsErrOf result ReaderFault.Failed → Rose (K.source control.old).faults (K.source control.new).faults }
     ensures told { (K.source control.new).told ≡ (K.source control.old).told }
     ensures count { (K.source control.old).faults ≤ (K.source control.new).faults }
 {
-    let Some((line, upto)) = next_line(alloc, control, at)? else {
-        return Ok(None);
+    let (line, upto) = next_line(alloc, control, at)?;
+    let Some(line) = line else {
+        return Ok((None, upto));
     };
     let asked = read_control(alloc, line.as_slice())?;
-    Ok(Some((asked, upto)))
+    Ok((Some(asked), upto))
 }

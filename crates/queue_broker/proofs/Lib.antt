@@ -1,4 +1,11 @@
+mod Calls
 mod Changes
-mod Fronts
+mod Copied
+mod Firsts
 mod Lengths
+mod More
+mod Others
+mod Sent
+mod Steps
 mod There
+mod Times

@@ -11,16 +11,19 @@ use Rattle.base_types.specs.Name.{queue_name}
 use Rattle.stored_types.specs.Queue.{is_queue, put_first}
 use Rattle.queue_broker.specs.declared.broker.AckFault.{AckFault}
 use Rattle.queue_broker.specs.declared.broker.AckFault.TheVariants.{NotInHand}
+use Rattle.queue_broker.specs.declared.reads.HandAt.{HandAt}
 use Rattle.queue_broker.specs.declared.broker.TakeFault.{TakeFault}
 use Rattle.queue_broker.specs.declared.broker.TakeFault.TheVariants.{HandFull, Empty}
 
--- the queues and the full hands, each in its order; how many messages may still be sent; how many queues, and how many full hands, there may be in all
+-- the queues and the full hands, each in its order; how many messages may still be sent; how many queues, and how many full hands, there may be in all;
+-- how many messages were sent or taken in so far
 pub record BrokerView : Type 0 where
   pub queues : List Queue
   pub hands : List Hand
   pub spare : ℕ
   pub queue_room : ℕ
   pub hand_room : ℕ
+  pub pushed : ℕ
 
 -- the messages in all queues together
 abbrev pub total : List Queue → ℕ
@@ -33,6 +36,10 @@ IsThere name queues = IsIn name (map (λ q. q.name) queues)
 -- the queue of each full hand's bot is there
 abbrev pub HaveQueues : List Queue → List Hand → Type 0
 HaveQueues queues hands = AllByRecursion (λ h. IsThere (queue_name h.bot) queues) hands
+
+-- the full hand that is lent
+abbrev pub lent : HandAt → Hand
+lent h = record { bot = h.bot; instance = h.instance; message = h.message.now; tries = h.tries; since = h.since }
 
 -- what an instance holds
 abbrev pub hand_of : List ℕ → ℕ → List Hand → Option Hand
@@ -53,7 +60,7 @@ front_of (message ∷ others) = Some message
 
 -- these lists, and room for no more than they have
 abbrev pub from_lists : List Queue → List Hand → BrokerView
-from_lists queues hands = record { queues = queues; hands = hands; spare = 0; queue_room = length queues; hand_room = length hands }
+from_lists queues hands = record { queues = queues; hands = hands; spare = 0; queue_room = length queues; hand_room = length hands; pushed = total queues + length hands }
 
 -- room for so many messages, for so many queues beside those that are there, and for so many full hands in all; it is never less than before
 abbrev pub reserved : ℕ → ℕ → ℕ → BrokerView → BrokerView

@@ -1,18 +1,17 @@
-ghost use Rattle.std.specs.Prelude.{◌≡◌, ◌≢◌, ◌+◌, ◌-◌, ◌<◌, ◌≤◌, ◌^◌, ◌⊎◌, ◌↔◌, true, ◌++◌, [], ◌∷◌, length, min, slice_get, Some, None, is_some, option_map, IfOk, IfErr, OnOk, OnErr, IsOk, IsSomeAnd, MatchOption};
-ghost use Rattle.base_types.specs.Number.{last_u64};
+//! The queues and the full hands, and what is done with them.
+ghost use Rattle.std.specs.Prelude.{◌≡◌, ◌≢◌, ◌+◌, ◌-◌, ◌<◌, ◌≤◌, ◌^◌, ◌⊎◌, true, ◌++◌, [], ◌∷◌, length, Some, None, is_some, IfOk, IfErr, OnOk, OnErr, IsOk, IsSomeAnd};
 ghost use Rattle.base_types.specs.Name.{queue_name};
-ghost use Rattle.stored_types.specs.Queue.{bytes_in, put, queued};
-ghost use Rattle.queue_broker.specs.Broker.{emptied, from_lists, front_of, given_back, hand_of, message_of, number_of, reserved, tried, most_tries, HaveQueues, IsAckFault, IsTakeFault, IsTaken, IsThere, HasRoom, total};
-ghost use Rattle.queue_broker.specs.Kept.{most_nodes};
+ghost use Rattle.stored_types.specs.Queue.{put, queued};
+ghost use Rattle.queue_broker.specs.Broker.{emptied, from_lists, given_back, hand_of, message_of, number_of, reserved, tried, most_tries, HaveQueues, IsAckFault, IsTakeFault, IsTaken, IsThere, HasRoom};
 
-use crate::linked_queue::LinkedQueue;
-use crate::node_pool::NodePool;
-use crate::stored::MOST_NODES;
-use crate::{hands, queues, stored};
+use crate::copies::count;
+use crate::lists::{make_lists, make_nodes};
+use crate::places::{FullHand, LinkedQueue};
 use base_types::{BotName, Moment, Msg, OutOfMemory, QueueName, queue_of};
+use link_store::Links;
 use std::alloc::Global;
 use std::marker::Model;
-use stored_types::{Hand, HandList, WaitingList, copies};
+use stored_types::{HandList, WaitingList};
 
 /// Why nothing was taken.
 #[derive(Clone, Copy, Debug, PartialEq, Eq)]
@@ -30,71 +29,52 @@ pub enum AckFault {
     NotInHand { no: Option<u64> },
 }
 
-/// What an instance holds: the message, how often it was tried, and the moment at which it was taken.
-#[derive(Clone, Copy, Debug)]
-pub struct InHand<'b> {
-    pub message: &'b Msg,
-    pub tries: u32,
-    pub since: Moment,
-}
-
 /// The queues of a pipeline and the full hands of bots' instances. A full hand's queue is always there.
 #[derive(Debug, Drop)]
 pub struct Broker {
-    alloc: Global,
-    queues: Vec<LinkedQueue>,
-    hands: Vec<Hand>,
-    pool: NodePool,
+    pub(crate) links: Links<Msg>,
+    pub(crate) queues: Vec<LinkedQueue>,
+    pub(crate) hands: Vec<FullHand>,
+    // The lists that no queue and no full hand has.
+    pub(crate) free: Vec<u32>,
     // The messages in all queues together.
-    waiting: usize,
-    // For how many messages that are sent nodes are kept free, beside those for messages that are given back.
-    spare: usize,
-    queue_room: usize,
-    hand_room: usize,
+    pub(crate) waiting: usize,
+    // How many messages may be sent. There may be room for more.
+    pub(crate) spare: usize,
+    pub(crate) queue_room: usize,
+    pub(crate) hand_room: usize,
 }
 
 impl Model for Broker {
-    ghost use Rattle.std.specs.Prelude.{◌≤◌};
-    ghost use Rattle.std.specs.Vec.{vec_capacity};
     ghost use Rattle.queue_broker.specs.Broker.{BrokerView};
-    ghost use Rattle.queue_broker.specs.Kept.{IsKept};
+    ghost use Rattle.queue_broker.specs.Kept.{IsKept, HaveRoom, hands_in, queues_in};
 
     ghost Value = { BrokerView };
 
-    ghost view = { λ b. record { queues = b.queues.items; hands = b.hands.items; spare = b.spare; queue_room = b.queue_room; hand_room = b.hand_room } };
+    ghost view = { λ b. record { queues = queues_in b.links.lists b.queues.items; hands = hands_in b.links.lists b.hands.items; spare = b.spare; queue_room = b.queue_room; hand_room = b.hand_room; pushed = b.links.pushed } };
 
-    ghost invariant = { λ b. IsKept b.queues.items b.hands.items b.waiting b.pool b.spare × (b.queue_room ≤ vec_capacity b.queues) × (b.hand_room ≤ vec_capacity b.hands) };
-}
-
-// Makes nodes for so many messages that may be sent, and for so many that may be given back.
-fn grow(pool: &mut NodePool, waiting: usize, spare: usize, hands: usize) -> Result<(), OutOfMemory>
-    requires { waiting + pool.old ≤ most_nodes }
-    ensures nodes { waiting + pool.new ≤ most_nodes }
-    ensures more { pool.old ≤ pool.new }
-    ensures ok { OnOk result (spare + hands ≤ pool.new) }
-    ensures succeeds { spare + hands ≤ pool.old → IsOk result }
-{
-    match spare.checked_add(hands) {
-        Some(count) if count <= MOST_NODES - waiting => pool.grow(count),
-        _ => Err(OutOfMemory),
-    }
+    ghost invariant = { λ b. IsKept b.links b.queues.items b.hands.items b.free.items b.waiting b.spare × HaveRoom b.links b.queues b.hands b.free b.queue_room b.hand_room };
 }
 
 impl Broker {
-    /// A broker with nothing in it, and room for nothing. It takes no memory.
-    pub fn new(alloc: Global) -> Self
-        ensures { result ≡ from_lists [] [] }
+    /// A broker with nothing in it, and room for nothing.
+    pub fn new(alloc: Global) -> Result<Self, OutOfMemory>
+        ensures { IfOk result (λ broker. broker ≡ from_lists [] []) }
     {
-        Broker {
-            alloc,
-            queues: Vec::new(alloc),
-            hands: Vec::new(alloc),
-            pool: NodePool::new(alloc),
+        let links = Links::new(alloc, 0)?;
+        let queues = Vec::new(alloc);
+        let hands = Vec::new(alloc);
+        let free = Vec::new(alloc);
+        Ok(Broker {
+            links,
+            queues,
+            hands,
+            free,
             waiting: 0,
             spare: 0,
             queue_room: 0,
             hand_room: 0,
-        }
+        })
     }
 
     /// Takes the queues and the full hands of a state.
@@ -106,36 +86,14 @@ impl Broker {
         requires { HaveQueues queues hands }
         ensures { IfOk result (λ broker. broker ≡ from_lists queues hands) }
     {
-        let queues = stored::all_linked(alloc, queues)?;
-        let hands = hands.into_vec();
-        let mut pool = NodePool::new(alloc);
-        let waiting = stored::count(&queues)?;
-        grow(&mut pool, waiting, 0, hands.len())?;
-        let (queue_room, hand_room) = (queues.len(), hands.len());
-        Ok(Broker {
-            alloc,
-            queues,
-            hands,
-            pool,
-            waiting,
-            spare: 0,
-            queue_room,
-            hand_room,
-        })
-    }
-
-    /// A copy of the queues, to be stored.
-    pub fn queues_copy(&self, alloc: Global) -> Result<WaitingList, OutOfMemory>
-        ensures { IfOk result (λ copy. copy ≡ self.now.queues) }
-    {
-        stored::copy_all(alloc, &self.queues)
-    }
-
-    /// A copy of the full hands, to be stored.
-    pub fn hands_copy(&self, alloc: Global) -> Result<HandList, OutOfMemory>
-        ensures { IfOk result (λ copy. copy ≡ self.now.hands) }
-    {
-        Ok(HandList::from(copies(alloc, &self.hands)?))
+        let mut broker = Broker::new(alloc)?;
+        let named = queues.len();
+        let full = hands.len();
+        let messages = count(queues.as_slice(), full)?;
+        broker.reserve_count(messages, named, full)?;
+        broker.push_queues(queues.into_vec());
+        broker.push_hands(hands.into_vec());
+        Ok(broker)
     }
 
     /// Makes room for a message on each of these queues, and for so many full hands in all. Without memory for all of it
@@ -160,14 +118,21 @@ impl Broker {
         ensures err { OnErr result (self.new ≡ self.old) }
         ensures succeeds { HasRoom messages queues hands self.old → IsOk result }
     {
-        let spare = self.spare.max(messages);
+        let queue_room = self
+            .queue_room
+            .max(queues.saturating_add(self.queues.len()));
         let hand_room = self.hand_room.max(hands);
-        self.queues.reserve(queues)?;
-        self.hands
-            .reserve(hand_room.saturating_sub(self.hands.len()))?;
-        grow(&mut self.pool, self.waiting, spare, self.hands.len())?;
-        self.spare = spare;
-        self.queue_room = self.queue_room.max(queues + self.queues.len());
+        make_nodes(&mut self.links, messages)?;
+        make_lists(
+            &mut self.links,
+            &mut self.queues,
+            &mut self.hands,
+            &mut self.free,
+            queue_room,
+            hand_room,
+        )?;
+        self.spare = self.spare.max(messages);
+        self.queue_room = queue_room;
         self.hand_room = hand_room;
         Ok(())
     }
@@ -178,20 +143,24 @@ impl Broker {
         requires room { length self.old.queues < self.old.queue_room }
         ensures { self.new ≡ record self.old { queues = self.old.queues ++ record { name = queue.now; messages = [] } ∷ [] } }
     {
-        self.queues
-            .push_reserved(LinkedQueue::new(self.alloc, queue));
+        self.push_queue(queue);
     }
 
     /// Puts a message at the end of a queue. One that isn't there is made.
     pub fn send(&mut self, queue: &QueueName, message: Msg)
         requires spare { 1 ≤ self.old.spare }
         requires place { IsThere queue.now self.old.queues ⊎ (length self.old.queues < self.old.queue_room) }
-        ensures { self.new ≡ record self.old { queues = put queue.now message self.old.queues; spare = self.old.spare - 1 } }
+        requires few { self.old.pushed < 2 ^ 63 }
+        ensures { self.new ≡ record self.old { queues = put queue.now message self.old.queues; spare = self.old.spare - 1; pushed = self.old.pushed + 1 } }
     {
-        let node = self.pool.fill(message);
-        queues::put(&mut self.queues, self.alloc, queue, node);
-        self.waiting += 1;
-        self.spare -= 1;
+        match self.place_of_queue(queue) {
+            Some(i) => self.push_at(i, message),
+            None => {
+                let i = self.queues_len();
+                self.push_queue(queue);
+                self.push_at(i, message);
+            }
+        }
     }
 
     /// Takes the message at the front of the bot's queue into the hand of an instance.
@@ -206,20 +175,24 @@ impl Broker {
         ensures fault { IfErr result (IsTakeFault (number_of bot.now instance self.old.hands) (queued (queue_name bot.now) self.old.queues)) }
         ensures err { OnErr result (self.new ≡ self.old) }
     {
-        if let Some(no) = hands::number_of(&self.hands, bot, instance) {
-            return Err(TakeFault::HandFull { no });
+        match self.number_in_hand(bot, instance) {
+            Some(no) => Err(TakeFault::HandFull { no }),
+            None => self.take_first(bot, instance, now),
         }
-        let Some(node) = queues::take_front(&mut self.queues, &queue_of(bot)) else {
+    }
+
+    // Takes the message at the front of the bot's queue into the empty hand of an instance.
+    fn take_first(&mut self, bot: &BotName, instance: u8, now: Moment) -> Result<(), TakeFault>
+        requires room { length self.old.hands < self.old.hand_room }
+        ensures taken { OnOk result (IsTaken bot.now instance now (queued (queue_name bot.now) self.old.queues) self.old self.new) }
+        ensures fault { IfErr result (IsTakeFault None (queued (queue_name bot.now) self.old.queues)) }
+        ensures err { OnErr result (self.new ≡ self.old) }
+    {
+        let queue = queue_of(bot);
+        let Some(i) = self.waiting_place(&queue) else {
             return Err(TakeFault::Empty);
         };
-        self.waiting -= 1;
-        self.hands.push_reserved(Hand {
-            bot: *bot,
-            instance,
-            message: self.pool.free(node),
-            tries: 0,
-            since: now,
-        });
+        self.take_at(i, bot, instance, now);
         Ok(())
     }
 
@@ -234,13 +207,11 @@ impl Broker {
         ensures fault { IfErr result (IsAckFault no (number_of bot.now instance self.old.hands)) }
         ensures err { OnErr result (self.new ≡ self.old) }
     {
-        let held = hands::number_of(&self.hands, bot, instance);
-        if held != Some(no) {
-            return Err(AckFault::NotInHand { no: held });
-        }
-        match hands::take_out(&mut self.hands, bot, instance) {
-            Some(hand) => Ok(hand.message),
-            None => unreachable!(),
+        match self.place_of_number(bot, instance, no) {
+            Some(k) => Ok(self.empty_at(k)),
+            None => Err(AckFault::NotInHand {
+                no: self.number_in_hand(bot, instance),
+            }),
         }
     }
 
@@ -249,122 +220,23 @@ impl Broker {
         ensures held { result ≡ is_some (hand_of bot.now instance self.old.hands) }
         ensures given_back { self.new ≡ given_back bot.now instance (hand_of bot.now instance self.old.hands) self.old }
     {
-        let Some(hand) = hands::take_out(&mut self.hands, bot, instance) else {
+        let Some(k) = self.place_of_hand(bot, instance) else {
             return false;
         };
-        let node = self.pool.fill(hand.message);
-        queues::put_first(&mut self.queues, &queue_of(bot), node);
-        self.waiting += 1;
+        let i = self.place_of_hand_queue(k);
+        self.give_back_at(k, i);
         true
     }
 
     /// Counts that what an instance holds was tried.
+    #[tactic(auto, using(base_types::proofs::Found::find_missing))]
     pub fn tried(&mut self, bot: &BotName, instance: u8)
         requires { IsSomeAnd (hand_of bot.now instance self.old.hands) (λ h. h.tries < most_tries) }
         ensures { self.new ≡ tried bot.now instance self.old }
     {
-        hands::count_try(&mut self.hands, bot, instance);
-    }
-
-    /// For how many more messages there is room.
-    pub fn spare(&self) -> usize
-        ensures { result ≡ self.now.spare }
-    {
-        self.spare
-    }
-
-    /// For how many queues there is room in all.
-    pub fn queue_room(&self) -> usize
-        ensures { result ≡ self.now.queue_room }
-    {
-        self.queue_room
-    }
-
-    /// For how many full hands there is room in all.
-    pub fn hand_room(&self) -> usize
-        ensures { result ≡ self.now.hand_room }
-    {
-        self.hand_room
-    }
-
-    pub fn has_queue(&self, queue: &QueueName) -> bool
-        ensures { (result ≡ true) ↔ IsThere queue.now self.now.queues }
-    {
-        queues::place_of(&self.queues, queue).is_some()
-    }
-
-    /// How many messages wait in the queue of this name.
-    pub fn waiting(&self, queue: &QueueName) -> u64
-        ensures { result ≡ length (queued queue.now self.now.queues) }
-    {
-        queues::waiting(&self.queues, queue) as u64
-    }
-
-    /// How many messages wait in all queues.
-    pub fn waiting_len(&self) -> u64
-        ensures { result ≡ total self.now.queues }
-    {
-        self.waiting as u64
-    }
-
-    /// The number of the message at the front of the queue of this name.
-    pub fn front_no(&self, queue: &QueueName) -> Option<u64>
-        ensures { result ≡ option_map (λ message. message.no) (front_of (queued queue.now self.now.queues)) }
-    {
-        queues::front_no(&self.queues, queue)
-    }
-
-    /// What an instance holds.
-    pub fn in_hand(&self, bot: &BotName, instance: u8) -> Option<InHand<'_>>
-        ensures { MatchOption result (hand_of bot.now instance self.now.hands ≡ None) (λ shown. IsSomeAnd (hand_of bot.now instance self.now.hands)
-            (λ h. (shown.message.now ≡ h.message) × (shown.tries ≡ h.tries) × (shown.since ≡ h.since))) }
-    {
-        match hands::hand_of(&self.hands, bot, instance) {
-            Some(hand) => Some(InHand {
-                message: &hand.message,
-                tries: hand.tries,
-                since: hand.since,
-            }),
-            None => None,
+        match self.place_of_hand(bot, instance) {
+            Some(k) => self.count_try_at(k),
+            None => unreachable!(),
         }
-    }
-
-    pub fn queues_len(&self) -> usize
-        ensures len { result ≡ length self.now.queues }
-        ensures fits { result < 2 ^ 63 }
-    {
-        self.queues.len()
-    }
-
-    /// The name of the k-th queue, from 0, and how many messages wait in it.
-    pub fn queue_at(&self, k: usize) -> (&QueueName, u64)
-        requires { k < length self.now.queues }
-        ensures { IsSomeAnd (slice_get self.now.queues k) (λ q. (result.0.now ≡ q.name) × (result.1 ≡ length q.messages)) }
-    {
-        let queue = &self.queues[k];
-        (queue.name(), queue.len() as u64)
-    }
-
-    /// The lengths of the bodies in the k-th queue together, or the greatest number where they pass it.
-    pub fn bytes_at(&self, k: usize) -> u64
-        requires { k < length self.now.queues }
-        ensures { IsSomeAnd (slice_get self.now.queues k) (λ q. result ≡ min (bytes_in q) last_u64) }
-    {
-        self.queues[k].bytes()
-    }
-
-    pub fn hands_len(&self) -> usize
-        ensures len { result ≡ length self.now.hands }
-        ensures fits { result < 2 ^ 63 }
-    {
-        self.hands.len()
-    }
-
-    /// The k-th full hand, from 0, in the order in which they were filled.
-    pub fn hand_at(&self, k: usize) -> &Hand
-        requires { k < length self.now.hands }
-        ensures { slice_get self.now.hands k ≡ Some result.now }
-    {
-        &self.hands[k]
     }
 }

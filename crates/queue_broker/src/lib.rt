@@ -1,14 +1,16 @@
 //! The messages of a pipeline that wait in queues, and those that are in the hands of bots' instances.
 //!
-//! What a step may need is reserved before. Then messages move without memory, and each call takes the same time
-//! whatever the number of messages that wait.
+//! Each queue has a list of its own, and so has each full hand, which is a list of one message. All lists stand in one vector. What a
+//! step may need is reserved before. Then messages move from list to list without memory, and each call takes the same time whatever
+//! the number of messages that wait.
 #![tactic(auto)]
 
 mod broker;
-mod hands;
-mod linked_queue;
-mod node_pool;
-mod queues;
-mod stored;
+mod copies;
+mod lists;
+mod moves;
+mod places;
+mod reads;
 
-pub use broker::{AckFault, Broker, InHand, TakeFault};
+pub use broker::{AckFault, Broker, TakeFault};
+pub use reads::{HandAt, InHand};

@@ -1,6 +1,7 @@
 -- The opening of a call, and the workers behind it.
-use Rattle.std.proofs.Common.{◌≡◌, ◌++◌, ℕ, [], Option, Ok, Err, inl, inr, refl, ◌∙◌}
+use Rattle.std.proofs.Common.{◌++◌, ℕ, [], map, Option, Ok, Err, inl, inr, refl, append-nil, ◌∙◌}
 use Rattle.edge_traits.specs.Disk.{DiskView}
+use Rattle.step_code.specs.declared.step.Step.{Step}
 use Rattle.journal_book.specs.Book.{BookView}
 use Rattle.book_runs.proofs.Going.{goes_further}
 use Rattle.drain_turns.specs.Turn.{Outside}
@@ -26,6 +27,7 @@ module _ {D R : Type 0} {disk : D → DiskView} where
       opened = refl;
       left = opened.left;
       state = opened.goes_on.state;
+      kinds = opened.kinds ∙ append-nil (map (λ (step : Step). step.what) opened.made);
       begins = opened.opens;
       own = lapped.worked.own;
       ends = lapped.ends;

@@ -34,12 +34,12 @@ abbrev with_left : Place → Option ℕ → Place
 with_left p left = record p { left = left }
 
 -- the place behind a step
-record IsBehind (o : Outside) (p : Place) (step : Step) : Type 0 where
+pub record IsBehind (o : Outside) (p : Place) (step : Step) : Type 0 where
   pub opening : (behind o p step).opening ≡ drop 1 p.opening
   pub left : (behind o p step).left ≡ option_map (λ n. n - 1) p.left
   pub state : IsSealOf (after o.meaning p.state step) (behind o p step).state
 
-is_behind : (o : Outside) (p : Place) (step : Step) → IsBehind o p step
+pub is_behind : (o : Outside) (p : Place) (step : Step) → IsBehind o p step
 is_behind o p step = record { opening = opening_is (begins_next o p); left = left_is (begins_next o p); state = state_is (begins_next o p) }
   where
     opening_is : (next : Bool) → drop 1 (if next then in_next p else p).opening ≡ drop 1 p.opening

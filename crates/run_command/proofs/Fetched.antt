@@ -1,5 +1,5 @@
 -- Feeds that were fetched, while the shelf goes on.
-use Rattle.std.proofs.Common.{◌≡◌, ◌≤◌, ℕ, List, [], ◌∷◌, ◌++◌, Option, Some, None, IfSome, IsSomeAnd, option_and_then, refl, sym, ap, subst, ◌∙◌, arith}
+use Rattle.std.proofs.Common.{ℕ, List, [], ◌∷◌, Option, Some, None, IfSome, IsSomeAnd, option_and_then, refl, sym, ap, subst, ◌∙◌, arith}
 use Rattle.std.specs.List.{AllByRecursion}
 use Rattle.edge_traits.specs.Named.{find_named}
 use Rattle.edge_traits.specs.Shelf.{lacks_in, ShelfView}

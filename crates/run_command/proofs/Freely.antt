@@ -1,10 +1,12 @@
 -- A run that nothing hinders.
-use Rattle.std.proofs.Common.{◌≡◌, ◌⊎◌, inl, inr, ℕ, List, [], length, Option, Some, Result, Ok, Err, refl, ap, ◌∙◌, arith}
+use Rattle.std.proofs.Common.{◌≡◌, inl, inr, ℕ, List, [], length, Option, Some, Result, Ok, Err, refl, ap, ◌∙◌, arith}
 use Rattle.edge_traits.specs.Disk.{DiskView, Image, IsImage}
 use Rattle.edge_traits.specs.Shelf.{ShelfView}
 use Rattle.edge_traits.specs.Sink.{SinkView}
 use Rattle.step_code.specs.declared.base.Base.{Base}
-use Rattle.step_code.specs.History.{first}
+use Rattle.step_code.specs.declared.rules.Facts.{Facts}
+use Rattle.step_code.specs.History.{first, replay}
+use Rattle.step_code.specs.Rules.{AreSound}
 use Rattle.store_image.specs.Damage.{IsDamagedStore}
 use Rattle.store_image.specs.Files.{root_file}
 use Rattle.store_image.specs.Stands.{origin_of}
@@ -21,22 +23,33 @@ use Rattle.drain_turns.proofs.Free.{free_calls_end_idle}
 use Rattle.drain_command.specs.Drained.{start, Called, IsCallBy, IsToldEnd}
 use Rattle.drain_command.specs.Laws.{EndIdly, EndsIdly}
 use Rattle.drain_command.specs.declared.draining.Asked.{Asked}
+use Rattle.drain_command.proofs.Unhindered.{opens_so}
 use Rattle.run_command.specs.Laws.{RunsFreely}
 use Rattle.run_command.specs.Runs.{left_behind, Runs}
+use Rattle.run_command.proofs.Opened.{feeds_early, feeds_end}
 
 module _ {D : Type 0} (disk : D → DiskView) (o : Outside) (feeds : List (List ℕ × List ℕ)) (files : Image) (asked : Asked) (old new : DiskView)
-    (is : RunsFreely disk o feeds files asked old new) where
+    (is : RunsFreely disk o feeds files asked old new) (law : (bundle : List ℕ) (bots : List Facts) → o.meaning.facts bundle ≡ Some bots → AreSound bots) where
   -- it has nothing left to do
   idle_of : (why : TurnsEnd) → Called disk Runs o files asked old new why → IsShown why → why ≡ last.Idle
   idle_of why d shown = by d.makes
     where
       by : Runs o (start o.meaning d.generation d.root d.base d.read asked) d.made why → why ≡ last.Idle
-      by (inl drains) = free_calls_end_idle o (start o.meaning d.generation d.root d.base d.read asked) feeds d.made why is.shelf is.unbound (is.free_early why d drains) shown drains
+      by (inl drains) =
+          free_calls_end_idle o (start o.meaning d.generation d.root d.base d.read asked) feeds d.made why is.shelf is.unbound
+          (record {
+            feeds = feeds_early o feeds is.shelf law (start o.meaning d.generation d.root d.base d.read asked) (opens_so o.meaning (replay o.meaning d.base d.read) asked) (is.readable d.generation d.base d.read d.opens.stored) d.made why drains;
+            room = is.room_early why d drains;
+          })
+          shown drains
       by (inr worked) =
-          let free = is.free why d worked in
           free_calls_end_idle (record o { shelf = worked.ends.shelf }) worked.ends.here feeds [] why (worked.ends.told ∙ is.shelf)
           (worked.ends.left_is ∙ ap (λ (l : Option ℕ). left_behind l (length worked.worked)) (worked.left ∙ ap (λ (l : Option ℕ). left_behind l (length worked.begun)) is.unbound))
-          free shown worked.ends.ends
+          (record {
+            feeds = λ opened. feeds_end o feeds is.shelf law (start o.meaning d.generation d.root d.base d.read asked) (opens_so o.meaning (replay o.meaning d.base d.read) asked) (is.readable d.generation d.base d.read d.opens.stored) d.made why worked;
+            room = is.room why d worked;
+          })
+          shown worked.ends.ends
 
   turns_end : (why : TurnsEnd) → IsToldEnd why → Called disk Runs o files asked old new why → EndIdly why
   turns_end last.Idle told d = tt
@@ -67,16 +80,16 @@ module _ {D : Type 0} (disk : D → DiskView) (o : Outside) (feeds : List (List 
       stands_undamaged o.meaning opens is.bots is.bundle is.whole is.steps is.more files is.loads is.legal is.small (is.stands.each files (honest files is.disk_tells)) file at damaged
 
 pub runs_end_idle : {D : Type 0} (disk : D → DiskView) (old new : DiskView) → ((image : Image) → old.told ≡ Some image → IsImage old.may_leave image)
-    → (o : Outside) → WhatStandsOpens o.meaning → (feeds : List (List ℕ × List ℕ)) (files : Image) (asked : Asked) → RunsFreely disk o feeds files asked old new → (now : ShelfView) (e : Result TurnsEnd StoreEnd) (before after : SinkView)
+    → (o : Outside) → ((bundle : List ℕ) (bots : List Facts) → o.meaning.facts bundle ≡ Some bots → AreSound bots) → WhatStandsOpens o.meaning → (feeds : List (List ℕ × List ℕ)) (files : Image) (asked : Asked) → RunsFreely disk o feeds files asked old new → (now : ShelfView) (e : Result TurnsEnd StoreEnd) (before after : SinkView)
     → IsCallBy disk Runs o now files asked old new e before after → EndsIdly e
-runs_end_idle disk old new honest o opens feeds files asked is now (Ok why) before after call = turns_end disk o feeds files asked old new is why call.0 call.1
-runs_end_idle disk old new honest o opens feeds files asked is now (Err end.Memory) before after call = tt
-runs_end_idle disk old new honest o opens feeds files asked is now (Err end.Disk) before after call = tt
-runs_end_idle disk old new honest o opens feeds files asked is now (Err end.Sink) before after call = tt
-runs_end_idle disk old new honest o opens feeds files asked is now (Err (end.Store have)) before after call = has_root disk o feeds files asked old new is honest call.1
-runs_end_idle disk old new honest o opens feeds files asked is now (Err (end.Damaged file at)) before after call = undamaged disk o feeds files asked old new is honest opens file at call.2
-runs_end_idle disk old new honest o opens feeds files asked is now (Err end.Done) before after call = absurd call
-runs_end_idle disk old new honest o opens feeds files asked is now (Err end.Refused) before after call = absurd call
-runs_end_idle disk old new honest o opens feeds files asked is now (Err (end.NoDump n)) before after call = absurd call
-runs_end_idle disk old new honest o opens feeds files asked is now (Err (end.Spent next)) before after call = absurd call
-runs_end_idle disk old new honest o opens feeds files asked is now (Err (end.Full bytes)) before after call = absurd call
+runs_end_idle disk old new honest o law opens feeds files asked is now (Ok why) before after call = turns_end disk o feeds files asked old new is law why call.0 call.1
+runs_end_idle disk old new honest o law opens feeds files asked is now (Err end.Memory) before after call = tt
+runs_end_idle disk old new honest o law opens feeds files asked is now (Err end.Disk) before after call = tt
+runs_end_idle disk old new honest o law opens feeds files asked is now (Err end.Sink) before after call = tt
+runs_end_idle disk old new honest o law opens feeds files asked is now (Err (end.Store have)) before after call = has_root disk o feeds files asked old new is law honest call.1
+runs_end_idle disk old new honest o law opens feeds files asked is now (Err (end.Damaged file at)) before after call = undamaged disk o feeds files asked old new is law honest opens file at call.2
+runs_end_idle disk old new honest o law opens feeds files asked is now (Err end.Done) before after call = absurd call
+runs_end_idle disk old new honest o law opens feeds files asked is now (Err end.Refused) before after call = absurd call
+runs_end_idle disk old new honest o law opens feeds files asked is now (Err (end.NoDump n)) before after call = absurd call
+runs_end_idle disk old new honest o law opens feeds files asked is now (Err (end.Spent next)) before after call = absurd call
+runs_end_idle disk old new honest o law opens feeds files asked is now (Err (end.Full bytes)) before after call = absurd call

@@ -3,5 +3,7 @@ mod Ending
 mod Fetched
 mod Freely
 mod Lapping
+mod Opened
+mod Readable
 mod Turned
 mod Worked

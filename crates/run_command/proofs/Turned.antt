@@ -1,5 +1,5 @@
 -- A drain's turn, of which at most one step is made: the step is a worker's.
-use Rattle.std.proofs.Common.{◌≡◌, ◌≢◌, ◌≤◌, ◌-◌, ◌&&◌, ℕ, Bool, true, false, not, List, [], ◌∷◌, Option, Some, None, IsSomeAnd, MatchBool, MatchOption, option_and_then, inl, inr, refl, sym, ap, subst, ◌∙◌}
+use Rattle.std.proofs.Common.{◌≡◌, ◌&&◌, ℕ, Bool, true, false, not, List, [], ◌∷◌, Option, Some, None, IsSomeAnd, MatchBool, MatchOption, option_and_then, inl, inr, refl, sym, ap, subst, ◌∙◌}
 use Rattle.std.specs.List.{AllByRecursion}
 use Rattle.edge_traits.specs.Named.{find_named}
 use Rattle.edge_traits.specs.Shelf.{ShelfView, content_of}

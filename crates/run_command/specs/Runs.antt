@@ -1,5 +1,5 @@
 -- What `run` makes of a store, and why it ends.
-use Rattle.std.specs.Prelude.{◌≡◌, ◌⊎◌, ◌≤◌, ◌-◌, ◌++◌, ℕ, List, [], length, Option, IfSome, option_map}
+use Rattle.std.specs.Prelude.{◌≡◌, ◌⊎◌, ◌≤◌, ◌-◌, ◌++◌, ℕ, List, [], length, map, Option, IfSome, option_map}
 use Rattle.edge_traits.specs.Shelf.{ShelfView, content_of}
 use Rattle.step_code.specs.declared.base.Base.{Base}
 use Rattle.step_code.specs.declared.step.Step.{Step}
@@ -38,7 +38,7 @@ pub record EndsAfter (o : Outside) (left : Option ℕ) (s : Base) (made : List S
   pub told : shelf.told ≡ o.shelf.told
   pub ends : Ends (record o { shelf = shelf }) here why
 
--- the steps of the opening are made as a drain makes them: whatever it makes from where they end, it makes from the start, behind them.
+-- all steps of the opening are made, as a drain makes them: whatever it makes from where they end, it makes from the start, behind them.
 -- Then the workers make theirs, in the order of their commits, until the call ends
 pub record HasWorked (o : Outside) (start : Place) (made : List Step) (why : TurnsEnd) : Type 0 where
   pub begun : List Step
@@ -48,6 +48,7 @@ pub record HasWorked (o : Outside) (start : Place) (made : List Step) (why : Tur
   pub opened : here.opening ≡ []
   pub left : here.left ≡ left_behind start.left (length begun)
   pub state : IsSealOf (replay o.meaning start.state begun) here.state
+  pub kinds : start.opening ≡ map (λ step. step.what) begun
   pub begins : (more : List Step) (last : TurnsEnd) → Drains o here more last → Drains o start (begun ++ more) last
   pub own : AreWorkerSteps o here.state worked
   pub ends : EndsAfter o here.left here.state worked why

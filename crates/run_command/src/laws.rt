@@ -1,8 +1,13 @@
-ghost use Rattle.run_command.specs.Laws.{FreeRunsEndIdle};
+ghost use Rattle.run_command.specs.Laws.{FreeRunsEndIdle, WorkersKeepFeedsReadable};
 
 use edge_traits::Disk;
 use journal_book::what_stands_opens;
 use step_code::Rules;
+
+/// Along steps of workers the feeds of collectors stay readable.
+pub fn workers_keep_feeds_readable()
+    ensures { WorkersKeepFeedsReadable }
+{}
 
 /// A run that may make any number of steps does all that there is to do, where it ends, unless something hinders it, or the outside or
 /// memory fails.

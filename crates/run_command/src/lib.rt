@@ -9,5 +9,5 @@ mod running;
 mod turning;
 mod workers;
 
-pub use laws::free_runs_end_idle;
+pub use laws::{free_runs_end_idle, workers_keep_feeds_readable};
 pub use running::run;

@@ -14,6 +14,8 @@ mod saying;
 mod state;
 mod verdict;
 
+pub use amount::equal;
 pub use fault::EvalFault;
+pub use pattern::Pattern;
 pub use prepared::Prepared;
 pub use verdict::{Fate, Verdict};

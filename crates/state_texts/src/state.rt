@@ -1,14 +1,15 @@
 ghost use Rattle.std.specs.Prelude.{◌≡◌, ◌++◌, IfOk, OnOk};
 ghost use Rattle.std.specs.List.{flat_map};
+ghost use Rattle.queue_broker.specs.Broker.{lent};
 ghost use Rattle.state_texts.specs.Texts.{feed_line, finished_word, halted_line, hand_line, out_lines, queue_line, state_text};
 
 use crate::line::{Part, put_line};
 use crate::summary::{lines_of, put_summary};
 use ack_steps::Core;
 use base_types::{Blob, BotName, OutOfMemory};
+use queue_broker::HandAt;
 use std::alloc::Global;
 use step_code::{Feed, Rules};
-use stored_types::Hand;
 
 fn put_queues<R: Rules>(text: &mut Blob, core: &Core<R>) -> Result<(), OutOfMemory>
     ensures { OnOk result (text.new ≡ text.old ++ flat_map queue_line core.now.state.queues) }
@@ -24,8 +25,8 @@ fn put_queues<R: Rules>(text: &mut Blob, core: &Core<R>) -> Result<(), OutOfMemo
     Ok(())
 }
 
-fn put_hand(text: &mut Blob, hand: &Hand) -> Result<(), OutOfMemory>
-    ensures { OnOk result (text.new ≡ text.old ++ hand_line hand.now) }
+fn put_hand(text: &mut Blob, hand: &HandAt<'_>) -> Result<(), OutOfMemory>
+    ensures { OnOk result (text.new ≡ text.old ++ hand_line (lent hand.now)) }
 {
     let instance = Part::Number(hand.instance as u128);
     let message = Part::Number(hand.message.no as u128);
@@ -40,7 +41,8 @@ fn put_hands<R: Rules>(text: &mut Blob, core: &Core<R>) -> Result<(), OutOfMemor
     ensures { OnOk result (text.new ≡ text.old ++ flat_map hand_line core.now.state.hands) }
 {
     'hands: for k in 0..core.hands_len() {
-        put_hand(text, core.hand_at(k))?;
+        let hand = core.hand_at(k);
+        put_hand(text, &hand)?;
     }
     Ok(())
 }

@@ -27,4 +27,8 @@ impl<R: Clock> Gate for SystemGate<'_, R> {
             thread::sleep(self.system, Duration::from_millis(millis));
         }
     }
+
+    fn pause(&self) {
+        thread::sleep(self.system, Duration::from_micros(50));
+    }
 }

@@ -1,9 +1,10 @@
 ghost use Rattle.std.specs.Prelude.{None};
+ghost use Rattle.live_reload.specs.Live.{Follows};
 
 use base_types::{Blob, NumberList, Text};
 use edge_memory::{MemShelf, MemSink};
-use edge_traits::{Failed, Order, Orders, Shelf, Sink, Source};
-use live_reload::{Control, LiveOrders, OrdersEnd, read_control};
+use edge_traits::{Failed, Shelf, Sink, Source};
+use live_reload::{Control, LiveOrders, Order, OrdersEnd, read_control};
 use std::alloc::Global;
 use std::process::Abort;
 use std::test::Fail;
@@ -211,12 +212,28 @@ fn orders_of<K: Source, H: Shelf, S: Sink>(
     many: usize,
 ) -> Result<(Vec<u8>, OrdersEnd), Fail> {
     let mut letters = Vec::new(alloc);
-    let mut orders = LiveOrders::new(alloc, control, shelf, out);
-    for _ in 0..many {
-        letters.push(letter(orders.next()))?;
+    let mut live = LiveOrders::new();
+    add_orders(alloc, &mut live, control, shelf, out, many, &mut letters)?;
+    Ok((letters, live.end()))
+}
+
+fn add_orders<K: Source, H: Shelf, S: Sink>(
+    alloc: Global,
+    live: &mut LiveOrders,
+    control: &mut K,
+    shelf: &mut H,
+    out: &mut S,
+    many: usize,
+    letters: &mut Vec<u8>,
+) -> Result<(), Fail>
+    requires { Follows (K.source control.old) live.old }
+{
+    if many == 0 {
+        return Ok(());
     }
-    let end = orders.end();
-    Ok((letters, end))
+    let order = live.next(alloc, control, shelf, out);
+    letters.push(letter(order))?;
+    add_orders(alloc, live, control, shelf, out, many - 1, letters)
 }
 
 // The same over a control with this content, of which this read fails, and a shelf with these bundles.

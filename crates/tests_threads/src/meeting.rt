@@ -79,4 +79,8 @@ impl<T: Clock> Gate for MeetGate<'_, T> {
     fn rest(&self, millis: u64) {
         thread::sleep(self.system, Duration::from_millis(millis));
     }
+
+    fn pause(&self) {
+        thread::yield_now();
+    }
 }

@@ -56,3 +56,25 @@ returns-clause-ok c =
     let first = c.send_all.ensures.sent ∙ (λ i. sent (c.in_ok-sends.ensures i) (record (same i) { caches = caches i })) in
     c.acknowledge.ensures.done ∙ ap (acknowledged bot c.args.held.instance made.line) (c.put_aside.ensures.put ∙ (λ i. put_aside (dumps i) (first i)))
     ∙ whole bot c.args.held.instance now rule made.sends.now made.dumps.now made.key.now made.line b
+
+pub send_all-requires-clause-few : goal.send_all-requires-clause-few
+send_all-requires-clause-few c = omega (arith, c.requires.few, c.make_all_room.ensures.pushed, ap length c.in_ok-sends.ensures)
+
+pub returns-clause-pushed : goal.returns-clause-pushed
+returns-clause-pushed c = omega (
+  arith,
+  c.make_all_room.ensures.pushed,
+  ap (λ (b : Base). b.next_message) c.make_all_room.ensures.same,
+  c.send_all.ensures.pushed,
+  ap (λ (b : Base). b.next_message) c.send_all.ensures.sent,
+  ap (λ (t : State). t.broker.pushed) c.put_aside.ensures.same,
+  ap (λ (b : Base). b.next_message) c.put_aside.ensures.put,
+  c.acknowledge.ensures.pushed,
+  ap (λ (b : Base). b.next_message) c.acknowledge.ensures.done,
+)
+
+pub returns-in_err-make_all_room-clause-pushed : goal.returns-in_err-make_all_room-clause-pushed
+returns-in_err-make_all_room-clause-pushed c = omega (arith, c.make_all_room.ensures.pushed, ap (λ (b : Base). b.next_message) c.make_all_room.ensures.same)
+
+pub returns-in_err-mark-clause-pushed : goal.returns-in_err-mark-clause-pushed
+returns-in_err-mark-clause-pushed c = omega (arith, c.make_all_room.ensures.pushed, ap (λ (b : Base). b.next_message) c.make_all_room.ensures.same)

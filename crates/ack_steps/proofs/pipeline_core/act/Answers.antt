@@ -1,11 +1,15 @@
-use Rattle.std.proofs.Common.{◌≡◌, List, OnOk, option_and_then, sym, ◌∙◌, ap, subst, arith}
+use Rattle.std.proofs.Common.{◌≡◌, ◌+◌, List, OnOk, find, option_and_then, sym, ◌∙◌, ap, subst, arith}
 use Rattle.step_code.specs.declared.rules.Facts.{Facts}
+use Rattle.step_code.specs.declared.step.StepKind.TheVariants as kind
 use Rattle.step_code.specs.After.{acted, after}
 use Rattle.step_code.specs.Content.{Shows}
 use Rattle.step_code.specs.Fits.{Fits}
 use Rattle.step_code.specs.Rules.{bot_named}
+use Rattle.step_code.specs.State.{is_dump}
 use Rattle.ack_steps.specs.Core.{HasSmallNumbers}
 use Rattle.core_state.specs.State.{state_of}
+use Rattle.ack_steps.proofs.Counted.{acted_keeps}
+use Rattle.ack_steps.proofs.Fewer.{redone_err, redone_number, redone_ok, sent_err, sent_ok}
 use Rattle.ack_steps.proofs.Kept.{marked_anew, marks_past, round_small, tries_small}
 use Rattle.ack_steps.proofs.pipeline_core.act.Goals as goal
 
@@ -44,3 +48,53 @@ pub returns-in-Collect-clause-ok : goal.returns-in-Collect-clause-ok
 returns-in-Collect-clause-ok g c =
     subst (λ what. OnOk c.collect.result (state_of c.collect.new.state ≡ acted g.R.Rules.meaning c.args.step.now.moment (state_of c.args.state.now) what)) (sym c.in-Collect.is)
     (c.collect.ensures.ok c.in-Collect.from)
+
+pub returns-in-Collect-clause-pushed : goal.returns-in-Collect-clause-pushed
+returns-in-Collect-clause-pushed g c = sent_ok c.collect.result c.args.state.now c.collect.new.state c.collect.ensures.pushed
+
+pub returns-in-Collect-clause-unsent : goal.returns-in-Collect-clause-unsent
+returns-in-Collect-clause-unsent g c = sent_err c.collect.result c.args.state.now c.collect.new.state c.collect.ensures.pushed c.collect.ensures.err
+
+pub returns-in-Take-clause-pushed : goal.returns-in-Take-clause-pushed
+returns-in-Take-clause-pushed g c = sent_ok c.take.result c.args.state.now c.take.new.state c.take.ensures.pushed
+
+pub returns-in-Take-clause-unsent : goal.returns-in-Take-clause-unsent
+returns-in-Take-clause-unsent g c = sent_err c.take.result c.args.state.now c.take.new.state c.take.ensures.pushed c.take.ensures.err
+
+pub returns-in-Done-clause-pushed : goal.returns-in-Done-clause-pushed
+returns-in-Done-clause-pushed g c = sent_ok c.done.result c.args.state.now c.done.new.state c.done.ensures.pushed
+
+pub returns-in-Done-clause-unsent : goal.returns-in-Done-clause-unsent
+returns-in-Done-clause-unsent g c = sent_err c.done.result c.args.state.now c.done.new.state c.done.ensures.pushed c.done.ensures.err
+
+pub returns-in-Fail-clause-pushed : goal.returns-in-Fail-clause-pushed
+returns-in-Fail-clause-pushed g c = sent_ok c.fail.result c.args.state.now c.fail.new.state c.fail.ensures.pushed
+
+pub returns-in-Fail-clause-unsent : goal.returns-in-Fail-clause-unsent
+returns-in-Fail-clause-unsent g c = sent_err c.fail.result c.args.state.now c.fail.new.state c.fail.ensures.pushed c.fail.ensures.err
+
+pub returns-in-Redo-clause-pushed : goal.returns-in-Redo-clause-pushed
+returns-in-Redo-clause-pushed g c =
+    let d = c.in-Redo.dump in
+    redone_ok c.redo.result c.args.state.now c.redo.new.state d (find (is_dump d) c.args.state.now.dumps.dumps) c.redo.ensures.ok c.redo.ensures.pushed
+
+pub returns-in-Redo-clause-unsent : goal.returns-in-Redo-clause-unsent
+returns-in-Redo-clause-unsent g c = redone_err c.redo.result c.args.state.now c.redo.new.state c.redo.ensures.unsent
+
+pub redo-requires : goal.redo-requires
+redo-requires g c =
+    let m = g.R.Rules.meaning in
+    let s = state_of c.args.state.now in
+    let now = c.args.step.now.moment in
+    let d = c.in-Redo.dump in
+    let small = subst (λ w. HasSmallNumbers (after m s (record { moment = now; what = w }))) c.in-Redo.is c.requires.small in
+    let steps = acted_keeps m now (record s { steps = s.steps + 1; latest = now }) (kind.Redo d) tt in
+    record { few = omega (arith, small.steps, steps.steps, small.messages, redone_number d (find (is_dump d) s.dumps) (record s { steps = s.steps + 1; latest = now }), c.requires.few) }
+
+pub collect-requires-clause-few : goal.collect-requires-clause-few
+collect-requires-clause-few g c =
+    let m = g.R.Rules.meaning in
+    let s = state_of c.args.state.now in
+    let now = c.args.step.now.moment in
+    let small = subst (λ w. HasSmallNumbers (after m s (record { moment = now; what = w }))) c.in-Collect.is c.requires.small in
+    omega (arith, small.steps, small.messages, c.requires.few)

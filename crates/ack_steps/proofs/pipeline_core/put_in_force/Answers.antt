@@ -47,3 +47,13 @@ returns-clause-orderly g c =
     let same = c.in-Ok-prepare.ensures.same in
     let whole = c.reload.ensures.reloaded ∙ (λ i. reloaded (before i) (bots i) (c.in-Ok-prepare.ensures.bundle i) (record (same i) { steps = (same i).steps + 1; latest = c.args.now })) in
     subst IsOrderly (sym whole) (orderly_after m s c.args.now (kind.Reload c.args.bundle.now) (c.requires.order (may_reload m s c.args.bundle.now c.args.now (g.R.Rules.bots_of c.in-Ok.coming) loads)) c.requires.orderly)
+
+pub returns-clause-few : goal.returns-clause-few
+returns-clause-few g c =
+    let same = c.in-Ok-prepare.ensures.same in
+    c.reload.ensures.few (omega (arith, c.requires.few, c.in-Ok-prepare.ensures.pushed, ap (λ (b : Base). b.next_message) same, ap (λ (b : Base). b.steps) same))
+
+pub returns-in_default-clause-few : goal.returns-in_default-clause-few
+returns-in_default-clause-few g c =
+    let same = c.prepare.ensures.same in
+    omega (arith, c.requires.few, c.prepare.ensures.pushed, ap (λ (b : Base). b.next_message) same, ap (λ (b : Base). b.steps) same)

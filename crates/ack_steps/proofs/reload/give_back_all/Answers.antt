@@ -19,4 +19,5 @@ bots-preserved c =
           ∙ sym (ap (λ l. all_given_back bots (instances_of l) s) next ∙ ap (λ l. all_given_back bots l s) (instances-first f rest) ∙ back-append bots (instances_of (f ∷ [])) (instances_of rest) s)
           ∙ c.bots.invariant.0,
       c.give_back_bot.ensures.same ∙ ap (λ (s : State). record s { broker = c.give_back_bot.new.state.broker }) c.bots.invariant.1,
+      c.give_back_bot.ensures.pushed ∙ c.bots.invariant.2,
     )

@@ -7,3 +7,4 @@ abbrev pub invariant-bots : goal.invariant-bots
 invariant-bots l =
     (all_given_back l.fn.bots (instances_of (drop l.facts-index l.fn.before)) (state_of l.state) ≡ all_given_back l.fn.bots (instances_of l.fn.before) (state_of l.fn.state))
     × (l.state ≡ record l.fn.state { broker = l.state.broker })
+    × (l.state.broker.pushed ≡ l.fn.state.broker.pushed)

@@ -14,4 +14,5 @@ instances-preserved c =
       ap (all_given_back bots (map named (falling (i - 1)))) c.give_back.ensures.given_back
           ∙ sym (ap (λ l. all_given_back bots (map named l) (state_of c.instances.state)) (falling_more i some)) ∙ c.instances.invariant.0,
       c.give_back.ensures.same ∙ ap (λ (s : State). record s { broker = c.give_back.new.state.broker }) c.instances.invariant.1,
+      c.give_back.ensures.pushed ∙ c.instances.invariant.2,
     )

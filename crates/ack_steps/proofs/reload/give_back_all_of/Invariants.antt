@@ -8,6 +8,7 @@ invariant-instances l =
     (all_given_back l.fn.bots (map (λ instance. (l.fn.bot, instance)) (falling l.instance)) (state_of l.state)
     ≡ all_given_back l.fn.bots (map (λ instance. (l.fn.bot, instance)) (falling l.fn.instances)) (state_of l.fn.state))
     × (l.state ≡ record l.fn.state { broker = l.state.broker })
+    × (l.state.broker.pushed ≡ l.fn.state.broker.pushed)
 
 abbrev pub decreases-instances : goal.decreases-instances
 decreases-instances l = l.instance

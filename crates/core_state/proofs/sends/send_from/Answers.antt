@@ -7,6 +7,9 @@ use Rattle.core_state.proofs.sends.send_from.Goals as goal
 pub send-requires-clause-spare : goal.send-requires-clause-spare
 send-requires-clause-spare c = omega (arith, ap length c.in-Some.ensures.steps.0, c.sends.invariant.5)
 
+pub send-requires-clause-few : goal.send-requires-clause-few
+send-requires-clause-few c = omega (arith, ap length c.in-Some.ensures.steps.0, c.sends.invariant.7, c.requires.few)
+
 pub send-requires-clause-place : goal.send-requires-clause-place
 send-requires-clause-place c =
     let send : List ℕ × List ℕ = (c.in-Some.queue, c.in-Some.body) in
@@ -29,4 +32,5 @@ sends-preserved c =
       ap (λ (v : BrokerView). v.hands) c.send.ensures ∙ c.sends.invariant.4,
       omega (arith, c.sends.invariant.5, fewer, ap (λ (v : BrokerView). v.spare) c.send.ensures),
       ap (λ (v : BrokerView). v.queue_room) c.send.ensures ∙ c.sends.invariant.6,
+      omega (arith, c.sends.invariant.7, fewer, ap (λ (v : BrokerView). v.pushed) c.send.ensures),
     )

@@ -11,3 +11,4 @@ invariant-sends l =
     × (l.broker.hands ≡ l.fn.broker.hands)
     × (length l.queue-iterator.rest.items ≤ l.broker.spare)
     × (l.broker.queue_room ≡ l.fn.broker.queue_room)
+    × (l.broker.pushed + length l.queue-iterator.rest.items ≡ l.fn.broker.pushed + length l.fn.sends.items)

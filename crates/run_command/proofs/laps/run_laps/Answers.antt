@@ -58,3 +58,6 @@ returns-in-Err-clause-undamaged g c = λ files told.
 pub returns-in-Err-clause-failed : goal.returns-in-Err-clause-failed
 returns-in-Err-clause-failed g c = λ name is.
     failed_since _ (g.H.Shelf.shelf c.args.shelf.now) (g.H.Shelf.shelf c.laps.shelf) _ name (c.laps.invariant.5 name) (c.lap-back.ensures.failed name (c.in-Err.is ∙ ap Err is))
+
+pub returns-in-Err-clause-counts : goal.returns-in-Err-clause-counts
+returns-in-Err-clause-counts g c = λ name. let a = c.laps.invariant.5 name in let b = c.lap-back.ensures.counts name in omega (arith, a, b)

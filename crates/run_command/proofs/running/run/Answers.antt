@@ -8,7 +8,7 @@ use Rattle.store_commands.specs.declared.end.StoreEnd.{StoreEnd}
 use Rattle.store_commands.specs.declared.end.StoreEnd.TheVariants as end
 use Rattle.drain_turns.specs.declared.end.TurnsEnd.{TurnsEnd}
 use Rattle.drain_turns.specs.declared.end.TurnsEnd.TheVariants as last
-use Rattle.drain_loop.specs.Calls.{outside}
+use Rattle.drain_loop.specs.Calls.{outside, IsUndamaged}
 use Rattle.drain_command.specs.Drained.{IsCallBy, IsToldEnd, MayEndDrain}
 use Rattle.drain_command.specs.Turned.{IsTurned}
 use Rattle.drain_command.proofs.Made.{drain_broken, drain_called, drain_closed, ends_closed, ends_finished, failed_beyond, reopened_so, still_runs, told_turns, Reopened}
@@ -97,3 +97,10 @@ returns-in-Err-clause-others g c = λ files told. left_closed files (c.in-Err.en
 
 pub returns-in-Err-clause-ends : goal.returns-in-Err-clause-ends
 returns-in-Err-clause-ends g c = subst MayEndDrain (sym c.end_of.ensures) (ends_closed g.R.Rules.meaning (g.D.Disk.disk c.args.disk).told c.in-Err.fault c.in-Err.ensures.fault)
+
+-- nothing is found to be damaged behind the opening
+
+pub returns-in-Damaged-clause-ran : goal.returns-in-Damaged-clause-ran
+returns-in-Damaged-clause-ran g c = λ files told.
+    let long = c.in-Ok.ensures.long files told in
+    absurd (subst IsUndamaged c.in-Damaged.is (c.run_turns-book.ensures.undamaged long.0 long.1))

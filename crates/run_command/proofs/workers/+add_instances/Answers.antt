@@ -1,4 +1,4 @@
-use Rattle.std.proofs.Common.{sym, subst, [], ◌∷◌}
+use Rattle.std.proofs.Common.{sym, subst}
 use Rattle.std.specs.List.{AllByRecursion}
 use Rattle.base_types.proofs.Everywhere.{all-append}
 use Rattle.run_command.specs.Fetched.{HasFetched}

@@ -25,6 +25,7 @@ invariant_of-self g c =
       call.orderly,
       held.0,
       held.1,
+      call.few,
     )
   where
     ok_always : {A E P : Type 0} (result : Result A E) → P → OnOk result P

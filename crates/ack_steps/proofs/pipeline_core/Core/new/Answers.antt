@@ -1,7 +1,8 @@
-use Rattle.std.proofs.Common.{sym, ◌∙◌, ap, subst}
+use Rattle.std.proofs.Common.{sym, ◌∙◌, ap, subst, arith}
 use Rattle.step_code.specs.declared.base.Base.{Base}
 use Rattle.step_code.specs.Rules.{IsPlanOf}
 use Rattle.ack_steps.specs.Core.{HasNearFeeds, HasSoundHands, IsOrderly}
+use Rattle.ack_steps.proofs.Fewer.{few_messages}
 use Rattle.ack_steps.proofs.Kept.{near_feeds, sound_caches, sound_hands, sound_orderly}
 use Rattle.ack_steps.proofs.pipeline_core.Core.new.Goals as goal
 
@@ -18,4 +19,5 @@ invariant_of-result g c =
       subst IsOrderly (sym same) (sound_orderly g.R.Rules.meaning c.args.base c.in_ok-plan.ensures.sound),
       subst (HasSoundHands g.R.Rules.meaning) (sym same) (sound_hands g.R.Rules.meaning c.args.base c.in_ok-plan.ensures.sound),
       subst HasNearFeeds (sym same) (near_feeds g.R.Rules.meaning c.args.base c.in_ok-plan.ensures.sound),
+      omega (arith, c.in_ok-from_base.ensures.pushed, few_messages g.R.Rules.meaning c.args.base c.in_ok-plan.ensures.sound, ap (λ (b : Base). b.next_message) same),
     )

@@ -10,4 +10,5 @@ invariant_of-self g c =
       record { dumps = orderly.dumps; rounds = orderly.rounds; marks = orderly.marks },
       record { queues = held.queues; hands = held.hands; each_hand = held.each_hand },
       c.self.invariant.5,
+      c.self.invariant.6,
     )

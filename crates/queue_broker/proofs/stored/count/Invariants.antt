@@ -1,7 +1,0 @@
-use Rattle.std.proofs.Common.{◌≡◌, ◌≤◌, take}
-use Rattle.queue_broker.specs.Broker.{total}
-use Rattle.queue_broker.specs.Kept.{most_nodes}
-use Rattle.queue_broker.proofs.stored.count.Given as goal
-
-abbrev pub invariant-queues : goal.invariant-queues
-invariant-queues l = (l.count ≡ total (take l.queue-index l.queues)) × (l.count ≤ most_nodes)
