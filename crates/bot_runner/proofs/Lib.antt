@@ -10,3 +10,4 @@ pub mod Counting
 pub mod Running
 pub mod Sends
 pub mod Slotted
+pub mod Calling

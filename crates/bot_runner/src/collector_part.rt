@@ -12,7 +12,7 @@ ghost use Rattle.bot_runner.specs.Feeds.{HasHeldFeed, HasLookedOn, IsAtFeed, IsR
 
 use crate::ends::{QUIET_LOOKS, why_of};
 use crate::outside::Outside;
-use crate::turns::take_turn;
+use crate::turns::{rest_behind, take_turn};
 use crate::{FeedSource, Why};
 use base_types::BotName;
 use book_lock::{BookLock, Seat};
@@ -143,7 +143,7 @@ fn rest<C, G: Gate>(
     if reading.quiet >= QUIET_LOOKS {
         return Some(Why::Quiet { at });
     }
-    outside.gate.rest(if idle { 0 } else { 1 });
+    rest_behind(outside.gate, reading.quiet, idle);
     None
 }
 

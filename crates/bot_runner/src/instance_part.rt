@@ -8,7 +8,7 @@ ghost use Rattle.bot_runner.specs.Parts.{HasActed, HasEnded, HasHeld, HasLooked,
 use crate::Why;
 use crate::ends::{QUIET_LOOKS, why_of};
 use crate::outside::Outside;
-use crate::turns::take_turn;
+use crate::turns::{rest_behind, take_turn};
 use base_types::{BotName, OutOfMemory};
 use book_lock::{BookLock, Seat};
 use edge_traits::{Clock, Disk, Gate, When};
@@ -122,7 +122,7 @@ fn act<T: Wait, D: Disk, R: Rules, C: Clock, G: Gate>(
             if work.quiet >= QUIET_LOOKS {
                 return (seat, Some(Why::Quiet { at }));
             }
-            outside.gate.rest(if idle { 0 } else { 1 });
+            rest_behind(outside.gate, work.quiet, idle);
             (seat, None)
         }
         Turned::Ended(end) => (seat, Some(why_of(end))),

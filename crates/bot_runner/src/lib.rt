@@ -10,8 +10,10 @@ mod outside;
 mod round;
 mod slots;
 mod turns;
+mod watching;
 mod worker;
 mod worker_part;
 
+pub use outside::Until;
 pub use round::run_round;
 pub use worker::{FeedSource, RoundEnd, Why, Worker, WorkerEnd};

@@ -2,13 +2,14 @@
 ghost use Rattle.std.specs.Prelude.{◌≡◌, ◌<◌, ◌≤◌, ◌+◌, ◌≢◌, ℕ, Option, List, [], false, None, IfOk, IfErr, IsSomeAnd, length, vec_len, vec_capacity};
 ghost use Rattle.std.specs.List.{AllByRecursion};
 ghost use Rattle.book_lock.specs.Seats.{knows, opening, IsSeatOf};
+ghost use Rattle.collector_feeds.specs.Open.{GoesOn};
 ghost use Rattle.bot_runner.specs.Round.{HasRun, WaiterEnds};
 ghost use Rattle.bot_runner.specs.Parts.{AreEach, HasEnded, HasWorked};
 ghost use Rattle.bot_runner.specs.declared.worker.Worker.{Worker};
 
 use crate::outside::Outside;
 use crate::slots::{Slot, Waiter, fill, gather, run_all};
-use crate::{RoundEnd, Why, Worker, WorkerEnd};
+use crate::{RoundEnd, Until, Why, Worker, WorkerEnd};
 use base_types::OutOfMemory;
 use book_lock::{BookLock, Seat};
 use edge_traits::{Clock, Disk, Gate, Source};
@@ -20,20 +21,21 @@ use std::thread::Threads;
 use step_code::Rules;
 
 /// Runs all workers until each of them has nothing to do or has to end: each on a thread of its own, or one after the other where no thread
-/// can be made. At most so many steps are made as are left.
+/// can be made. At most so many steps are made as are left, and where control grows the round ends.
 ///
 /// # Errors
 ///
 /// `OutOfMemory`, before the first step, with the book and the workers.
-pub fn run_round<T, D, R, S, C, G>(
+pub fn run_round<T, D, R, S, K, C, G>(
     rt: &T,
     alloc: Global,
     rules: &R,
     book: Book<D, R>,
     workers: Vec<Worker<S>>,
+    control: &mut K,
     clock: &C,
     gate: &G,
-    left: Option<u64>,
+    until: Until,
 ) -> Result<RoundEnd<D, R, S>, (OutOfMemory, Book<D, R>, Vec<Worker<S>>)>
 where
     T: Threads + Wait + Sync,
@@ -42,12 +44,14 @@ where
     R::Plan: Send,
     R::Work: Send,
     S: Source + Send,
+    K: Source,
     C: Clock + Sync,
     G: Gate + Sync,
     requires whole { book.broken ≡ false }
     requires few { length workers.items < 4294967296 }
-    ensures ok { IfOk result (λ r. HasRun D.disk S.source R.meaning (C.told clock.now) left book r.book workers.items r.ends.items) }
+    ensures ok { IfOk result (λ r. HasRun D.disk S.source R.meaning (C.told clock.now) until.left book r.book workers.items r.ends.items) }
     ensures err { IfErr result (λ e. (e.1 ≡ book) × (e.2.items ≡ workers.items)) }
+    ensures control { GoesOn (K.source control.old) (K.source control.new) }
 {
     let count = workers.len();
     let Ok(mut slots) = Vec::with_capacity(alloc, count) else {
@@ -69,7 +73,8 @@ where
         alloc,
         clock,
         gate,
-        left,
+        left: until.left,
+        control: until.control,
     };
     let seat = fill(&lock, seat, workers, &mut slots);
     let mut waiter = Waiter {
@@ -82,6 +87,7 @@ where
         &lock,
         slots.as_mut_slice(),
         &mut waiter,
+        control,
         &outside,
     );
     let Waiter { seat, why } = waiter;

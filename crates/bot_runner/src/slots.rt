@@ -2,6 +2,7 @@
 ghost use Rattle.std.specs.Prelude.{◌≡◌, ◌≢◌, ◌≤◌, ◌<◌, ◌+◌, ℕ, Option, List, [], length, slice_index_or, None, Some, IfSome, IsSomeAnd, vec_len, vec_capacity};
 ghost use Rattle.std.specs.List.{AllByRecursion};
 ghost use Rattle.book_lock.specs.Seats.{knows, opening, IsSeatOf};
+ghost use Rattle.collector_feeds.specs.Open.{GoesOn};
 ghost use Rattle.bot_runner.specs.Parts.{AreEach, HasEnded, HasJoined, HasWorked, IsNew};
 ghost use Rattle.bot_runner.specs.Round.{WaiterEnds};
 ghost use Rattle.bot_runner.specs.declared.worker.Worker.{Worker};
@@ -140,33 +141,36 @@ fn work_at<T: Wait, D: Disk, R: Rules, S: Source, C: Clock, G: Gate>(
 }
 
 // The part of who waits for the workers.
-fn wait_at<T: Wait, D: Disk, R: Rules, C: Clock, G: Gate>(
+fn wait_at<T: Wait, D: Disk, R: Rules, K: Source, C: Clock, G: Gate>(
     rt: &T,
     lock: &BookLock<Locked<D, R>>,
     waiter: &mut Waiter<Locked<D, R>>,
+    control: &mut K,
     outside: &Outside<'_, C, G>,
     counts: &Counts,
 )
     requires seat { IsSomeAnd waiter.old.seat (λ s. IsSeatOf lock.now s × IsNew R.meaning (opening lock.now) (knows s)) }
-    ensures { IfSome waiter.old.seat (λ old. IsSomeAnd waiter.new.seat (λ s. IsSeatOf lock.now s × ((knows s).parts ≡ (knows old).parts)
+    ensures waited { IfSome waiter.old.seat (λ old. IsSomeAnd waiter.new.seat (λ s. IsSeatOf lock.now s × ((knows s).parts ≡ (knows old).parts)
         × IsSomeAnd waiter.new.why (HasEnded R.meaning (λ s step. ⊥) None WaiterEnds (opening lock.now).opening (knows s) []))) }
+    ensures control { GoesOn (K.source control.old) (K.source control.new) }
 {
     let Some(seat) = waiter.seat.take() else {
         unreachable!()
     };
-    let (seat, why) = caller_part(rt, lock, seat, outside.gate, counts);
+    let (seat, why) = caller_part(rt, lock, seat, control, outside, counts);
     let before = waiter.seat.replace(seat);
     let None = before else { unreachable!() };
     waiter.why = Some(why);
 }
 
 // All workers, and who waits for them.
-pub(crate) fn run_all<T, D, R, S, C, G>(
+pub(crate) fn run_all<T, D, R, S, K, C, G>(
     rt: &T,
     rules: &R,
     lock: &BookLock<Locked<D, R>>,
     slots: &mut [Slot<Locked<D, R>, S>],
     waiter: &mut Waiter<Locked<D, R>>,
+    control: &mut K,
     outside: &Outside<'_, C, G>,
 )
 where
@@ -176,6 +180,7 @@ where
     R::Plan: Send,
     R::Work: Send,
     S: Source + Send,
+    K: Source,
     C: Clock + Sync,
     G: Gate + Sync,
     requires worker { (i : ℕ) (d : _) → i < length slots.old → (slice_index_or slots.old i d).worker ≢ None }
@@ -186,17 +191,18 @@ where
         × IsSomeAnd (slice_index_or slots.new i d).end (HasWorked S.source R.meaning (C.told outside.now.clock.now) outside.now.left (opening lock.now).opening worker (knows s)))) × ((slice_index_or slots.new i d).worker ≡ None) }
     ensures waited { IfSome waiter.old.seat (λ old. IsSomeAnd waiter.new.seat (λ s. IsSeatOf lock.now s × ((knows s).parts ≡ (knows old).parts)
         × IsSomeAnd waiter.new.why (HasEnded R.meaning (λ s step. ⊥) None WaiterEnds (opening lock.now).opening (knows s) []))) }
+    ensures control { GoesOn (K.source control.old) (K.source control.new) }
 {
     let counts = Counts {
         all: slots.len(),
         began: AtomicU64::new(0),
         ended: AtomicU64::new(0),
     };
-    run_both(rt, rules, lock, outside, &counts, slots, waiter);
+    run_both(rt, rules, lock, outside, &counts, slots, waiter, control);
 }
 
 // The workers on threads, and who waits for them on this one. All that the two are lent is a parameter.
-fn run_both<T, D, R, S, C, G>(
+fn run_both<T, D, R, S, K, C, G>(
     rt: &T,
     rules: &R,
     lock: &BookLock<Locked<D, R>>,
@@ -204,6 +210,7 @@ fn run_both<T, D, R, S, C, G>(
     counts: &Counts,
     slots: &mut [Slot<Locked<D, R>, S>],
     waiter: &mut Waiter<Locked<D, R>>,
+    control: &mut K,
 )
 where
     T: Threads + Wait + Sync,
@@ -212,6 +219,7 @@ where
     R::Plan: Send,
     R::Work: Send,
     S: Source + Send,
+    K: Source,
     C: Clock + Sync,
     G: Gate + Sync,
     requires worker { (i : ℕ) (d : _) → i < length slots.old → (slice_index_or slots.old i d).worker ≢ None }
@@ -222,6 +230,7 @@ where
         × IsSomeAnd (slice_index_or slots.new i d).end (HasWorked S.source R.meaning (C.told outside.now.clock.now) outside.now.left (opening lock.now).opening worker (knows s)))) × ((slice_index_or slots.new i d).worker ≡ None) }
     ensures waited { IfSome waiter.old.seat (λ old. IsSomeAnd waiter.new.seat (λ s. IsSeatOf lock.now s × ((knows s).parts ≡ (knows old).parts)
         × IsSomeAnd waiter.new.why (HasEnded R.meaning (λ s step. ⊥) None WaiterEnds (opening lock.now).opening (knows s) []))) }
+    ensures control { GoesOn (K.source control.old) (K.source control.new) }
 {
     call_each_beside(
         rt,
@@ -230,12 +239,14 @@ where
             ensures { IfSome slot.old.worker (λ worker. IsSomeAnd slot.new.seat (λ s. IsSeatOf lock.entry.now s × ((knows s).parts ≡ 1)
                 × IsSomeAnd slot.new.end (HasWorked S.source R.meaning (C.told outside.entry.now.clock.now) outside.entry.now.left (opening lock.entry.now).opening worker (knows s)))) × (slot.new.worker ≡ None) }
         { work_at(rt, rules, lock, slot, outside, counts) },
-        &|waiter: &mut Waiter<Locked<D, R>>|
+        &|waiter: &mut Waiter<Locked<D, R>>, control: &mut K|
             requires { IsSomeAnd waiter.old.seat (λ s. IsSeatOf lock.now s × IsNew R.meaning (opening lock.now) (knows s)) }
             ensures { IfSome waiter.old.seat (λ old. IsSomeAnd waiter.new.seat (λ s. IsSeatOf lock.entry.now s × ((knows s).parts ≡ (knows old).parts)
-                × IsSomeAnd waiter.new.why (HasEnded R.meaning (λ s step. ⊥) None WaiterEnds (opening lock.entry.now).opening (knows s) []))) }
-        { wait_at(rt, lock, waiter, outside, counts) },
+                × IsSomeAnd waiter.new.why (HasEnded R.meaning (λ s step. ⊥) None WaiterEnds (opening lock.entry.now).opening (knows s) [])))
+                × GoesOn (K.source control.old) (K.source control.new) }
+        { wait_at(rt, lock, waiter, control, outside, counts) },
         slots,
         waiter,
+        control,
     );
 }

@@ -5,12 +5,16 @@ use Rattle.std.specs.Str.{bytes_eq}
 use Rattle.std.specs.Borrow.{Bor}
 use Rattle.command_words.specs.Command as asked
 use Rattle.command_words.specs.declared.command.Ask.{Ask}
+use Rattle.command_words.specs.declared.command.Run.{Run}
 use Rattle.command_words.specs.declared.command.Command.{Command}
 use Rattle.command_words.specs.declared.command.Command.TheVariants as command
 
 -- the words that an ask lends are texts
 abbrev pub ask_of : Ask → asked.Ask
 ask_of a = record { steps = a.steps; reload = option_map (λ name. name.now) a.reload; round = a.round }
+
+abbrev pub run_asked : Run → asked.Run
+run_asked r = record { ask = ask_of r.ask; stay = r.stay }
 
 abbrev pub asked_of : Command → asked.Command
 asked_of (command.Convert feed) = asked.Convert feed.now

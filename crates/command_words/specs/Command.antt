@@ -7,6 +7,11 @@ pub record Ask : Type 0 where
   pub reload : Option (List ℕ)
   pub round : Bool
 
+-- the same on threads, and whether it goes on where nothing is left to do
+pub record Run : Type 0 where
+  pub ask : Ask
+  pub stay : Bool
+
 pub data Command : Type 0 where
   Convert : (feed : List ℕ) → Command
   Check : (bundle : List ℕ) → Command

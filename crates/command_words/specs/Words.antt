@@ -3,7 +3,7 @@ use Rattle.std.specs.Prelude.{ℕ, ◌&&◌, Bool, true, false, List, [], ◌∷
 use Rattle.std.specs.List.{list_any}
 use Rattle.std.specs.Str.{bytes_eq}
 use Rattle.base_types.specs.Number.{last_u64}
-use Rattle.command_words.specs.Command.{Ask, Command, Convert, Check, Init, Drain, Status, Dumps, Audit, Redo, Drill}
+use Rattle.command_words.specs.Command.{Ask, Command, Run, Convert, Check, Init, Drain, Status, Dumps, Audit, Redo, Drill}
 use Rattle.command_words.specs.Values.{name_in, number_in, number_within}
 
 -- ---- pairs of a name and a value
@@ -28,10 +28,10 @@ abbrev pub optional : {A : Type 0} → (List ℕ → Option A) → Option (List 
 optional read None = Some None
 optional read (Some text) = option_map Some (read text)
 
--- whether `new` is given; no reading where it is another word
-abbrev pub round_in : Option (List ℕ) → Option Bool
-round_in None = Some false
-round_in (Some text) = if bytes_eq text (codes "new") then Some true else None
+-- whether this word is given; no reading where it is another
+abbrev pub is_given : List ℕ → Option (List ℕ) → Option Bool
+is_given word None = Some false
+is_given word (Some text) = if bytes_eq text word then Some true else None
 
 -- ---- commands
 
@@ -65,15 +65,25 @@ abbrev pub ask_by : Option (Option ℕ) → Option (Option (List ℕ)) → Optio
 ask_by (Some steps) (Some reload) (Some round) = Some (record { steps = steps; reload = reload; round = round })
 ask_by _ _ _ = None
 
--- what pairs ask of bots that are to run
+-- what pairs ask of bots that are to run, whose names are right
 abbrev pub ask_in : List (List ℕ) → Option Ask
 ask_in pairs =
-    if are_pairs_of (codes "--steps" ∷ codes "--reload" ∷ codes "--round" ∷ []) pairs
-    then ask_by
+    ask_by
     (optional (number_within 1 last_u64) (value_of (codes "--steps") pairs))
     (optional name_in (value_of (codes "--reload") pairs))
-    (round_in (value_of (codes "--round") pairs))
-    else None
+    (is_given (codes "new") (value_of (codes "--round") pairs))
+
+abbrev pub drain : List (List ℕ) → Option Command
+drain pairs = if are_pairs_of (codes "--steps" ∷ codes "--reload" ∷ codes "--round" ∷ []) pairs then option_map Drain (ask_in pairs) else None
+
+abbrev pub run_by : Option Ask → Option Bool → Option Run
+run_by (Some ask) (Some stay) = Some (record { ask = ask; stay = stay })
+run_by _ _ = None
+
+-- what pairs ask of bots that run on threads
+abbrev pub run : List (List ℕ) → Option Run
+run pairs =
+    if are_pairs_of (codes "--steps" ∷ codes "--reload" ∷ codes "--round" ∷ codes "--stay" ∷ []) pairs then run_by (ask_in pairs) (is_given (codes "yes") (value_of (codes "--stay") pairs)) else None
 
 -- the command of a word with these pairs, if it is one
 abbrev pub command_with : List ℕ → List (List ℕ) → Option Command
@@ -81,7 +91,7 @@ command_with word pairs =
     if bytes_eq word (codes "convert") then option_map Convert (file_named (codes "--feed") pairs)
     else if bytes_eq word (codes "check") then option_map Check (file_named (codes "--bundle") pairs)
     else if bytes_eq word (codes "init") then option_map Init (file_named (codes "--bundle") pairs)
-    else if bytes_eq word (codes "drain") then option_map Drain (ask_in pairs)
+    else if bytes_eq word (codes "drain") then drain pairs
     else if bytes_eq word (codes "status") then alone Status pairs
     else if bytes_eq word (codes "dumps") then alone Dumps pairs
     else if bytes_eq word (codes "audit") then alone Audit pairs
@@ -94,7 +104,7 @@ abbrev pub command_of : List (List ℕ) → Option Command
 command_of [] = None
 command_of (word ∷ pairs) = command_with word pairs
 
--- what bots are asked for that run on threads, if the words are so: `run`, and behind it the pairs of a drain
-abbrev pub run_of : List (List ℕ) → Option Ask
+-- what bots are asked for that run on threads, if the words are so: `run`, and behind it the pairs of a drain, or `--stay`
+abbrev pub run_of : List (List ℕ) → Option Run
 run_of [] = None
-run_of (word ∷ pairs) = if bytes_eq word (codes "run") then ask_in pairs else None
+run_of (word ∷ pairs) = if bytes_eq word (codes "run") then run pairs else None

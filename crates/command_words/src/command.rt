@@ -11,6 +11,14 @@ pub struct Ask<'w> {
     pub round: bool,
 }
 
+/// What `run` is asked for.
+#[derive(Clone, Copy, Debug)]
+pub struct Run<'w> {
+    pub ask: Ask<'w>,
+    /// Whether it goes on where nothing is left to do.
+    pub stay: bool,
+}
+
 /// A command of the program, with the names of files that it was given.
 #[derive(Clone, Copy, Debug)]
 pub enum Command<'w> {

@@ -6,5 +6,5 @@ mod pairs;
 mod value;
 mod words;
 
-pub use command::{Ask, Command};
+pub use command::{Ask, Command, Run};
 pub use words::{command_of, run_of};

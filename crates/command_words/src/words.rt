@@ -1,12 +1,11 @@
 ghost use Rattle.std.specs.Prelude.{◌≡◌, codes, true, None, is_some, option_map};
 ghost use Rattle.std.specs.Option.{option_copied};
 ghost use Rattle.base_types.specs.Number.{last_u64};
-ghost use Rattle.command_words.specs.Asked.{ask_of, asked_of};
-ghost use Rattle.command_words.specs.Command.{Drain};
+ghost use Rattle.command_words.specs.Asked.{ask_of, asked_of, run_asked};
 ghost use Rattle.command_words.specs.Values.{name_in, number_within};
-ghost use Rattle.command_words.specs.Words.{alone, ask_in, command_of, command_with, drill, file_named, optional, redo, round_in, run_of, value_of};
+ghost use Rattle.command_words.specs.Words.{alone, ask_in, command_of, command_with, drain, drill, file_named, optional, redo, run, run_of, value_of, is_given};
 
-use crate::command::{Ask, Command};
+use crate::command::{Ask, Command, Run};
 use crate::pairs::{are_pairs, value_of};
 use crate::value::{name_in, number_in, number_within};
 use base_types::Text;
@@ -62,34 +61,47 @@ fn reload_of(pairs: &[Text]) -> Option<Option<&Text>>
     }
 }
 
-fn round_of(pairs: &[Text]) -> Option<bool>
-    ensures { result ≡ round_in (value_of (codes "--round") pairs.now) }
+// Whether the pair of this name has this word.
+fn is_given(pairs: &[Text], name: &str, word: &str) -> Option<bool>
+    ensures { result ≡ is_given word.now (value_of name.now pairs.now) }
 {
-    match value_of(pairs, "--round") {
-        Some(text) if text.as_str() == "new" => Some(true),
+    match value_of(pairs, name) {
+        Some(text) if text.as_str() == word => Some(true),
         Some(_) => None,
         None => Some(false),
     }
 }
 
-// What bots are asked for that are to run.
+// What pairs ask of bots that are to run, whose names are right.
 fn ask_in(pairs: &[Text]) -> Option<Ask<'_>>
     ensures { option_map ask_of result ≡ ask_in pairs.now }
 {
-    if !are_pairs(pairs, &["--steps", "--reload", "--round"]) {
-        return None;
-    }
     Some(Ask {
         steps: steps_of(pairs)?,
         reload: reload_of(pairs)?,
-        round: round_of(pairs)?,
+        round: is_given(pairs, "--round", "new")?,
     })
 }
 
 fn drain(pairs: &[Text]) -> Option<Command<'_>>
-    ensures { option_map asked_of result ≡ option_map Drain (ask_in pairs.now) }
+    ensures { option_map asked_of result ≡ drain pairs.now }
 {
+    if !are_pairs(pairs, &["--steps", "--reload", "--round"]) {
+        return None;
+    }
     Some(Command::Drain(ask_in(pairs)?))
+}
+
+fn run(pairs: &[Text]) -> Option<Run<'_>>
+    ensures { option_map run_asked result ≡ run pairs.now }
+{
+    if !are_pairs(pairs, &["--steps", "--reload", "--round", "--stay"]) {
+        return None;
+    }
+    Some(Run {
+        ask: ask_in(pairs)?,
+        stay: is_given(pairs, "--stay", "yes")?,
+    })
 }
 
 fn alone<'w>(pairs: &[Text], command: Command<'w>) -> Option<Command<'w>>
@@ -138,15 +150,15 @@ pub fn command_of(words: &[Text]) -> Option<Command<'_>>
 
 /// What bots are asked for that run on threads, or nothing where the words are others than `run` and its pairs. They are no command.
 /// No file is looked at.
-pub fn run_of(words: &[Text]) -> Option<Ask<'_>>
-    ensures asked { option_map ask_of result ≡ run_of words.now }
+pub fn run_of(words: &[Text]) -> Option<Run<'_>>
+    ensures asked { option_map run_asked result ≡ run_of words.now }
     ensures apart { is_some (run_of words.now) ≡ true → command_of words.now ≡ None }
 {
     match words {
         [] => None,
         [word, pairs @ ..] => {
             if word.as_str() == "run" {
-                ask_in(pairs)
+                run(pairs)
             } else {
                 None
             }

@@ -1,5 +1,5 @@
 -- What commands leave of the history that all generations of a store hold.
-use Rattle.std.proofs.Common.{◌≡◌, ⊎_elim, ◌++◌, ℕ, true, List, [], ◌∷◌, Option, Result, Ok, Err, refl, sym, ap, subst, ◌∙◌, take, drop, append_assoc, MatchResult}
+use Rattle.std.proofs.Common.{◌≡◌, ◌⊎◌, ⊎_elim, inl, inr, ◌++◌, ℕ, true, List, [], ◌∷◌, Option, Result, Ok, Err, refl, sym, ap, subst, ◌∙◌, take, drop, append_assoc, MatchResult}
 use Rattle.std.proofs.lemmas.List.{append-nil}
 use Rattle.edge_traits.specs.Disk.{DiskView, Image, IsImage}
 use Rattle.edge_traits.specs.Shelf.{ShelfView}
@@ -30,7 +30,11 @@ use Rattle.drain_command.specs.declared.draining.Asked.{Asked}
 use Rattle.command_words.specs.Command as asked
 use Rattle.bundle_bringing.specs.declared.bringing.Unbrought.{Unbrought}
 use Rattle.status_texts.specs.declared.status.Status.{Status}
-use Rattle.pipeline_top.specs.Commands.{IsAuditedBy, IsDrilled, IsDrillEnd, IsInit, IsMadeOf, IsRedoneBy, IsRunAs, IsRunBy, IsShownBy, IsUndrained, IsUnmade}
+use Rattle.pipeline_top.specs.Commands.{IsAuditedBy, IsDrilled, IsDrillEnd, IsInit, IsMadeOf, IsAtWork, IsDrainedBy, IsRedoneBy, IsRunBy, IsShownBy, IsUndrained, IsUnmade}
+use Rattle.live_reload.specs.Followed.{orders_in}
+use Rattle.live_reload.specs.declared.end.OrdersEnd.TheVariants as orders
+use Rattle.run_command.specs.Runs.{RunsSo}
+use Rattle.run_command.specs.Said.{IsUnanswered}
 use Rattle.pipeline_top.specs.History.{KeepsHistory, LeavesHistory}
 use Rattle.pipeline_top.specs.Outside.{Seen}
 use Rattle.pipeline_top.proofs.Still.{still_here}
@@ -96,16 +100,33 @@ module _ {D : Type 0} (disk : D → DiskView) (Makes : Outside → Place → Lis
   kept_call (Err (ended.Spent next)) before after call = absurd call
   kept_call (Err (ended.Full bytes)) before after call = absurd call
 
-kept_run_by : {D : Type 0} (disk : D → DiskView) (Makes : Outside → Place → List Step → TurnsEnd → Type 0) (ask : asked.Ask) (seen : Seen) (end : Status) (old new : DiskView) (bundle : Option (List ℕ)) → IsRunBy disk Makes ask seen end old new bundle → KeepsHistory intel old new
-kept_run_by disk Makes ask seen end old new bundle is = λ first steps more was.
-    kept_call disk Makes (outside intel is.shelf seen.clock most_step_bytes) seen.shelf_now was.files (record { opening = record { bundle = bundle; rounds = ask.round }; left = ask.steps }) old new is.done seen.sink seen.sink_now
-    (is.ran was.files was.tells) first steps more was
+pub kept_drained_by : {D : Type 0} (disk : D → DiskView) (ask : asked.Ask) (seen : Seen) (end : Status) (old new : DiskView) (bundle : Option (List ℕ)) → IsDrainedBy disk ask seen end old new bundle → KeepsHistory intel old new
+kept_drained_by disk ask seen end old new bundle is = λ first steps more was.
+    kept_call disk Drains (outside intel is.shelf seen.clock most_step_bytes) seen.shelf_now was.files (record { opening = record { bundle = bundle; rounds = ask.round }; left = ask.steps }) old new is.done seen.sink seen.sink_now
+    (is.drained was.files was.tells) first steps more was
 
-pub kept_by_run : {D : Type 0} (disk : D → DiskView) (Makes : Outside → Place → List Step → TurnsEnd → Type 0) (ask : asked.Ask) (seen : Seen) (old new : DiskView) (end : Status) → IsRunAs disk Makes ask seen old new end → KeepsHistory intel old new
-kept_by_run disk Makes ask seen old new end is = go is.named is.done
+module _ {D : Type 0} (disk : D → DiskView) (control : Option (List ℕ)) (ask : asked.Run) (seen : Seen) (end : Status) (old new : DiskView) (bundle : Option (List ℕ)) (is : IsRunBy disk control ask seen end old new bundle) where
+  abbrev asks : Asked
+  asks = record { opening = record { bundle = bundle; rounds = ask.ask.round }; left = ask.ask.steps }
+
+  abbrev out : Outside
+  out = outside intel is.shelf seen.clock most_step_bytes
+
+  abbrev makes : Outside → Place → List Step → TurnsEnd → Type 0
+  makes = RunsSo is.steps is.by (orders_in is.ran.lines)
+
+  kept_run : (files : Image) → IsCallBy disk makes out seen.shelf_now files asks old new is.done is.ran.mid seen.sink_now ⊎ ((is.by ≡ orders.Sink) × (is.done ≡ Err ended.Sink) × IsUnanswered disk makes out files asks old new is.ran.mid seen.sink_now) → KeepsHistory intel old new
+  kept_run files (inl call) = kept_call disk makes out seen.shelf_now files asks old new is.done is.ran.mid seen.sink_now call
+  kept_run files (inr (by, failed, unanswered)) = kept_called disk makes out seen.shelf_now files asks old new unanswered.why unanswered.called
+
+  pub kept_run_by : KeepsHistory intel old new
+  kept_run_by = λ first steps more was. kept_run was.files (is.ran.call was.files was.tells) first steps more was
+
+pub kept_at_work : (Works : Option (List ℕ) → Type 0) (reload : Option (List ℕ)) (seen : Seen) (old new : DiskView) (end : Status) → ((bundle : Option (List ℕ)) → Works bundle → KeepsHistory intel old new) → IsAtWork Works reload seen old new end → KeepsHistory intel old new
+kept_at_work Works reload seen old new end each is = go is.named is.done
   where
-    go : (named : Result (Option (List ℕ)) Unbrought) → MatchResult named (IsRunBy disk Makes ask seen end old new) (IsUndrained seen end old new) → KeepsHistory intel old new
-    go (Ok bundle) done = kept_run_by disk Makes ask seen end old new bundle done
+    go : (named : Result (Option (List ℕ)) Unbrought) → MatchResult named Works (IsUndrained seen end old new) → KeepsHistory intel old new
+    go (Ok bundle) done = each bundle done
     go (Err why) done = kept_still intel old new done.still
 
 -- ---- other commands on a store
@@ -152,7 +173,7 @@ module _ {D : Type 0} (disk : D → DiskView) (lines number : ℕ) (seen : Seen)
   kept_undrilled same = subst (λ d. LeavesHistory steps (disk old) (disk d)) (sym same) made
 
   kept_drill : (making : StoreEnd) → IsDrillEnd disk lines number seen mid new end making → LeavesHistory steps (disk old) (disk new)
-  kept_drill ended.Done is = kept_further steps (disk old) (disk mid) (disk new) made (kept_run_by disk Drains _ _ end (disk mid) (disk new) _ is first steps more now)
+  kept_drill ended.Done is = kept_further steps (disk old) (disk mid) (disk new) made (kept_drained_by disk _ _ end (disk mid) (disk new) _ is first steps more now)
   kept_drill ended.Memory is = kept_undrilled is.1
   kept_drill ended.Disk is = kept_undrilled is.1
   kept_drill ended.Sink is = kept_undrilled is.1

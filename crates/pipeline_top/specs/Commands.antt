@@ -1,5 +1,5 @@
 -- What the program does for each command.
-use Rattle.std.specs.Prelude.{◌≡◌, ◌⊎◌, ◌<◌, ◌≤◌, ◌++◌, ◌||◌, ℕ, Bool, true, false, List, [], length, codes, decimal, Option, Some, None, is_some, MatchOption, Result, IfErr, MatchResult, ⊤}
+use Rattle.std.specs.Prelude.{◌≡◌, ◌≢◌, ◌⊎◌, ◌<◌, ◌≤◌, ◌++◌, ◌||◌, ℕ, Bool, true, false, List, [], length, codes, decimal, Option, Some, None, is_some, MatchOption, Result, Ok, IfErr, MatchResult, ⊤}
 use Rattle.edge_traits.specs.Disk.{DiskView, Image}
 use Rattle.edge_traits.specs.Shelf.{ShelfView, content_of, count_on, lacks}
 use Rattle.edge_traits.specs.Sink.{Took}
@@ -23,11 +23,11 @@ use Rattle.store_commands.specs.declared.end.StoreEnd.TheVariants as ended
 use Rattle.store_commands.specs.declared.printing.Shown.{Shown}
 use Rattle.store_commands.specs.declared.printing.Shown.TheVariants as shown
 use Rattle.drain_loop.specs.Calls.{outside}
-use Rattle.drain_turns.specs.Drained.{Drains, Place}
-use Rattle.drain_turns.specs.Turn.{Outside}
 use Rattle.drain_turns.specs.declared.end.TurnsEnd.{TurnsEnd}
-use Rattle.drain_command.specs.Drained.{IsCallBy, MayEndDrain}
-use Rattle.run_command.specs.Runs.{Runs}
+use Rattle.drain_turns.specs.declared.end.TurnsEnd.TheVariants as turns
+use Rattle.drain_command.specs.Drained.{IsDrainCall, MayEndDrain}
+use Rattle.live_reload.specs.declared.end.OrdersEnd.{OrdersEnd}
+use Rattle.run_command.specs.Said as run
 use Rattle.audit_command.specs.Audited.{IsAuditOf}
 use Rattle.audit_command.specs.declared.end.AuditEnd.{AuditEnd}
 use Rattle.feed_maker.specs.Drill.{drill_bundle, drill_shelf}
@@ -37,7 +37,7 @@ use Rattle.bundle_bringing.specs.Brought.{Brings, Names}
 use Rattle.bundle_bringing.specs.declared.bringing.Unbrought.{Unbrought}
 use Rattle.pipeline_top.specs.Convert.{conversion, convert_bot, end_of, IsOutside, Wrote}
 use Rattle.pipeline_top.specs.Outside.{Seen}
-use Rattle.pipeline_top.specs.Statuses.{audit_status, behind_store, drain_status, is_said, store_status, unbrought_status}
+use Rattle.pipeline_top.specs.Statuses.{audit_status, behind_store, drain_status, is_said, store_status, unbrought_status, IsRunEnd}
 use Rattle.status_texts.specs.declared.status.FeedWhy.TheVariants.{Absent}
 use Rattle.status_texts.specs.declared.status.Status.{Status}
 use Rattle.status_texts.specs.declared.status.Status.TheVariants as status
@@ -111,16 +111,30 @@ pub record IsInit (name : List ℕ) (seen : Seen) (old new : DiskView) (end : St
   pub brings : Brings seen.shelf name brought
   pub done : MatchResult brought (IsMadeOf seen end old new) (IsUnmade seen end old new)
 
--- the bots of the store ran, their steps made as `Makes` tells: with the bundle of this code put in force, if one is named. What was
--- fetched of the bundle may have raised the shelf's counts before the turns
-pub record IsRunBy {D : Type 0} (disk : D → DiskView) (Makes : Outside → Place → List Step → TurnsEnd → Type 0) (ask : asked.Ask) (seen : Seen) (end : Status) (old new : DiskView) (bundle : Option (List ℕ)) : Type 0 where
+-- the store was drained, its steps made one by one as they were due, on one thread: with the bundle of this code put in force, if one is
+-- named. What was fetched of the bundle may have raised the shelf's counts before the turns
+pub record IsDrainedBy {D : Type 0} (disk : D → DiskView) (ask : asked.Ask) (seen : Seen) (end : Status) (old new : DiskView) (bundle : Option (List ℕ)) : Type 0 where
   pub done : Result TurnsEnd StoreEnd
   pub ends : IfErr done MayEndDrain
   pub end_is : end ≡ drain_status ask.steps done
   pub shelf : ShelfView
   pub same_shelf : shelf.told ≡ seen.shelf.told
   pub counts : (name : List ℕ) → count_on seen.shelf name ≤ count_on shelf name
-  pub ran : WhereTold old (λ files. IsCallBy disk Makes (outside intel shelf seen.clock most_step_bytes) seen.shelf_now files (record { opening = record { bundle = bundle; rounds = ask.round }; left = ask.steps }) old new done seen.sink seen.sink_now)
+  pub drained : WhereTold old (λ files. IsDrainCall disk (outside intel shelf seen.clock most_step_bytes) seen.shelf_now files (record { opening = record { bundle = bundle; rounds = ask.round }; left = ask.steps }) old new done seen.sink seen.sink_now)
+  pub others : WhereTold old (λ files. LeavesAlone old new (IsEarlierIn files))
+
+-- its bots ran on threads, and control was followed: with the bundle of this code put in force, if one is named
+pub record IsRunBy {D : Type 0} (disk : D → DiskView) (control : Option (List ℕ)) (ask : asked.Run) (seen : Seen) (end : Status) (old new : DiskView) (bundle : Option (List ℕ)) : Type 0 where
+  pub steps : ℕ
+  pub by : OrdersEnd
+  pub done : Result TurnsEnd StoreEnd
+  pub ends : IfErr done MayEndDrain
+  pub end_is : IsRunEnd steps by done end
+  pub stays : ask.stay ≡ true → done ≢ Ok turns.Idle
+  pub shelf : ShelfView
+  pub same_shelf : shelf.told ≡ seen.shelf.told
+  pub counts : (name : List ℕ) → count_on seen.shelf name ≤ count_on shelf name
+  pub ran : run.IsRun disk control (outside intel shelf seen.clock most_step_bytes) seen.shelf_now (record { opening = record { bundle = bundle; rounds = ask.ask.round }; left = ask.ask.steps }) steps by old new done seen.sink seen.sink_now
   pub others : WhereTold old (λ files. LeavesAlone old new (IsEarlierIn files))
 
 -- the bundle wasn't brought: that is told after what opening the store comes to, and no step is made
@@ -132,21 +146,17 @@ pub record IsUndrained (seen : Seen) (end : Status) (old new : DiskView) (why : 
   pub still : IsStill old new
   pub others : WhereTold old (λ files. LeavesAlone old new (IsEarlierIn files))
 
-pub record IsRunAs {D : Type 0} (disk : D → DiskView) (Makes : Outside → Place → List Step → TurnsEnd → Type 0) (ask : asked.Ask) (seen : Seen) (old new : DiskView) (end : Status) : Type 0 where
+-- the bundle is brought that is named, if one is, and then bots work
+pub record IsAtWork (Works : Option (List ℕ) → Type 0) (reload : Option (List ℕ)) (seen : Seen) (old new : DiskView) (end : Status) : Type 0 where
   pub named : Result (Option (List ℕ)) Unbrought
-  pub names : Names seen.shelf ask.reload named
-  pub done : MatchResult named (IsRunBy disk Makes ask seen end old new) (IsUndrained seen end old new)
-
--- the store was drained: its steps were made one by one as they were due, on one thread
-abbrev pub IsDrainedBy : {D : Type 0} → (D → DiskView) → asked.Ask → Seen → Status → DiskView → DiskView → Option (List ℕ) → Type 0
-IsDrainedBy disk = IsRunBy disk Drains
+  pub names : Names seen.shelf reload named
+  pub done : MatchResult named Works (IsUndrained seen end old new)
 
 abbrev pub IsDrained : {D : Type 0} → (D → DiskView) → asked.Ask → Seen → DiskView → DiskView → Status → Type 0
-IsDrained disk = IsRunAs disk Drains
+IsDrained disk ask seen old new end = IsAtWork (IsDrainedBy disk ask seen end old new) ask.reload seen old new end
 
--- its bots ran on threads
-abbrev pub IsRun : {D : Type 0} → (D → DiskView) → asked.Ask → Seen → DiskView → DiskView → Status → Type 0
-IsRun disk = IsRunAs disk Runs
+abbrev pub IsRun : {D : Type 0} → (D → DiskView) → Option (List ℕ) → asked.Run → Seen → DiskView → DiskView → Status → Type 0
+IsRun disk control ask seen old new end = IsAtWork (IsRunBy disk control ask seen end old new) ask.ask.reload seen old new end
 
 -- a drill is a drain of all turns
 abbrev pub no_ask : asked.Ask
@@ -223,9 +233,9 @@ IsTool disk (Some asked.Audit) seen old new end = IsAuditedBy seen (disk old) (d
 IsTool disk (Some (asked.Redo dump)) seen old new end = IsRedoneBy disk dump seen (disk old) (disk new) end
 IsTool disk (Some (asked.Drill lines number)) seen old new end = IsDrilled disk lines number seen old new end
 
--- words that ask for bots on threads have them run; other words are a command, or none
-abbrev pub IsPipeline : {D : Type 0} → (D → DiskView) → List (List ℕ) → Seen → D → D → Status → Type 0
-IsPipeline disk words seen old new end = MatchOption (run_of words) (IsTool disk (command_of words) seen old new end) (λ ask. IsRun disk ask seen (disk old) (disk new) end)
+-- words that ask for bots on threads have them run, with what control tells; other words are a command, or none
+abbrev pub IsPipeline : {D : Type 0} → (D → DiskView) → List (List ℕ) → Option (List ℕ) → Seen → D → D → Status → Type 0
+IsPipeline disk words control seen old new end = MatchOption (run_of words) (IsTool disk (command_of words) seen old new end) (λ ask. IsRun disk control ask seen (disk old) (disk new) end)
 
 -- the words are a command, or ask for bots on threads
 abbrev pub is_pipeline : List (List ℕ) → Bool

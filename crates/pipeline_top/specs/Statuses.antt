@@ -1,11 +1,13 @@
 -- The statuses of commands, by what they came to.
-use Rattle.std.specs.Prelude.{ℕ, Bool, true, false, Option, unwrap_or, Result, Ok, Err}
+use Rattle.std.specs.Prelude.{◌≡◌, ◌⊎◌, ℕ, Bool, true, false, codes, Option, Some, unwrap_or, Result, Ok, Err}
 use Rattle.audit_command.specs.declared.end.AuditEnd.{AuditEnd}
 use Rattle.audit_command.specs.declared.end.AuditEnd.TheVariants as audit
 use Rattle.drain_turns.specs.declared.end.TurnsEnd.{TurnsEnd}
 use Rattle.drain_turns.specs.declared.end.TurnsEnd.TheVariants as turns
 use Rattle.store_commands.specs.declared.end.StoreEnd.{StoreEnd}
 use Rattle.store_commands.specs.declared.end.StoreEnd.TheVariants as end
+use Rattle.live_reload.specs.declared.end.OrdersEnd.{OrdersEnd}
+use Rattle.live_reload.specs.declared.end.OrdersEnd.TheVariants as orders
 use Rattle.bundle_bringing.specs.declared.bringing.Unbrought.{Unbrought}
 use Rattle.bundle_bringing.specs.declared.bringing.Unbrought.TheVariants as unbrought
 use Rattle.status_texts.specs.declared.status.FeedWhy.TheVariants as why
@@ -54,6 +56,12 @@ turns_status steps turns.Memory = status.Memory
 abbrev pub drain_status : Option ℕ → Result TurnsEnd StoreEnd → Status
 drain_status steps (Ok last) = turns_status steps last
 drain_status steps (Err done) = store_status done
+
+-- of a run that made so many steps, and to whose orders this came: control that failed has the name `control`, unless there was no memory for
+-- it
+abbrev pub IsRunEnd : ℕ → OrdersEnd → Result TurnsEnd StoreEnd → Status → Type 0
+IsRunEnd steps orders.Control (Ok turns.Left) end = (end ≡ status.Feed (codes "control") why.Failed) ⊎ (end ≡ status.Memory)
+IsRunEnd steps by done end = end ≡ drain_status (Some steps) done
 
 -- of a bundle that isn't brought
 abbrev pub unbrought_status : Unbrought → Status

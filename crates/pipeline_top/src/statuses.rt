@@ -1,11 +1,15 @@
 //! The statuses of commands, by what they came to.
-ghost use Rattle.std.specs.Prelude.{◌≡◌};
-ghost use Rattle.pipeline_top.specs.Statuses.{audit_status, behind_store, drain_status, is_said, store_status, turns_status, unbrought_status};
+ghost use Rattle.std.specs.Prelude.{◌≡◌, ◌⊎◌, codes};
+ghost use Rattle.pipeline_top.specs.Statuses.{audit_status, behind_store, drain_status, is_said, store_status, turns_status, unbrought_status, IsRunEnd};
+ghost use Rattle.status_texts.specs.declared.status.FeedWhy.TheVariants.{Failed};
 
 use crate::{FeedWhy, Status};
 use audit_command::AuditEnd;
+use base_types::Text;
 use bundle_bringing::Unbrought;
 use drain_turns::TurnsEnd;
+use live_reload::OrdersEnd;
+use std::alloc::Global;
 use store_commands::StoreEnd;
 
 /// Of a command on a store.
@@ -77,6 +81,34 @@ pub fn drain_status(steps: Option<u64>, end: Result<TurnsEnd, StoreEnd>) -> Stat
     match end {
         Ok(last) => turns_status(steps, last),
         Err(end) => store_status(end),
+    }
+}
+
+/// Of a run that made so many steps, and to whose orders this came.
+pub fn run_status(
+    alloc: Global,
+    steps: u64,
+    orders: OrdersEnd,
+    end: Result<TurnsEnd, StoreEnd>,
+) -> Status
+    ensures { IsRunEnd steps orders end result }
+{
+    match (orders, end) {
+        (OrdersEnd::Control, Ok(TurnsEnd::Left)) => control_failed(alloc),
+        (_, end) => drain_status(Some(steps), end),
+    }
+}
+
+// Control failed.
+fn control_failed(alloc: Global) -> Status
+    ensures { (result ≡ Status.Feed (codes "control") Failed) ⊎ (result ≡ Status.Memory) }
+{
+    match Text::new(alloc, b"control") {
+        Ok(name) => Status::Feed {
+            name,
+            why: FeedWhy::Failed,
+        },
+        Err(_) => Status::Memory,
     }
 }
 

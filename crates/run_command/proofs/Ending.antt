@@ -109,7 +109,7 @@ none_few None = tt
 none_few (Some n) = omega arith
 
 -- a turn worked, and where it ended, unless only since its one step was made, the call ends
-pub record HasTurned {D R : Type 0} (disk : D → DiskView) (o : Outside) (left : Option ℕ) (old new : BookView D R) (last : TurnsEnd) : Type 0 where
+pub record IsTurnWorked {D R : Type 0} (disk : D → DiskView) (o : Outside) (left : Option ℕ) (old new : BookView D R) (last : TurnsEnd) : Type 0 where
   pub worked : IsWorkedOn disk o left old new
   pub ends : (last ≡ end.Left → left_behind left (length worked.made) ≡ Some 0) → EndsAfter o left old.state worked.made last
 
@@ -118,10 +118,10 @@ abbrev now : Outside → ShelfView → Outside
 now o seen = record o { shelf = seen }
 
 module _ {D R : Type 0} {disk : D → DiskView} (o : Outside) (seen : ShelfView) (told : seen.told ≡ o.shelf.told) where
-  pub one_turned : (left : Option ℕ) (old new : BookView D R) (last : TurnsEnd) → AreSound (bots_in_force o.meaning old.state) → IsDrained disk (now o seen) (one_at_most left) old new last → HasTurned disk o left old new last
+  pub one_turned : (left : Option ℕ) (old new : BookView D R) (last : TurnsEnd) → AreSound (bots_in_force o.meaning old.state) → IsDrained disk (now o seen) (one_at_most left) old new last → IsTurnWorked disk o left old new last
   one_turned left old new last sound is = go is.made is.drains is.goes_on
     where
-      go : (made : List Step) → Drains (now o seen) (place_of old (one_at_most left)) made last → GoesOn disk o.meaning old new made → HasTurned disk o left old new last
+      go : (made : List Step) → Drains (now o seen) (place_of old (one_at_most left)) made last → GoesOn disk o.meaning old new made → IsTurnWorked disk o left old new last
       go [] ends goes_on = record {
         worked = record { made = []; goes_on = goes_on; own = tt; few = none_few left };
         ends = λ spent. record {
@@ -157,5 +157,5 @@ module _ {D R : Type 0} {disk : D → DiskView} (o : Outside) (seen : ShelfView)
           absurd (second.due.left (there.left ∙ none_behind left made.due.left))
 
 -- the call ends with a turn that didn't end only since its one step was made
-pub turned_off : {D R : Type 0} {disk : D → DiskView} (o : Outside) (left : Option ℕ) (old new : BookView D R) (last : TurnsEnd) (turned : HasTurned disk o left old new last) → (last ≡ end.Left → left_behind left (length turned.worked.made) ≡ Some 0) → HasLapped disk o left old new (Err last)
+pub turned_off : {D R : Type 0} {disk : D → DiskView} (o : Outside) (left : Option ℕ) (old new : BookView D R) (last : TurnsEnd) (turned : IsTurnWorked disk o left old new last) → (last ≡ end.Left → left_behind left (length turned.worked.made) ≡ Some 0) → HasLapped disk o left old new (Err last)
 turned_off o left old new last turned spent = record { worked = turned.worked; ends = turned.ends spent }

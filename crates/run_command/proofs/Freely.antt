@@ -1,5 +1,5 @@
 -- A run that nothing hinders.
-use Rattle.std.proofs.Common.{◌≡◌, inl, inr, ℕ, List, [], length, Option, Some, Result, Ok, Err, refl, ap, ◌∙◌, arith}
+use Rattle.std.proofs.Common.{◌≡◌, ◌⊎◌, ◌++◌, inl, inr, ℕ, List, [], ◌∷◌, length, Option, Some, Result, Ok, Err, refl, sym, ap, ◌∙◌, arith}
 use Rattle.edge_traits.specs.Disk.{DiskView, Image, IsImage}
 use Rattle.edge_traits.specs.Shelf.{ShelfView}
 use Rattle.edge_traits.specs.Sink.{SinkView}
@@ -25,33 +25,46 @@ use Rattle.drain_command.specs.Laws.{EndIdly, EndsIdly}
 use Rattle.drain_command.specs.declared.draining.Asked.{Asked}
 use Rattle.drain_command.proofs.Unhindered.{opens_so}
 use Rattle.run_command.specs.Laws.{RunsFreely}
-use Rattle.run_command.specs.Runs.{left_behind, Runs}
+use Rattle.live_reload.specs.declared.end.OrdersEnd.{OrdersEnd}
+use Rattle.live_reload.specs.declared.order.Order.{Order}
+use Rattle.live_reload.specs.declared.order.Order.TheVariants as order
+use Rattle.run_command.specs.Runs.{carried_in, left_behind, steps_in, HaveFailed, RunEnds, Runs, RunsSo}
 use Rattle.run_command.proofs.Opened.{feeds_early, feeds_end}
 
-module _ {D : Type 0} (disk : D → DiskView) (o : Outside) (feeds : List (List ℕ × List ℕ)) (files : Image) (asked : Asked) (old new : DiskView)
-    (is : RunsFreely disk o feeds files asked old new) (law : (bundle : List ℕ) (bots : List Facts) → o.meaning.facts bundle ≡ Some bots → AreSound bots) where
+module _ {D : Type 0} (disk : D → DiskView) (steps : ℕ) (by : OrdersEnd) (o : Outside) (feeds : List (List ℕ × List ℕ)) (files : Image) (asked : Asked) (old new : DiskView)
+    (is : RunsFreely disk steps by o feeds files asked old new) (fine : HaveFailed by → ⊥) (law : (bundle : List ℕ) (bots : List Facts) → o.meaning.facts bundle ≡ Some bots → AreSound bots) where
+  no_more : (xs : List Order) (x : Order) → [] ≡ xs ++ x ∷ [] → ⊥
+  no_more [] x is = cc is
+  no_more (y ∷ xs) x is = cc is
+
   -- it has nothing left to do
-  idle_of : (why : TurnsEnd) → Called disk Runs o files asked old new why → IsShown why → why ≡ last.Idle
-  idle_of why d shown = by d.makes
+  idle_of : (why : TurnsEnd) → Called disk (RunsSo steps by []) o files asked old new why → IsShown why → why ≡ last.Idle
+  idle_of why d shown = by_cause d.makes.1
     where
-      by : Runs o (start o.meaning d.generation d.root d.base d.read asked) d.made why → why ≡ last.Idle
-      by (inl drains) =
+      by_cause : Runs by [] o (start o.meaning d.generation d.root d.base d.read asked) d.made why → why ≡ last.Idle
+      by_cause (inl (none, drains)) =
           free_calls_end_idle o (start o.meaning d.generation d.root d.base d.read asked) feeds d.made why is.shelf is.unbound
           (record {
             feeds = feeds_early o feeds is.shelf law (start o.meaning d.generation d.root d.base d.read asked) (opens_so o.meaning (replay o.meaning d.base d.read) asked) (is.readable d.generation d.base d.read d.opens.stored) d.made why drains;
             room = is.room_early why d drains;
           })
           shown drains
-      by (inr worked) =
-          free_calls_end_idle (record o { shelf = worked.ends.shelf }) worked.ends.here feeds [] why (worked.ends.told ∙ is.shelf)
-          (worked.ends.left_is ∙ ap (λ (l : Option ℕ). left_behind l (length worked.worked)) (worked.left ∙ ap (λ (l : Option ℕ). left_behind l (length worked.begun)) is.unbound))
-          (record {
-            feeds = λ opened. feeds_end o feeds is.shelf law (start o.meaning d.generation d.root d.base d.read asked) (opens_so o.meaning (replay o.meaning d.base d.read) asked) (is.readable d.generation d.base d.read d.opens.stored) d.made why worked;
-            room = is.room why d worked;
-          })
-          shown worked.ends.ends
+      by_cause (inr worked) = by_end worked.ends
+        where
+          by_end : RunEnds o worked.here.left worked.here.state (steps_in worked.parts) by [] (carried_in worked.parts) worked.rest why → why ≡ last.Idle
+          by_end (inl (rest, none, read, ends)) =
+              free_calls_end_idle (record o { shelf = ends.shelf }) ends.here feeds [] why (ends.told ∙ is.shelf)
+              (ends.left_is ∙ ap (λ (l : Option ℕ). left_behind l (length (steps_in worked.parts))) (worked.left ∙ ap (λ (l : Option ℕ). left_behind l (length worked.begun)) is.unbound))
+              (record {
+                feeds = λ opened. feeds_end o feeds is.shelf law (start o.meaning d.generation d.root d.base d.read asked) (opens_so o.meaning (replay o.meaning d.base d.read) asked) (is.readable d.generation d.base d.read d.opens.stored) by d.made why worked (sym none) ends;
+                room = is.room why d worked ends;
+              })
+              shown ends.ends
+          by_end (inr (inl (rest, stop, left))) = absurd (no_more (carried_in worked.parts) order.Stop stop)
+          by_end (inr (inr (inl (next, given, within)))) = absurd (no_more (carried_in worked.parts) next given)
+          by_end (inr (inr (inr (rest, given, left, failed)))) = absurd (fine failed)
 
-  turns_end : (why : TurnsEnd) → IsToldEnd why → Called disk Runs o files asked old new why → EndIdly why
+  turns_end : (why : TurnsEnd) → IsToldEnd why → Called disk (RunsSo steps by []) o files asked old new why → EndIdly why
   turns_end last.Idle told d = tt
   turns_end (last.Failed name) told d = tt
   turns_end last.Left told d = absurd (cc (idle_of last.Left d tt))
@@ -80,16 +93,16 @@ module _ {D : Type 0} (disk : D → DiskView) (o : Outside) (feeds : List (List 
       stands_undamaged o.meaning opens is.bots is.bundle is.whole is.steps is.more files is.loads is.legal is.small (is.stands.each files (honest files is.disk_tells)) file at damaged
 
 pub runs_end_idle : {D : Type 0} (disk : D → DiskView) (old new : DiskView) → ((image : Image) → old.told ≡ Some image → IsImage old.may_leave image)
-    → (o : Outside) → ((bundle : List ℕ) (bots : List Facts) → o.meaning.facts bundle ≡ Some bots → AreSound bots) → WhatStandsOpens o.meaning → (feeds : List (List ℕ × List ℕ)) (files : Image) (asked : Asked) → RunsFreely disk o feeds files asked old new → (now : ShelfView) (e : Result TurnsEnd StoreEnd) (before after : SinkView)
-    → IsCallBy disk Runs o now files asked old new e before after → EndsIdly e
-runs_end_idle disk old new honest o law opens feeds files asked is now (Ok why) before after call = turns_end disk o feeds files asked old new is law why call.0 call.1
-runs_end_idle disk old new honest o law opens feeds files asked is now (Err end.Memory) before after call = tt
-runs_end_idle disk old new honest o law opens feeds files asked is now (Err end.Disk) before after call = tt
-runs_end_idle disk old new honest o law opens feeds files asked is now (Err end.Sink) before after call = tt
-runs_end_idle disk old new honest o law opens feeds files asked is now (Err (end.Store have)) before after call = has_root disk o feeds files asked old new is law honest call.1
-runs_end_idle disk old new honest o law opens feeds files asked is now (Err (end.Damaged file at)) before after call = undamaged disk o feeds files asked old new is law honest opens file at call.2
-runs_end_idle disk old new honest o law opens feeds files asked is now (Err end.Done) before after call = absurd call
-runs_end_idle disk old new honest o law opens feeds files asked is now (Err end.Refused) before after call = absurd call
-runs_end_idle disk old new honest o law opens feeds files asked is now (Err (end.NoDump n)) before after call = absurd call
-runs_end_idle disk old new honest o law opens feeds files asked is now (Err (end.Spent next)) before after call = absurd call
-runs_end_idle disk old new honest o law opens feeds files asked is now (Err (end.Full bytes)) before after call = absurd call
+    → (steps : ℕ) (by : OrdersEnd) (o : Outside) → (HaveFailed by → ⊥) → ((bundle : List ℕ) (bots : List Facts) → o.meaning.facts bundle ≡ Some bots → AreSound bots) → WhatStandsOpens o.meaning → (feeds : List (List ℕ × List ℕ)) (files : Image) (asked : Asked) → RunsFreely disk steps by o feeds files asked old new → (now : ShelfView) (e : Result TurnsEnd StoreEnd) (before after : SinkView)
+    → IsCallBy disk (RunsSo steps by []) o now files asked old new e before after → EndsIdly e
+runs_end_idle disk old new honest steps by o fine law opens feeds files asked is now (Ok why) before after call = turns_end disk steps by o feeds files asked old new is fine law why call.0 call.1
+runs_end_idle disk old new honest steps by o fine law opens feeds files asked is now (Err end.Memory) before after call = tt
+runs_end_idle disk old new honest steps by o fine law opens feeds files asked is now (Err end.Disk) before after call = tt
+runs_end_idle disk old new honest steps by o fine law opens feeds files asked is now (Err end.Sink) before after call = tt
+runs_end_idle disk old new honest steps by o fine law opens feeds files asked is now (Err (end.Store have)) before after call = has_root disk steps by o feeds files asked old new is fine law honest call.1
+runs_end_idle disk old new honest steps by o fine law opens feeds files asked is now (Err (end.Damaged file at)) before after call = undamaged disk steps by o feeds files asked old new is fine law honest opens file at call.2
+runs_end_idle disk old new honest steps by o fine law opens feeds files asked is now (Err end.Done) before after call = absurd call
+runs_end_idle disk old new honest steps by o fine law opens feeds files asked is now (Err end.Refused) before after call = absurd call
+runs_end_idle disk old new honest steps by o fine law opens feeds files asked is now (Err (end.NoDump n)) before after call = absurd call
+runs_end_idle disk old new honest steps by o fine law opens feeds files asked is now (Err (end.Spent next)) before after call = absurd call
+runs_end_idle disk old new honest steps by o fine law opens feeds files asked is now (Err (end.Full bytes)) before after call = absurd call

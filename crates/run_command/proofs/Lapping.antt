@@ -48,10 +48,10 @@ pub few_still : (left : Option ℕ) (a b : ℕ) → IfSome left (λ most. a ≤ 
 few_still None a b x y = tt
 few_still (Some n) a b x y = omega (arith, x, y)
 
-few_lists : (left : Option ℕ) (front rest : List Step) → IfSome left (λ most. length front ≤ most) → IfSome (left_behind left (length front)) (λ most. length rest ≤ most) → IfSome left (λ most. length (front ++ rest) ≤ most)
+pub few_lists : (left : Option ℕ) (front rest : List Step) → IfSome left (λ most. length front ≤ most) → IfSome (left_behind left (length front)) (λ most. length rest ≤ most) → IfSome left (λ most. length (front ++ rest) ≤ most)
 few_lists left front rest x y = subst (λ (n : ℕ). IfSome left (λ most. n ≤ most)) (sym (length-append front rest)) (few_still left (length front) (length rest) x y)
 
-left_lists : (left : Option ℕ) (front rest : List Step) → left_behind (left_behind left (length front)) (length rest) ≡ left_behind left (length (front ++ rest))
+pub left_lists : (left : Option ℕ) (front rest : List Step) → left_behind (left_behind left (length front)) (length rest) ≡ left_behind left (length (front ++ rest))
 left_lists left front rest = less_still left (length front) (length rest) ∙ ap (left_behind left) (sym (length-append front rest))
 
 pub all_left : (left : Option ℕ) → left ≡ left_behind left 0

@@ -1,9 +1,12 @@
 mod Begun
+mod Called
 mod Ending
 mod Fetched
 mod Freely
 mod Lapping
 mod Opened
+mod Parts
 mod Readable
+mod Stepping
 mod Turned
 mod Worked

@@ -1,5 +1,5 @@
 -- What holds of a run that nothing hinders.
-use Rattle.std.specs.Prelude.{◌≡◌, ◌++◌, ℕ, Bool, List, None, Some, Result}
+use Rattle.std.specs.Prelude.{◌≡◌, ◌++◌, ℕ, Bool, List, [], None, Some, Result}
 use Rattle.edge_traits.specs.Disk.{DiskView, Image}
 use Rattle.edge_traits.specs.Shelf.{ShelfView}
 use Rattle.edge_traits.specs.Sink.{SinkView}
@@ -21,7 +21,8 @@ use Rattle.drain_turns.specs.declared.end.TurnsEnd.{TurnsEnd}
 use Rattle.drain_command.specs.Drained.{start, Called, IsCallBy}
 use Rattle.drain_command.specs.Laws.{opened_state, EndsIdly}
 use Rattle.drain_command.specs.declared.draining.Asked.{Asked}
-use Rattle.run_command.specs.Runs.{AreWorkerSteps, HasWorked, Runs}
+use Rattle.live_reload.specs.declared.end.OrdersEnd.{OrdersEnd}
+use Rattle.run_command.specs.Runs.{steps_in, AreWorkerSteps, EndsAfter, HasWorked, HaveFailed, RunsSo}
 
 -- along steps of workers feeds stay readable
 abbrev pub WorkersKeepFeedsReadable : Type 0
@@ -31,7 +32,7 @@ WorkersKeepFeedsReadable = (o : Outside) (s : Base) (feeds : List (List ℕ × L
 -- nothing hinders a run: it may make any number of steps, the shelf and the disk tell what they have, and the store began with a bundle and
 -- stands for a legal history in which no number is spent; the shelf has the feeds of the collectors as they stand behind the opening of what
 -- is stored; and where the run comes to, within its opening or behind it, there is room for what is due
-pub record RunsFreely {D : Type 0} (disk : D → DiskView) (o : Outside) (feeds : List (List ℕ × List ℕ)) (files : Image) (asked : Asked) (old new : DiskView) : Type 0 where
+pub record RunsFreely {D : Type 0} (disk : D → DiskView) (steps_made : ℕ) (by : OrdersEnd) (o : Outside) (feeds : List (List ℕ × List ℕ)) (files : Image) (asked : Asked) (old new : DiskView) : Type 0 where
   pub unbound : asked.left ≡ None
   pub shelf : o.shelf.told ≡ Some feeds
   pub disk_tells : old.told ≡ Some files
@@ -45,11 +46,12 @@ pub record RunsFreely {D : Type 0} (disk : D → DiskView) (o : Outside) (feeds 
   pub legal : Legal o.meaning (first bots bundle) (steps ++ more)
   pub small : NothingIsSpent o.meaning (first bots bundle) (steps ++ more)
   pub readable : (generation : ℕ) (base : Base) (read : List Step) → IsStored files generation base read → HasFeeds feeds o.meaning (opened_state o.meaning base read asked)
-  pub room_early : (why : TurnsEnd) (d : Called disk Runs o files asked old new why) → Drains o (start o.meaning d.generation d.root d.base d.read asked) d.made why → HasRoom o (behind_all o (start o.meaning d.generation d.root d.base d.read asked) d.made)
-  pub room : (why : TurnsEnd) (d : Called disk Runs o files asked old new why) (worked : HasWorked o (start o.meaning d.generation d.root d.base d.read asked) d.made why) → HasRoom (record o { shelf = worked.ends.shelf }) worked.ends.here
+  pub room_early : (why : TurnsEnd) (d : Called disk (RunsSo steps_made by []) o files asked old new why) → Drains o (start o.meaning d.generation d.root d.base d.read asked) d.made why → HasRoom o (behind_all o (start o.meaning d.generation d.root d.base d.read asked) d.made)
+  pub room : (why : TurnsEnd) (d : Called disk (RunsSo steps_made by []) o files asked old new why) (worked : HasWorked by [] o (start o.meaning d.generation d.root d.base d.read asked) d.made why)
+      → (ends : EndsAfter o worked.here.left worked.here.state (steps_in worked.parts) why) → HasRoom (record o { shelf = ends.shelf }) ends.here
 
--- such a run does all that there is to do
+-- such a run to which control gives no order does all that there is to do, unless control or the output fails
 abbrev pub FreeRunsEndIdle : {D : Type 0} → (D → DiskView) → Meaning → Type 0
 FreeRunsEndIdle {D} disk m =
-    (o : Outside) (feeds : List (List ℕ × List ℕ)) (files : Image) (asked : Asked) (old new : D) (now : ShelfView) (e : Result TurnsEnd StoreEnd) (before after : SinkView) → o.meaning ≡ m → RunsFreely disk o feeds files asked (disk old) (disk new)
-    → IsCallBy disk Runs o now files asked (disk old) (disk new) e before after → EndsIdly e
+    (steps : ℕ) (by : OrdersEnd) (o : Outside) (feeds : List (List ℕ × List ℕ)) (files : Image) (asked : Asked) (old new : D) (now : ShelfView) (e : Result TurnsEnd StoreEnd) (before after : SinkView) → o.meaning ≡ m → (HaveFailed by → ⊥)
+    → RunsFreely disk steps by o feeds files asked (disk old) (disk new) → IsCallBy disk (RunsSo steps by []) o now files asked (disk old) (disk new) e before after → EndsIdly e

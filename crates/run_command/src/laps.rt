@@ -1,5 +1,6 @@
-//! Laps: a turn as a drain makes it, and a round of all workers, until the call ends.
+//! A lap: a turn as a drain makes it, and a round of all workers.
 ghost use Rattle.std.specs.Prelude.{◌≡◌, ◌≢◌, ◌≤◌, ◌+◌, ◌↔◌, ℕ, List, true, false, None, Some, Ok, Err, OnOk, IfErr, IsErrOf};
+ghost use Rattle.collector_feeds.specs.Open.{GoesOn as ReadsOn};
 ghost use Rattle.edge_traits.specs.Count.{Rose};
 ghost use Rattle.edge_traits.specs.Disk.{Image};
 ghost use Rattle.edge_traits.specs.Shelf.{ShelfView, count_on};
@@ -11,70 +12,27 @@ ghost use Rattle.run_command.specs.Runs.{left_behind};
 
 use crate::rounds::{make_durable, work_round};
 use crate::workers::bots;
+use bot_runner::Until;
 use drain_loop::drain_book;
 use drain_turns::TurnsEnd;
-use edge_traits::{Clock, Disk, Failed, Gate, Shelf};
+use edge_traits::{Clock, Disk, Failed, Gate, Shelf, Source};
 use journal_book::Book;
 use std::alloc::Global;
 use std::sync::Wait;
 use std::thread::Threads;
 use step_code::Rules;
 
-// Laps, until the call ends. Answers why.
-pub(crate) fn run_laps<T, D, R, H, C, G>(
-    rt: &T,
-    alloc: Global,
-    rules: &R,
-    book: Book<D, R>,
-    shelf: &mut H,
-    clock: &C,
-    gate: &G,
-    left: Option<u64>,
-) -> (Book<D, R>, TurnsEnd)
-where
-    T: Threads + Wait + Sync,
-    D: Disk + Send,
-    R: Rules + Send + Sync,
-    R::Plan: Send,
-    R::Work: Send,
-    H: Shelf,
-    H::Src: Send,
-    C: Clock + Sync,
-    G: Gate + Sync,
-    requires whole { book.broken ≡ false }
-    ensures lapped { (first : ShelfView) → first.told ≡ (H.shelf shelf.old).told → HasLapped D.disk (outside R.meaning first (C.told clock.now) book.limit) left book result.0 (Err result.1) }
-    ensures broken { (result.1 ≡ TurnsEnd.Disk) ↔ (result.0.broken ≡ true) }
-    ensures undamaged { (files : Image) → (D.disk book.disk).told ≡ Some files → IsUndamaged result.1 }
-    ensures disk { result.1 ≡ TurnsEnd.Disk → Rose (D.disk book.disk).faults (D.disk result.0.disk).faults }
-    ensures failed { (name : List ℕ) → result.1 ≡ TurnsEnd.Failed name → FailedBeyond (collectors R.meaning result.0.state) (H.shelf shelf.old) (H.shelf shelf.new) name }
-    ensures told { (H.shelf shelf.new).told ≡ (H.shelf shelf.old).told }
-    ensures counts { (name : List ℕ) → count_on (H.shelf shelf.old) name ≤ count_on (H.shelf shelf.new) name }
-    ensures untold { (D.disk book.disk).told ≡ None → (D.disk result.0.disk).told ≡ None }
-    ensures disk_count { (D.disk book.disk).faults ≤ (D.disk result.0.disk).faults }
-{
-    let mut book = book;
-    let mut left = left;
-    'laps: for _ in rt.forever() {
-        let (back, lapped) = lap(rt, alloc, rules, book, shelf, clock, gate, left);
-        book = back;
-        match lapped {
-            Ok(now) => left = now,
-            Err(end) => return (book, end),
-        }
-    }
-    unreachable!()
-}
-
 // A turn, and a round of all workers behind it. Answers how many steps may still be made, or why the call ends.
-fn lap<T, D, R, H, C, G>(
+pub(crate) fn lap<T, D, R, K, H, C, G>(
     rt: &T,
     alloc: Global,
     rules: &R,
     book: Book<D, R>,
+    control: &mut K,
     shelf: &mut H,
     clock: &C,
     gate: &G,
-    left: Option<u64>,
+    until: Until,
 ) -> (Book<D, R>, Result<Option<u64>, TurnsEnd>)
 where
     T: Threads + Wait + Sync,
@@ -82,12 +40,13 @@ where
     R: Rules + Send + Sync,
     R::Plan: Send,
     R::Work: Send,
+    K: Source,
     H: Shelf,
     H::Src: Send,
     C: Clock + Sync,
     G: Gate + Sync,
     requires whole { book.broken ≡ false }
-    ensures lapped { (first : ShelfView) → first.told ≡ (H.shelf shelf.old).told → HasLapped D.disk (outside R.meaning first (C.told clock.now) book.limit) left book result.0 result.1 }
+    ensures lapped { (first : ShelfView) → first.told ≡ (H.shelf shelf.old).told → HasLapped D.disk (outside R.meaning first (C.told clock.now) book.limit) until.left book result.0 result.1 }
     ensures whole { OnOk result.1 (result.0.broken ≡ false) }
     ensures broken { IfErr result.1 (λ end. (end ≡ TurnsEnd.Disk) ↔ (result.0.broken ≡ true)) }
     ensures undamaged { (files : Image) → (D.disk book.disk).told ≡ Some files → IfErr result.1 IsUndamaged }
@@ -96,11 +55,18 @@ where
     ensures told { (H.shelf shelf.new).told ≡ (H.shelf shelf.old).told }
     ensures counts { (name : List ℕ) → count_on (H.shelf shelf.old) name ≤ count_on (H.shelf shelf.new) name }
     ensures untold { (D.disk book.disk).told ≡ None → (D.disk result.0.disk).told ≡ None }
+    ensures control { ReadsOn (K.source control.old) (K.source control.new) }
     ensures disk_count { (D.disk book.disk).faults ≤ (D.disk result.0.disk).faults }
 {
     let mut book = book;
-    match one_turn(alloc, &mut book, shelf, clock, left) {
-        Ok(left) => work(rt, alloc, rules, book, shelf, clock, gate, left),
+    match one_turn(alloc, &mut book, shelf, clock, until.left) {
+        Ok(left) => {
+            let until = Until {
+                left,
+                control: until.control,
+            };
+            work(rt, alloc, rules, book, control, shelf, clock, gate, until)
+        }
         Err(end) => (book, Err(end)),
     }
 }
@@ -137,15 +103,16 @@ fn one_turn<D: Disk, R: Rules, H: Shelf, C: Clock>(
 }
 
 // A round of all workers, made durable. Answers how many steps may still be made, or that the disk failed.
-fn work<T, D, R, H, C, G>(
+fn work<T, D, R, K, H, C, G>(
     rt: &T,
     alloc: Global,
     rules: &R,
     book: Book<D, R>,
+    control: &mut K,
     shelf: &mut H,
     clock: &C,
     gate: &G,
-    left: Option<u64>,
+    until: Until,
 ) -> (Book<D, R>, Result<Option<u64>, TurnsEnd>)
 where
     T: Threads + Wait + Sync,
@@ -153,25 +120,27 @@ where
     R: Rules + Send + Sync,
     R::Plan: Send,
     R::Work: Send,
+    K: Source,
     H: Shelf,
     H::Src: Send,
     C: Clock + Sync,
     G: Gate + Sync,
     requires whole { book.broken ≡ false }
-    ensures lapped { (first : ShelfView) → first.told ≡ (H.shelf shelf.old).told → HasLapped D.disk (outside R.meaning first (C.told clock.now) book.limit) left book result.0 result.1 }
+    ensures lapped { (first : ShelfView) → first.told ≡ (H.shelf shelf.old).told → HasLapped D.disk (outside R.meaning first (C.told clock.now) book.limit) until.left book result.0 result.1 }
     ensures whole { OnOk result.1 (result.0.broken ≡ false) }
     ensures end { IfErr result.1 (λ end. (end ≡ TurnsEnd.Disk) × (result.0.broken ≡ true) × Rose (D.disk book.disk).faults (D.disk result.0.disk).faults) }
     ensures told { (H.shelf shelf.new).told ≡ (H.shelf shelf.old).told }
     ensures counts { (name : List ℕ) → count_on (H.shelf shelf.old) name ≤ count_on (H.shelf shelf.new) name }
     ensures untold { (D.disk book.disk).told ≡ None → (D.disk result.0.disk).told ≡ None }
+    ensures control { ReadsOn (K.source control.old) (K.source control.new) }
     ensures disk_count { (D.disk book.disk).faults ≤ (D.disk result.0.disk).faults }
 {
     let before = book.state().steps();
-    let book = work_round(rt, alloc, rules, book, shelf, clock, gate, left);
+    let book = work_round(rt, alloc, rules, book, control, shelf, clock, gate, until);
     let mut book = book;
     match make_durable(&mut book) {
         Ok(()) => {
-            let left = left_after(left, before, book.state().steps());
+            let left = left_after(until.left, before, book.state().steps());
             (book, Ok(left))
         }
         Err(Failed) => (book, Err(TurnsEnd::Disk)),
@@ -189,7 +158,7 @@ fn one_at_most(left: Option<u64>) -> Option<u64>
 }
 
 // How many steps may still be made, where there were so many before and are so many after.
-fn left_after(left: Option<u64>, before: u64, after: u64) -> Option<u64>
+pub(crate) fn left_after(left: Option<u64>, before: u64, after: u64) -> Option<u64>
     ensures { (made : ℕ) → after ≡ before + made → result ≡ left_behind left made }
 {
     match left {

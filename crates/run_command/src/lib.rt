@@ -2,6 +2,7 @@
 //! of it is printed. A lap is a turn as a drain makes it, and a round of all workers.
 #![tactic(auto)]
 
+mod following;
 mod laps;
 mod laws;
 mod rounds;
@@ -10,4 +11,4 @@ mod turning;
 mod workers;
 
 pub use laws::{free_runs_end_idle, workers_keep_feeds_readable};
-pub use running::run;
+pub use running::{Ran, run};

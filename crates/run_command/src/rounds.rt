@@ -4,13 +4,14 @@ ghost use Rattle.std.specs.List.{AllByRecursion};
 ghost use Rattle.edge_traits.specs.Count.{Rose};
 ghost use Rattle.edge_traits.specs.Shelf.{ShelfView};
 ghost use Rattle.book_runs.specs.GoesOn.{GoesOn, IsSameBook};
+ghost use Rattle.collector_feeds.specs.Open.{GoesOn as ReadsOn};
 ghost use Rattle.drain_loop.specs.Calls.{outside};
 ghost use Rattle.run_command.specs.Fetched.{HasFetched, KeepsShelf};
 ghost use Rattle.run_command.specs.Laps.{IsWorkedOn};
 
 use crate::workers::{give_back_ends, give_back_workers, workers_of};
-use bot_runner::{RoundEnd, Worker, run_round};
-use edge_traits::{Clock, Disk, Failed, Gate, Shelf};
+use bot_runner::{RoundEnd, Until, Worker, run_round};
+use edge_traits::{Clock, Disk, Failed, Gate, Shelf, Source};
 use journal_book::{Book, FlushFault};
 use std::alloc::Global;
 use std::sync::Wait;
@@ -21,15 +22,16 @@ use step_code::Rules;
 const MOST_WORKERS: usize = 65_536;
 
 // A round of the workers of the bundle in force. Their feeds are fetched for it, and given back. Where memory runs out none is made.
-pub(crate) fn work_round<T, D, R, H, C, G>(
+pub(crate) fn work_round<T, D, R, K, H, C, G>(
     rt: &T,
     alloc: Global,
     rules: &R,
     book: Book<D, R>,
+    control: &mut K,
     shelf: &mut H,
     clock: &C,
     gate: &G,
-    left: Option<u64>,
+    until: Until,
 ) -> Book<D, R>
 where
     T: Threads + Wait + Sync,
@@ -37,32 +39,37 @@ where
     R: Rules + Send + Sync,
     R::Plan: Send,
     R::Work: Send,
+    K: Source,
     H: Shelf,
     H::Src: Send,
     C: Clock + Sync,
     G: Gate + Sync,
     requires whole { book.broken ≡ false }
-    ensures worked { (first : ShelfView) → first.told ≡ (H.shelf shelf.old).told → IsWorkedOn D.disk (outside R.meaning first (C.told clock.now) book.limit) left book result }
+    ensures worked { (first : ShelfView) → first.told ≡ (H.shelf shelf.old).told → IsWorkedOn D.disk (outside R.meaning first (C.told clock.now) book.limit) until.left book result }
     ensures failed { result.broken ≡ true → Rose (D.disk book.disk).faults (D.disk result.disk).faults }
     ensures untold { (D.disk book.disk).told ≡ None → (D.disk result.disk).told ≡ None }
     ensures count { (D.disk book.disk).faults ≤ (D.disk result.disk).faults }
     ensures keeps { KeepsShelf (H.shelf shelf.old) (H.shelf shelf.new) }
+    ensures control { ReadsOn (K.source control.old) (K.source control.new) }
 {
     let workers = workers_of(alloc, book.state(), shelf);
-    round(rt, alloc, rules, book, workers, shelf, clock, gate, left)
+    round(
+        rt, alloc, rules, book, workers, control, shelf, clock, gate, until,
+    )
 }
 
 // A round of these workers, unless there are too many. Their feeds are given back.
-fn round<T, D, R, H, C, G>(
+fn round<T, D, R, K, H, C, G>(
     rt: &T,
     alloc: Global,
     rules: &R,
     book: Book<D, R>,
     workers: Vec<Worker<H::Src>>,
+    control: &mut K,
     shelf: &mut H,
     clock: &C,
     gate: &G,
-    left: Option<u64>,
+    until: Until,
 ) -> Book<D, R>
 where
     T: Threads + Wait + Sync,
@@ -70,23 +77,25 @@ where
     R: Rules + Send + Sync,
     R::Plan: Send,
     R::Work: Send,
+    K: Source,
     H: Shelf,
     H::Src: Send,
     C: Clock + Sync,
     G: Gate + Sync,
     requires whole { book.broken ≡ false }
     requires fetched { AllByRecursion (HasFetched H.Src.source (H.shelf shelf.old)) workers.items }
-    ensures worked { (first : ShelfView) → first.told ≡ (H.shelf shelf.old).told → IsWorkedOn D.disk (outside R.meaning first (C.told clock.now) book.limit) left book result }
+    ensures worked { (first : ShelfView) → first.told ≡ (H.shelf shelf.old).told → IsWorkedOn D.disk (outside R.meaning first (C.told clock.now) book.limit) until.left book result }
     ensures failed { result.broken ≡ true → Rose (D.disk book.disk).faults (D.disk result.disk).faults }
     ensures untold { (D.disk book.disk).told ≡ None → (D.disk result.disk).told ≡ None }
     ensures count { (D.disk book.disk).faults ≤ (D.disk result.disk).faults }
     ensures keeps { KeepsShelf (H.shelf shelf.old) (H.shelf shelf.new) }
+    ensures control { ReadsOn (K.source control.old) (K.source control.new) }
 {
     if workers.len() > MOST_WORKERS {
         give_back_workers(workers, shelf);
         return book;
     }
-    match run_round(rt, alloc, rules, book, workers, clock, gate, left) {
+    match run_round(rt, alloc, rules, book, workers, control, clock, gate, until) {
         Ok(RoundEnd { book, ends }) => {
             give_back_ends(ends, shelf);
             book

@@ -3,6 +3,7 @@
 
 mod clock;
 mod command_line;
+mod control;
 mod counts;
 mod gate;
 mod progress;
@@ -13,6 +14,7 @@ mod watched;
 
 pub use clock::SystemClock;
 pub use command_line::run;
+pub use control::ControlFile;
 pub use gate::SystemGate;
 pub use progress::Progress;
 pub use shelf::FileShelf;

@@ -5,12 +5,14 @@ ghost use Rattle.system_run.specs.CommandLine.{is_command_or_run};
 
 use crate::clock::SystemClock;
 use crate::command_line::{command_line, run_alone, told};
+use crate::control::ControlFile;
 use crate::gate::SystemGate;
 use crate::progress::Progress;
 use crate::shelf::FileShelf;
 use crate::sink::WriterSink;
 use crate::watched::Watched;
-use base_types::Text;
+use base_types::{OutOfMemory, Text};
+use command_words::{command_of, run_of};
 use file_disk::{FolderDisk, TryLock};
 use pipeline_top::{Status, run_pipeline};
 use std::io;
@@ -67,13 +69,38 @@ where
     ensures { (result ≡ Status.Words) ↔ (is_pipeline words.now ≡ false) }
 {
     let alloc = rt.alloc();
+    let mut control = match ControlFile::new(alloc, rt, store) {
+        Ok(control) => control,
+        Err(OutOfMemory) => return without_memory(words),
+    };
     let progress = Progress::new(rt, is_terminal);
     let mut shelf = Watched::new(FileShelf::new(alloc, rt), &progress);
     let disk = Watched::new(FolderDisk::new(alloc, rt, store), &progress);
     let mut out = Watched::new(WriterSink::new(io::writer(rt)), &progress);
     let clock = Watched::new(SystemClock::new(rt), &progress);
     let gate = SystemGate::new(rt);
-    let (status, _disk) = run_pipeline(rt, alloc, words, &mut shelf, disk, &mut out, &clock, &gate);
+    let (status, _disk) = run_pipeline(
+        rt,
+        alloc,
+        words,
+        &mut control,
+        &mut shelf,
+        disk,
+        &mut out,
+        &clock,
+        &gate,
+    );
     progress.clear();
     status
+}
+
+// The status where there is no memory for what the words ask for.
+fn without_memory(words: &[Text]) -> Status
+    ensures { (result ≡ Status.Words) ↔ (is_pipeline words.now ≡ false) }
+{
+    if run_of(words).is_some() || command_of(words).is_some() {
+        Status::Memory
+    } else {
+        Status::Words
+    }
 }

@@ -14,7 +14,11 @@ pub fn run(alloc: Global, line: &str) -> Result<String, OutOfMemory> {
     let words = words_of(alloc, line)?;
     match run_of(&words) {
         None => Ok(String::from_str(alloc, "none")?),
-        Some(ask) => asked(alloc, "run", ask),
+        Some(run) => {
+            let text = asked(alloc, "run", run.ask)?;
+            let stay = run.stay;
+            Ok(format!(in alloc; "{}, stay {stay}", text.as_str())?)
+        }
     }
 }
 

@@ -2,6 +2,8 @@
 #![tactic(auto)]
 
 #[cfg(test)]
+mod controls;
+#[cfg(test)]
 mod failing;
 #[cfg(test)]
 mod lines;

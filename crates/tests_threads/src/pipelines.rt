@@ -19,11 +19,15 @@ pub const TWO_FEEDS: Files = &[
     ),
 ];
 
-/// One feed with its header in each report: four good lines, and one with a bad address.
+/// One feed with its header in each report: four good lines, and one with a bad address. The other bundle lacks the parser.
 pub const ONE_BAD_LINE: Files = &[
     (
         "bundle.json",
         r#"{"collect":{"module":"collector.file","parameters":{"file":"feed.csv","name":"Demo","chunk_replicate_header":true},"destination_queues":{"_default":["parse-queue"]}},"parse":{"module":"parser.csv","parameters":{"columns":["source.ip","source.port","classification.type","extra.note"],"skip_header":true},"destination_queues":{"_default":["write-queue"]}},"write":{"module":"output.file"}}"#,
+    ),
+    (
+        "less.json",
+        r#"{"collect":{"module":"collector.file","parameters":{"file":"feed.csv","name":"Demo","chunk_replicate_header":true},"destination_queues":{"_default":["write-queue"]}},"write":{"module":"output.file"}}"#,
     ),
     (
         "feed.csv",

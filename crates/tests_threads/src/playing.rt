@@ -1,8 +1,10 @@
 //! Commands on a store in memory.
+ghost use Rattle.std.specs.Prelude.{None};
+
 use crate::pipelines::Files;
 use base_types::{Blob, NumberList, OutOfMemory, Text, TextList};
 use edge_memory::{MemClock, MemDisk, MemShelf, MemSink};
-use edge_traits::Gate;
+use edge_traits::{Failed, Gate, Source};
 use pipeline_top::{run_pipeline, status_text};
 use std::alloc::Global;
 use std::mem;
@@ -18,6 +20,41 @@ const FIRST_OUTPUT: u64 = 16;
 
 fn text_of(alloc: Global, word: &str) -> Result<Text, OutOfMemory> {
     Ok(Text::from(String::from_str(alloc, word)?))
+}
+
+/// A control that has these lines, or that no read of succeeds.
+#[derive(Clone, Copy)]
+pub struct Lines {
+    pub text: &'static str,
+    pub unread: bool,
+    pub faults: u64,
+}
+
+impl Source for Lines {
+    ghost source = { λ lines. record { name = None; told = None; faults = lines.faults } };
+
+    fn read_at(&mut self, at: u64, buf: &mut [u8]) -> Result<usize, Failed> {
+        if self.unread {
+            self.faults = self.faults.saturating_add(1);
+            return Err(Failed);
+        }
+        let bytes = self.text.as_bytes();
+        if at >= bytes.len() as u64 {
+            return Ok(0);
+        }
+        let rest = &bytes[at as usize..];
+        let n = rest.len().min(buf.len());
+        buf[..n].copy_from_slice(&rest[..n]);
+        Ok(n)
+    }
+}
+
+fn numbers(alloc: Global, number: u64) -> Result<NumberList, Fail> {
+    let mut list = NumberList::new(alloc);
+    if number > 0 && list.push(number).is_err() {
+        return Err(Fail::from("memory"));
+    }
+    Ok(list)
 }
 
 // The words that blanks part.
@@ -48,7 +85,7 @@ pub fn shelf_of(alloc: Global, files: Files) -> Result<MemShelf, OutOfMemory> {
     Ok(shelf)
 }
 
-/// Gives the words to the program. Answers its status, by number, and what it printed, each in a line.
+/// Gives the words to the program, with an empty control. Answers its status, by number, and what it printed, each in a line.
 pub fn command<T: Threads + Wait + Sync, G: Gate + Sync>(
     rt: &T,
     alloc: Global,
@@ -57,9 +94,37 @@ pub fn command<T: Threads + Wait + Sync, G: Gate + Sync>(
     disk: &mut MemDisk,
     gate: &G,
 ) -> Result<String, Fail> {
+    let mut control = Lines {
+        text: "",
+        unread: false,
+        faults: 0,
+    };
+    controlled(rt, alloc, line, &mut control, shelf, disk, 0, gate)
+}
+
+/// The same, with this control, and an output of which the write of this number fails (0: none).
+pub fn controlled<T: Threads + Wait + Sync, G: Gate + Sync>(
+    rt: &T,
+    alloc: Global,
+    line: &str,
+    control: &mut Lines,
+    shelf: &mut MemShelf,
+    disk: &mut MemDisk,
+    write: u64,
+    gate: &G,
+) -> Result<String, Fail> {
     let words = words_of(alloc, line)?;
-    let mut out = MemSink::new(alloc, NumberList::new(alloc));
-    let number = call(rt, alloc, words.as_slice(), shelf, disk, &mut out, gate);
+    let mut out = MemSink::new(alloc, numbers(alloc, write)?);
+    let number = call(
+        rt,
+        alloc,
+        words.as_slice(),
+        control,
+        shelf,
+        disk,
+        &mut out,
+        gate,
+    );
     told(alloc, number?.as_str(), out.bytes())
 }
 
@@ -67,6 +132,7 @@ fn call<T: Threads + Wait + Sync, G: Gate + Sync>(
     rt: &T,
     alloc: Global,
     words: &[Text],
+    control: &mut Lines,
     shelf: &mut MemShelf,
     disk: &mut MemDisk,
     out: &mut MemSink,
@@ -74,7 +140,7 @@ fn call<T: Threads + Wait + Sync, G: Gate + Sync>(
 ) -> Result<Text, OutOfMemory> {
     let clock = MemClock::new(NOW);
     let taken = mem::replace(disk, empty_disk(alloc));
-    let (status, back) = run_pipeline(rt, alloc, words, shelf, taken, out, &clock, gate);
+    let (status, back) = run_pipeline(rt, alloc, words, control, shelf, taken, out, &clock, gate);
     *disk = back;
     status_text(alloc, &status)
 }

@@ -1,10 +1,10 @@
-//! The hold of who waits for the workers: it makes steps durable while no more come.
-ghost use Rattle.std.specs.Prelude.{◌≡◌, ◌≢◌, length, [], None, IfOk, IfErr, OnOk};
+//! The holds of who waits for the workers: steps are made durable while no more come, and the round is ended.
+ghost use Rattle.std.specs.Prelude.{◌≡◌, ◌≢◌, length, [], Some, None, IfOk, IfErr, OnOk};
 ghost use Rattle.worker_turns.specs.Holds.{IsEnd, Marks};
 
 use crate::HoldEnd;
 use edge_traits::{Disk, Failed};
-use locked_book::Locked;
+use locked_book::{EndMark, Locked};
 use step_code::Rules;
 
 /// The hold of who waits for the workers. Where no step came since the hold before, which found `seen` of them in the history, all steps are
@@ -28,4 +28,20 @@ pub fn caller_turn<D: Disk, R: Rules>(locked: &mut Locked<D, R>, seen: u64) -> R
         }
     }
     Ok(at)
+}
+
+/// The hold of who waits for the workers, in which the round is ended. Answers the mark that the round has then: of an end that came
+/// before, or `Stop`.
+pub fn stop_turn<D: Disk, R: Rules>(locked: &mut Locked<D, R>) -> EndMark
+    ensures still { locked.old.mark ≢ None → locked.new ≡ locked.old }
+    ensures marks { locked.old.mark ≡ None → Marks R.meaning locked.old locked.new [] [] }
+    ensures mark { locked.new.mark ≡ Some result }
+{
+    match locked.mark() {
+        Some(mark) => mark,
+        None => {
+            locked.stop();
+            EndMark::Stop
+        }
+    }
 }

@@ -13,7 +13,7 @@ mod looked;
 mod place;
 mod turned;
 
-pub use caller::caller_turn;
+pub use caller::{caller_turn, stop_turn};
 pub use collector::{Collector, collector_turn};
 pub use computing::compute;
 pub use feed::ReadFeed;

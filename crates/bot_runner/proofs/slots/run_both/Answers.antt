@@ -4,6 +4,7 @@ use denote.Param.Send.{IsSend, IsSync, arg_send, param_send, sendable}
 use Rattle.std.proofs.Common.{◌≡◌, slice_index_or, sym, subst, [], None, IfSome, IsSomeAnd}
 use Rattle.book_lock.proofs.lock.BookLock.TheSendSync.{the_sync as BookLock-sync}
 use Rattle.book_lock.specs.Seats.{knows, opening, IsSeatOf}
+use Rattle.collector_feeds.specs.Open.{GoesOn}
 use Rattle.bot_runner.specs.contracts.slots.Slot as Slot
 use Rattle.bot_runner.specs.Parts.{HasEnded, HasWorked, IsNew}
 use Rattle.bot_runner.specs.Round.{WaiterEnds}
@@ -14,9 +15,9 @@ pub call_each_beside-requires-send-T : goal.call_each_beside-requires-send-T
 call_each_beside-requires-send-T g c κs within =
     let d : IsSend (param 1 g.row.D) = c.type_bounds.send-D in
     let r : IsSend (param 2 g.row.R) = c.type_bounds.send-R in
-    let p : IsSend (param 6 g.row.R-Plan) = c.type_bounds.send-R-Plan in
+    let p : IsSend (param 7 g.row.R-Plan) = c.type_bounds.send-R-Plan in
     let s : IsSend (param 3 g.row.S) = c.type_bounds.send-S in
-    let l = locked_sends (param 1 g.row.D) (param 2 g.row.R) (param 6 g.row.R-Plan) (param 7 g.row.R-Work) g.D.Disk g.R.Rules d r p in
+    let l = locked_sends (param 1 g.row.D) (param 2 g.row.R) (param 7 g.row.R-Plan) (param 8 g.row.R-Work) g.D.Disk g.R.Rules d r p in
     param_send 1 _ (arg_send _ no (Slot.the_row _ (param 3 g.row.S) _ _) (slot_sends _ (param 3 g.row.S) _ _ l s))
 
 pub call_each_beside-requires-sync-F : goal.call_each_beside-requires-sync-F
@@ -25,10 +26,10 @@ call_each_beside-requires-sync-F g c κs within =
     let d : IsSend (param 1 g.row.D) = c.type_bounds.send-D in
     let r : IsSend (param 2 g.row.R) = c.type_bounds.send-R in
     let rs : IsSync (param 2 g.row.R) = c.type_bounds.sync-R in
-    let p : IsSend (param 6 g.row.R-Plan) = c.type_bounds.send-R-Plan in
-    let cs : IsSync (param 4 g.row.C) = c.type_bounds.sync-C in
-    let gs : IsSync (param 5 g.row.G) = c.type_bounds.sync-G in
-    let l = locked_sends (param 1 g.row.D) (param 2 g.row.R) (param 6 g.row.R-Plan) (param 7 g.row.R-Work) g.D.Disk g.R.Rules d r p in
+    let p : IsSend (param 7 g.row.R-Plan) = c.type_bounds.send-R-Plan in
+    let cs : IsSync (param 5 g.row.C) = c.type_bounds.sync-C in
+    let gs : IsSync (param 6 g.row.G) = c.type_bounds.sync-G in
+    let l = locked_sends (param 1 g.row.D) (param 2 g.row.R) (param 7 g.row.R-Plan) (param 8 g.row.R-Work) g.D.Disk g.R.Rules d r p in
     search (five_sync, BookLock-sync, l, outside_sync, counts_sync, sendable) depth 20
 
 pub call_each_beside-requires-clause-accepts : goal.call_each_beside-requires-clause-accepts
@@ -51,5 +52,11 @@ returns-clause-waited g c =
     let at = c.call_each_beside.ensures.beside in
     subst (λ new. IfSome c.args.waiter.now.seat (λ old. IsSomeAnd new.seat (λ s. IsSeatOf c.args.lock.now s × ((knows s).parts ≡ (knows old).parts)
     × IsSomeAnd new.why (HasEnded g.R.Rules.meaning (λ s step. ⊥) None WaiterEnds (opening c.args.lock.now).opening (knows s) [])))) at.left
-    (subst (λ was. IfSome was.seat (λ old. IsSomeAnd at.after_call.now.seat (λ s. IsSeatOf c.args.lock.now s × ((knows s).parts ≡ (knows old).parts)
-    × IsSomeAnd at.after_call.now.why (HasEnded g.R.Rules.meaning (λ s step. ⊥) None WaiterEnds (opening c.args.lock.now).opening (knows s) [])))) at.argument_is at.call)
+    (subst (λ was. IfSome was.seat (λ old. IsSomeAnd at.after_first.now.seat (λ s. IsSeatOf c.args.lock.now s × ((knows s).parts ≡ (knows old).parts)
+    × IsSomeAnd at.after_first.now.why (HasEnded g.R.Rules.meaning (λ s step. ⊥) None WaiterEnds (opening c.args.lock.now).opening (knows s) [])))) at.first_is at.call.0)
+
+pub returns-clause-control : goal.returns-clause-control
+returns-clause-control g c =
+    let at = c.call_each_beside.ensures.beside in
+    subst (λ new. GoesOn (g.K.Source.source c.args.control.now) (g.K.Source.source new)) at.left_second
+    (subst (λ was. GoesOn (g.K.Source.source was) (g.K.Source.source at.after_second.now)) at.second_is at.call.1)

@@ -1,5 +1,4 @@
-use Rattle.drain_turns.specs.Drained.{Drains}
-use Rattle.pipeline_top.proofs.Kept.{kept_by_audit, kept_by_drill, kept_by_init, kept_by_redo, kept_by_run, kept_by_show, kept_here}
+use Rattle.pipeline_top.proofs.Kept.{kept_by_audit, kept_by_drill, kept_by_init, kept_at_work, kept_by_redo, kept_by_show, kept_drained_by, kept_here}
 use Rattle.pipeline_top.proofs.Replays.{shows_replay}
 use Rattle.pipeline_top.proofs.tool.run_tool.Goals as goal
 
@@ -16,7 +15,7 @@ pub returns-in-Some-Init-clause-history : goal.returns-in-Some-Init-clause-histo
 returns-in-Some-Init-clause-history g c = kept_by_init _ _ _ _ _ (c.init.ensures.begun (g.C.Clock.told c.args.clock.now))
 
 pub returns-in-Some-Drain-clause-history : goal.returns-in-Some-Drain-clause-history
-returns-in-Some-Drain-clause-history g c = kept_by_run _ Drains _ _ _ _ _ c.drain.ensures.drained
+returns-in-Some-Drain-clause-history g c = kept_at_work _ _ _ _ _ _ (λ bundle works. kept_drained_by _ _ _ _ _ _ bundle works) c.drain.ensures.drained
 
 pub returns-in-Some-Status-clause-history : goal.returns-in-Some-Status-clause-history
 returns-in-Some-Status-clause-history g c = kept_by_show _ _ _ _ _ (c.show.ensures.shown (g.H.Shelf.shelf c.args.shelf.now) (g.H.Shelf.shelf c.args.shelf.now) (g.C.Clock.told c.args.clock.now))

@@ -6,7 +6,7 @@ use Rattle.run_command.proofs.Freely.{runs_end_idle}
 use Rattle.run_command.proofs.laws.free_runs_end_idle.Goals as goal
 
 pub returns : goal.returns
-returns g c = λ o feeds files asked old new now e before after same free call.
-    runs_end_idle g.D.Disk.disk (g.D.Disk.disk old) (g.D.Disk.disk new) (g.met.D.Disk.honest old) o
+returns g c = λ steps by o feeds files asked old new now e before after same fine free call.
+    runs_end_idle g.D.Disk.disk (g.D.Disk.disk old) (g.D.Disk.disk new) (g.met.D.Disk.honest old) steps by o fine
     (subst (λ (m : Meaning). (bundle : List ℕ) (bots : List Facts) → m.facts bundle ≡ Some bots → AreSound bots) (sym same) g.met.R.Rules.bots_are_sound)
     (subst WhatStandsOpens (sym same) c.what_stands_opens.ensures) feeds files asked free now e before after call
