@@ -7,5 +7,6 @@ mod Fewer
 mod Hands
 mod Kept
 mod Lists
+mod Marked
 mod Results
 mod Taken

@@ -21,6 +21,7 @@ use queue_broker::TakeFault;
 pub fn start(state: &mut State)
     ensures start { state_of state.new ≡ record (state_of state.old) { halted = [] } }
     ensures outs { state.new.outs ≡ state.old.outs }
+    ensures caches { state.new.caches ≡ state.old.caches }
     ensures pushed { AreSendsNumbered state.old state.new }
 {
     state.halted.clear();
@@ -29,6 +30,7 @@ pub fn start(state: &mut State)
 pub fn end_feed(state: &mut State, bot: &BotName)
     ensures end { state_of state.new ≡ record (state_of state.old) { feeds = changed (is_feed bot.now) (λ f. record f { finished = true }) (state_of state.old).feeds } }
     ensures outs { state.new.outs ≡ state.old.outs }
+    ensures caches { state.new.caches ≡ state.old.caches }
     ensures pushed { AreSendsNumbered state.old state.new }
 {
     feeds::finish(&mut state.feeds, bot);
@@ -39,6 +41,7 @@ pub fn begin_round(state: &mut State, bot: &BotName)
     requires { (f : Feed) → find (is_feed bot.now) state.old.feeds.items ≡ Some f → f.round < last_u64 }
     ensures round { state_of state.new ≡ record (state_of state.old) { feeds = changed (is_feed bot.now) next_round (state_of state.old).feeds } }
     ensures outs { state.new.outs ≡ state.old.outs }
+    ensures caches { state.new.caches ≡ state.old.caches }
     ensures pushed { AreSendsNumbered state.old state.new }
 {
     feeds::begin_again(&mut state.feeds, bot);
@@ -58,6 +61,7 @@ pub fn collect(
     })) }
     ensures err { OnErr result (state_of state.new ≡ state_of state.old) }
     ensures outs { state.new.outs ≡ state.old.outs }
+    ensures caches { state.new.caches ≡ state.old.caches }
     ensures pushed { AreSendsNumbered state.old state.new }
 {
     make_room(&mut state.broker, &sends)?;
@@ -72,6 +76,7 @@ pub fn take(state: &mut State, bot: &BotName, instance: u8, now: Moment) -> Resu
     ensures ok { OnOk result (state_of state.new ≡ taken_first bot.now instance now (waiting (queue_name bot.now) (state_of state.old)) (state_of state.old)) }
     ensures err { OnErr result (state_of state.new ≡ state_of state.old) }
     ensures outs { state.new.outs ≡ state.old.outs }
+    ensures caches { state.new.caches ≡ state.old.caches }
     ensures pushed { AreSendsNumbered state.old state.new }
 {
     make_hand_room(&mut state.broker)?;
@@ -88,6 +93,7 @@ pub fn retry(state: &mut State, bot: &BotName, instance: u8)
     requires full { hand_of bot.now instance (state_of state.old) ≡ None → ⊥ }
     ensures tried { state_of state.new ≡ record (state_of state.old) { hands = changed (is_hand bot.now instance) (λ h. record h { tries = h.tries + 1 }) (state_of state.old).hands } }
     ensures outs { state.new.outs ≡ state.old.outs }
+    ensures caches { state.new.caches ≡ state.old.caches }
     ensures pushed { AreSendsNumbered state.old state.new }
 {
     state.broker.tried(bot, instance);
@@ -99,6 +105,7 @@ pub fn redo(state: &mut State, dump: u64) -> Result<(), OutOfMemory>
     ensures ok { OnOk result (state_of state.new ≡ redone dump (find (is_dump dump) (state_of state.old).dumps) (state_of state.old)) }
     ensures err { OnErr result (state_of state.new ≡ state_of state.old) }
     ensures outs { state.new.outs ≡ state.old.outs }
+    ensures caches { state.new.caches ≡ state.old.caches }
     ensures pushed { OnOk result (state.new.broker.pushed ≤ state.old.broker.pushed + 1) }
     ensures unsent { OnErr result (state.new.broker.pushed ≡ state.old.broker.pushed) }
 {

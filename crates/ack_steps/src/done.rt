@@ -1,5 +1,5 @@
 //! The step of a bot that is done with a message: successors, dumps, mark, line and acknowledgement are one.
-ghost use Rattle.std.specs.Prelude.{◌≡◌, ◌+◌, ◌≤◌, ◌^◌, ◌++◌, true, false, ℕ, List, length, Some, OnOk, OnErr};
+ghost use Rattle.std.specs.Prelude.{◌≡◌, ◌+◌, ◌-◌, ◌≤◌, ◌^◌, ◌++◌, true, false, ℕ, List, length, Some, OnOk, OnErr};
 ghost use Rattle.base_types.specs.Lists.{without};
 ghost use Rattle.stored_types.specs.Hand.{is_hand};
 ghost use Rattle.stored_types.specs.Mark.{fresh, is_marked};
@@ -9,6 +9,7 @@ ghost use Rattle.step_code.specs.Spent.{last_given};
 ghost use Rattle.step_code.specs.State.{marks_of};
 ghost use Rattle.ack_steps.specs.Held.{IsHeld};
 ghost use Rattle.dedup_cache.specs.Cache.{ArePast};
+ghost use Rattle.core_state.specs.Caches.{GotAtMost};
 ghost use Rattle.core_state.specs.Outputs.{HasLineRoom, HaveLengths};
 ghost use Rattle.core_state.specs.Room.{AreAbove, HasRoom, HaveDumpsBelow};
 ghost use Rattle.core_state.specs.State.{AreSendsNumbered, state_of};
@@ -79,6 +80,7 @@ fn make_all_room(
     ensures dumps { OnOk result (dumps ≤ state.new.dumps.spare) }
     ensures line { OnOk result (HasLineRoom bot.now state.new.outs.items) }
     ensures pushed { state.new.broker.pushed ≡ state.old.broker.pushed }
+    ensures caches { state.new.caches ≡ state.old.caches }
 {
     outputs::make_room(&mut state.outs, bot)?;
     make_dump_room(&mut state.dumps, dumps)?;
@@ -95,6 +97,7 @@ fn acknowledge(state: &mut State, held: Held, line: bool)
     } }
     ensures lengths { HaveLengths state.old.outs.items → HaveLengths state.new.outs.items }
     ensures pushed { state.new.broker.pushed ≡ state.old.broker.pushed }
+    ensures caches { state.new.caches ≡ state.old.caches }
 {
     let Ok(message) = state.broker.ack(&held.bot, held.instance, held.message) else {
         unreachable!()
@@ -118,6 +121,7 @@ pub fn done(
     requires new { (r : CacheRule) (k : List ℕ) → rule ≡ Some r → made.key.now ≡ Some k → is_marked k (fresh r.ttl held.now.0 (marks_of held.bot (state_of state.old).caches)) ≡ false }
     requires messages { state.old.next_message + length made.sends.now + length made.dumps.now ≤ last_given + 1 }
     requires few { state.old.broker.pushed + length made.sends.now ≤ 2 ^ 63 }
+    requires marks { GotAtMost (2 ^ 63 - 1) state.old.caches.items }
     requires dumps { state.old.next_dump + length made.dumps.now ≤ last_given + 1 }
     ensures ok { OnOk result (state_of state.new ≡ dumped held.bot held.now made.entry.dumps.now (sent made.entry.sends.now (record (state_of state.old) {
       caches = cached rule held.bot held.now made.entry.key.now (state_of state.old).caches;
@@ -127,6 +131,8 @@ pub fn done(
     ensures err { OnErr result (state_of state.new ≡ state_of state.old) }
     ensures lengths { HaveLengths state.old.outs.items → HaveLengths state.new.outs.items }
     ensures pushed { AreSendsNumbered state.old state.new }
+    ensures got { (n : ℕ) → GotAtMost n state.old.caches.items → OnOk result (GotAtMost (n + 1) state.new.caches.items) }
+    ensures kept { (n : ℕ) → GotAtMost n state.old.caches.items → OnErr result (GotAtMost n state.new.caches.items) }
 {
     let sends = copies(alloc, made.sends)?;
     let no = state.next_message + sends.len() as u64;

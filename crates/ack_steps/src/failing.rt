@@ -79,6 +79,7 @@ fn dump_held(state: &mut State, held: Held, note: FaultNote)
 fn make_all_room(state: &mut State, sends: &[(QueueName, Blob)]) -> Result<(), OutOfMemory>
     ensures same { state_of state.new ≡ state_of state.old }
     ensures outs { state.new.outs ≡ state.old.outs }
+    ensures caches { state.new.caches ≡ state.old.caches }
     ensures pushed { state.new.broker.pushed ≡ state.old.broker.pushed }
     ensures sends { OnOk result (HasRoom sends.now state.new.broker) }
     ensures dump { OnOk result (1 ≤ state.new.dumps.spare) }
@@ -107,6 +108,7 @@ pub fn fail(
         (put_aside held.bot held.instance held.message note.now held.now (record (state_of state.old) { halted = halted_by halts held.bot (state_of state.old).halted }))) }
     ensures err { OnErr result (state_of state.new ≡ state_of state.old) }
     ensures outs { state.new.outs ≡ state.old.outs }
+    ensures caches { state.new.caches ≡ state.old.caches }
     ensures pushed { AreSendsNumbered state.old state.new }
 {
     let copies = copies_of_body(alloc, state, held, queues)?;

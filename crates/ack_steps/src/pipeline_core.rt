@@ -6,10 +6,11 @@ ghost use Rattle.step_code.specs.Fits.{Fits, first_failing, parts};
 ghost use Rattle.step_code.specs.Rules.{IsPlanOf, is_collector, last_moment};
 ghost use Rattle.step_code.specs.Sound.{IsSound};
 ghost use Rattle.ack_steps.specs.Core.{reload_of, HasSmallNumbers, HasSoundHands, IsOrderly, IsNoReload, IsRefusal};
+ghost use Rattle.core_state.specs.Caches.{GotAtMost};
 ghost use Rattle.core_state.specs.Outputs.{HaveLengths};
 ghost use Rattle.core_state.specs.Sealing.{HaveSmallOutputs, sealed_whole};
 ghost use Rattle.step_code.specs.Spent.{last_given, spent, StaysSmall};
-ghost use Rattle.core_state.specs.State.{AreSendsNumbered, HasFewSends, state_of};
+ghost use Rattle.core_state.specs.State.{AreSendsNumbered, HasFewMarks, HasFewSends, state_of};
 
 use crate::acts;
 use crate::content::{is_in_time, rule_of, shows};
@@ -60,14 +61,14 @@ impl<R: Rules> Model for Core<R> {
     ghost use Rattle.std.specs.Prelude.{◌≡◌};
     ghost use Rattle.ack_steps.specs.Core.{CoreView, HasNearFeeds, HasSoundHands, IsOrderly};
     ghost use Rattle.core_state.specs.Outputs.{HaveLengths};
-    ghost use Rattle.core_state.specs.State.{HasFewSends, state_of};
+    ghost use Rattle.core_state.specs.State.{HasFewMarks, HasFewSends, state_of};
 
     ghost Value = { CoreView R };
 
     ghost view = { λ c. record { rules = c.rules; state = state_of c.state } };
 
     ghost invariant = { λ c. (R.bundle_of c.plan ≡ c.state.bundle) × IsPlanOf R.meaning c.state.bundle (R.bots_of c.plan) × HaveLengths c.state.outs.items × IsOrderly (state_of c.state)
-        × HasSoundHands R.meaning (state_of c.state) × HasNearFeeds (state_of c.state) × HasFewSends c.state };
+        × HasSoundHands R.meaning (state_of c.state) × HasNearFeeds (state_of c.state) × HasFewSends c.state × HasFewMarks c.state };
 }
 
 // The plan of the state's bundle, where a store may hold the state.
@@ -110,6 +111,7 @@ fn collect<R: Rules>(
     ensures ok { (from : ℕ) → OnOk result (state_of state.new ≡ acted R.meaning now (state_of state.old) (kind.Collect bot.now from upto piece.now)) }
     ensures err { OnErr result (state_of state.new ≡ state_of state.old) }
     ensures outs { state.new.outs ≡ state.old.outs }
+    ensures caches { state.new.caches ≡ state.old.caches }
     ensures pushed { AreSendsNumbered state.old state.new }
 {
     match bot_named(rules.facts(plan).as_slice(), bot) {
@@ -139,11 +141,14 @@ fn act<R: Rules>(
     requires orderly { IsOrderly (state_of state.old) }
     requires kind { IsNoReload step.now.what }
     requires few { HasFewSends state.old }
+    requires marks { HasFewMarks state.old }
     ensures ok { OnOk result (state_of state.new ≡ acted R.meaning step.now.moment (state_of state.old) step.now.what) }
     ensures err { OnErr result (state_of state.new ≡ state_of state.old) }
     ensures lengths { HaveLengths state.old.outs.items → HaveLengths state.new.outs.items }
     ensures pushed { OnOk result (state.new.broker.pushed + state.old.next_message ≤ state.old.broker.pushed + state.new.next_message + 1) }
     ensures unsent { OnErr result (state.new.broker.pushed ≤ state.old.broker.pushed) }
+    ensures got { (n : ℕ) → GotAtMost n state.old.caches.items → OnOk result (GotAtMost (n + 1) state.new.caches.items) }
+    ensures kept { (n : ℕ) → GotAtMost n state.old.caches.items → OnErr result (GotAtMost n state.new.caches.items) }
 {
     let now = step.moment;
     match &step.what {
@@ -222,12 +227,14 @@ fn act_and_count<R: Rules>(
     requires orderly { IsOrderly (state_of state.old) }
     requires kind { IsNoReload step.now.what }
     requires few { HasFewSends state.old }
+    requires marks { HasFewMarks state.old }
     ensures ok { OnOk result (state_of state.new ≡ after R.meaning (state_of state.old) step.now) }
     ensures err { OnErr result (state_of state.new ≡ state_of state.old) }
     ensures bundle { state.new.bundle ≡ state.old.bundle }
     ensures orderly { IsOrderly (state_of state.new) }
     ensures lengths { HaveLengths state.old.outs.items → HaveLengths state.new.outs.items }
     ensures few { HasFewSends state.new }
+    ensures marks { HasFewMarks state.new }
 {
     act(rules, plan, state, alloc, step)?;
     state.steps += 1;
@@ -246,6 +253,7 @@ fn prepare(
     ensures same { state_of state.new ≡ state_of state.old }
     ensures outs { state.new.outs.items ≡ state.old.outs.items }
     ensures pushed { state.new.broker.pushed ≡ state.old.broker.pushed }
+    ensures caches { state.new.caches ≡ state.old.caches }
     ensures feed_room { OnOk result (length state.new.feeds.items + length bots.now ≤ vec_capacity state.new.feeds) }
     ensures out_room { OnOk result (length state.new.outs.items + length bots.now ≤ vec_capacity state.new.outs) }
 {
@@ -267,6 +275,7 @@ fn put_in_force<R: Rules>(
     requires small { Fits R.meaning (state_of state.old) (reload_of bundle.now now) → HasSmallNumbers (after R.meaning (state_of state.old) (reload_of bundle.now now)) }
     requires orderly { IsOrderly (state_of state.old) }
     requires few { HasFewSends state.old }
+    requires marks { HasFewMarks state.old }
     requires order { Fits R.meaning (state_of state.old) (reload_of bundle.now now) → state.old.latest.0 ≤ now.0 }
     ensures fits { OnOk result (Fits R.meaning (state_of state.old) (reload_of bundle.now now)) }
     ensures ok { OnOk result (state_of state.new ≡ after R.meaning (state_of state.old) (reload_of bundle.now now)) }
@@ -277,6 +286,7 @@ fn put_in_force<R: Rules>(
     ensures err { OnErr result ((state_of state.new ≡ state_of state.old) × (plan.new ≡ plan.old)) }
     ensures lengths { HaveLengths state.old.outs.items → HaveLengths state.new.outs.items }
     ensures few { HasFewSends state.new }
+    ensures marks { HasFewMarks state.new }
 {
     let coming = match rules.plan(alloc, bundle) {
         Ok(coming) => coming,

@@ -177,6 +177,7 @@ pub fn make_entry_room(state: &mut State, bots: &[Facts]) -> Result<(), OutOfMem
     ensures same { state_of state.new ≡ state_of state.old }
     ensures outs { state.new.outs.items ≡ state.old.outs.items }
     ensures feeds { state.new.feeds.items ≡ state.old.feeds.items }
+    ensures caches { state.new.caches ≡ state.old.caches }
     ensures pushed { state.new.broker.pushed ≡ state.old.broker.pushed }
     ensures feed_room { OnOk result (length state.new.feeds.items + length bots.now ≤ vec_capacity state.new.feeds) }
     ensures out_room { OnOk result (length state.new.outs.items + length bots.now ≤ vec_capacity state.new.outs) }
@@ -202,6 +203,8 @@ fn make_entries(state: &mut State, alloc: Global, bots: &[Facts], before: &[Fact
     ensures bundle { state.new.bundle ≡ bundle }
     ensures lengths { HaveLengths state.old.outs.items → HaveLengths state.new.outs.items }
     ensures few { HasFewSends state.old → HasFewSends state.new }
+    ensures caches { state.new.caches ≡ state.old.caches }
+    ensures steps { state.new.steps ≡ state.old.steps }
 {
     renew_all(&mut state.feeds, before, bots);
     add_feeds(&mut state.feeds, bots);
@@ -221,6 +224,8 @@ pub fn reload(state: &mut State, alloc: Global, bots: &[Facts], before: &[Facts]
     ensures bundle { state.new.bundle ≡ bundle }
     ensures lengths { HaveLengths state.old.outs.items → HaveLengths state.new.outs.items }
     ensures few { HasFewSends state.old → HasFewSends state.new }
+    ensures caches { state.new.caches ≡ state.old.caches }
+    ensures steps { state.new.steps ≡ state.old.steps }
 {
     make_entries(state, alloc, bots, before, bundle);
     give_back_all(state, bots, before);

@@ -4,6 +4,7 @@ use Rattle.std.proofs.Crossing.{crosses}
 use Rattle.base_types.proofs.list.ListOf.TheSendSync.{the_send as ListOf-send, the_sync as ListOf-sync}
 use Rattle.base_types.proofs.text.Text.TheSendSync.{the_send as Text-send}
 use Rattle.base_types.proofs.name.BotName.TheSendSync.{the_send as BotName-send}
+use Rattle.expert_modify.proofs.rule.Rule.TheSendSync.{the_field_send as Rule-send}
 use Rattle.event_model.proofs.fields.Fields.TheSendSync.{the_send as Fields-send, the_sync as Fields-sync}
 use Rattle.prefix_table.proofs.nodes.Nodes.TheSendSync.{the_send as Nodes-send, the_sync as Nodes-sync}
 use Rattle.prefix_table.specs.contracts.table.PrefixTable as PrefixTable
@@ -36,7 +37,7 @@ pub sieve_sends : IsSend Sieve.the_row
 sieve_sends = search (item_sends, ListOf-send, Text-send, sendable) depth 60 fits 20000
 
 pub module_sends : IsSend Module.the_field.row
-module_sends = search (sieve_sends, ListOf-send, Text-send, Fields-send, Network-send, sendable) depth 60 fits 20000
+module_sends = search (sieve_sends, Rule-send, ListOf-send, Text-send, Fields-send, Network-send, sendable) depth 60 fits 20000
 
 pub planned_sends : IsSend Planned.the_row
 planned_sends = search (module_sends, ListOf-send, BotName-send, Route-send, sendable) depth 60 fits 20000

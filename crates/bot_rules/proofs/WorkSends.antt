@@ -23,6 +23,10 @@ use Rattle.base_types.proofs.list.ListOf.TheSendSync.{the_send as ListOf-send}
 use Rattle.base_types.proofs.name.BotName.TheSendSync.{the_send as BotName-send}
 use Rattle.base_types.proofs.name.QueueName.TheSendSync.{the_send as QueueName-send}
 use Rattle.event_model.proofs.place.PlaceHint.TheSendSync.{the_send as PlaceHint-send}
+use Rattle.event_model.proofs.fields.Fields.TheSendSync.{the_send as Fields-send}
+use Rattle.field_types.proofs.name.FieldName.TheSendSync.{the_send as FieldName-send}
+use Rattle.expert_modify.specs.contracts.prepared.PreparedRule as PreparedRule
+use Rattle.expert_modify.specs.contracts.prepared.PreparedRules as PreparedRules
 use Rattle.expert_rules.proofs.chosen.DedupRule.TheSendSync.{the_field_send as DedupRule-send}
 use Rattle.feed_csv.proofs.rule.CsvRule.TheSendSync.{the_field_send as CsvRule-send}
 use Rattle.feed_json.proofs.rule.JsonRule.TheSendSync.{the_field_send as JsonRule-send}
@@ -34,6 +38,8 @@ use Rattle.sieve_eval.specs.contracts.pattern.Pattern as Pattern
 use Rattle.sieve_eval.specs.contracts.pattern.Patterns as Patterns
 use Rattle.sieve_eval.specs.contracts.saying.Setting as Setting
 use Rattle.sieve_eval.specs.contracts.prepared.Prepared as Prepared
+use Rattle.bot_rules.specs.contracts.change.Change as Change
+use Rattle.bot_rules.specs.contracts.change.ModifyJob as ModifyJob
 use Rattle.bot_rules.specs.contracts.job.SieveJob as SieveJob
 use Rattle.bot_rules.specs.contracts.job.Job as Job
 use Rattle.bot_rules.specs.contracts.work.IntelWork as IntelWork
@@ -81,8 +87,20 @@ prepared_sends = search (sieve_sends, setting_sends, sendable) depth 60 fits 200
 pub sieve_job_sends : IsSend SieveJob.the_field.row
 sieve_job_sends = search (prepared_sends, ListOf-send, Route-send, sendable) depth 60 fits 20000
 
+pub prepared_rule_sends : IsSend PreparedRule.the_row
+prepared_rule_sends = search (pattern_sends, FieldName-send, Fields-send, crosses, sendable) depth 60 fits 20000
+
+pub prepared_rules_sends : IsSend PreparedRules.the_row
+prepared_rules_sends = search (prepared_rule_sends, crosses, sendable) depth 60 fits 20000
+
+pub modify_job_sends : IsSend ModifyJob.the_field.row
+modify_job_sends = search (prepared_rules_sends, sendable) depth 60 fits 20000
+
+pub change_sends : IsSend Change.the_field.row
+change_sends = search (modify_job_sends, table_sends, sendable) depth 60 fits 20000
+
 pub job_sends : IsSend Job.the_field.row
-job_sends = search (sieve_job_sends, table_sends, CsvRule-send, JsonRule-send, DedupRule-send, sendable) depth 60 fits 20000
+job_sends = search (sieve_job_sends, change_sends, CsvRule-send, JsonRule-send, DedupRule-send, sendable) depth 60 fits 20000
 
 pub work_sends : IsSend IntelWork.the_row
 work_sends = search (job_sends, ListOf-send, BotName-send, QueueName-send, crosses, sendable) depth 60 fits 20000

@@ -37,6 +37,7 @@ role_of (modules.Sieve sieve) = role.Expert
 role_of (modules.Dedup keys keep ttl cache_max) = role.Expert
 role_of (modules.Prefix networks sets overwrite) = role.Expert
 role_of modules.Taxonomy = role.Expert
+role_of (modules.Modify rules overwrite most) = role.Expert
 role_of modules.Output = role.Output
 
 -- for how long a deduplicator's key counts as seen, and how many are kept; no other bot drops duplicates

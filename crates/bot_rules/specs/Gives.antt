@@ -14,8 +14,6 @@ use Rattle.feed_rows.specs.declared.parsed.Parsed.{Parsed}
 use Rattle.feed_csv.specs.Rows.{csv_parsed}
 use Rattle.feed_json.specs.Rows.{json_parsed}
 use Rattle.expert_rules.specs.Chosen.{chosen}
-use Rattle.expert_rules.specs.Enrich.{enriched}
-use Rattle.expert_rules.specs.Taxonomy.{with_taxonomy}
 use Rattle.runtime_config.specs.declared.plan.Route.{Route}
 use Rattle.sieve_eval.specs.Verdicts.{verdict}
 use Rattle.sieve_eval.specs.declared.verdict.Fate.{Fate}
@@ -26,7 +24,7 @@ use Rattle.step_code.specs.declared.rules.Given.TheVariants as given
 use Rattle.step_code.specs.declared.rules.Role.{Role}
 use Rattle.step_code.specs.declared.rules.Role.TheVariants as role
 use Rattle.bot_rules.specs.Facts.{queues_on}
-use Rattle.bot_rules.specs.Jobs.{role_for}
+use Rattle.bot_rules.specs.Jobs.{changed, role_for}
 use Rattle.bot_rules.specs.declared.job.Job.{Job}
 use Rattle.bot_rules.specs.declared.job.Job.TheVariants as job
 
@@ -87,8 +85,7 @@ job_gives (job.Csv rule) queues since fields = parser_gives queues (csv_parsed r
 job_gives (job.Json rule) queues since fields = parser_gives queues (json_parsed rule fields)
 job_gives (job.Sieve work) queues since fields = sieve_gives work.routes (verdict work.sieve fields since)
 job_gives (job.Dedup rule) queues since fields = dedup_gives queues (chosen rule fields) fields
-job_gives (job.Prefix table) queues since fields = expert_gives queues (enriched table.networks table.sets table.overwrite fields)
-job_gives job.Taxonomy queues since fields = expert_gives queues (with_taxonomy fields)
+job_gives (job.Change change) queues since fields = expert_gives queues (changed change fields)
 job_gives job.Output queues since fields = given.Pass [] [] None true
 
 -- ---- a message

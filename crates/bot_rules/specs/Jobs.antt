@@ -7,12 +7,17 @@ use Rattle.feed_csv.specs.declared.rule.CsvRule.{CsvRule}
 use Rattle.feed_json.specs.declared.rule.JsonRule.{JsonRule}
 use Rattle.feed_json.specs.declared.rule.Style.{Style}
 use Rattle.feed_json.specs.declared.rule.Style.TheVariants as style
+use Rattle.expert_rules.specs.Enrich.{enriched}
+use Rattle.expert_rules.specs.Modify.{modified}
+use Rattle.expert_rules.specs.Taxonomy.{with_taxonomy}
 use Rattle.expert_rules.specs.declared.chosen.DedupRule.{DedupRule}
 use Rattle.runtime_config.specs.declared.plan.Module.{Module}
 use Rattle.runtime_config.specs.declared.plan.Module.TheVariants as modules
 use Rattle.runtime_config.specs.declared.plan.Route.{Route}
 use Rattle.step_code.specs.declared.rules.Role.{Role}
 use Rattle.step_code.specs.declared.rules.Role.TheVariants as role
+use Rattle.bot_rules.specs.declared.change.Change.{Change}
+use Rattle.bot_rules.specs.declared.change.Change.TheVariants as change
 use Rattle.bot_rules.specs.declared.job.Job.{Job}
 use Rattle.bot_rules.specs.declared.job.Job.TheVariants as job
 use Rattle.bot_rules.specs.declared.table.Rows.{Rows}
@@ -47,8 +52,9 @@ job_of routes (modules.Csv columns delimiter skip_header defaults stamp) = Some 
 job_of routes (modules.Json word defaults) = Some (job.Json (json_rule word defaults))
 job_of routes (modules.Sieve sieve) = Some (job.Sieve (record { sieve = sieve; routes = routes }))
 job_of routes (modules.Dedup keys keep ttl cache_max) = Some (job.Dedup (dedup_rule keys keep ttl cache_max))
-job_of routes (modules.Prefix networks sets overwrite) = Some (job.Prefix (record { networks = networks; sets = sets; overwrite = overwrite }))
-job_of routes modules.Taxonomy = Some job.Taxonomy
+job_of routes (modules.Prefix networks sets overwrite) = Some (job.Change (change.Prefix (record { networks = networks; sets = sets; overwrite = overwrite })))
+job_of routes modules.Taxonomy = Some (job.Change change.Taxonomy)
+job_of routes (modules.Modify rules overwrite most) = Some (job.Change (change.Modify (record { rules = rules; overwrite = overwrite; most = most })))
 job_of routes modules.Output = Some job.Output
 
 -- what a bot with this work is for
@@ -57,6 +63,11 @@ role_for (job.Csv rule) = role.Parser
 role_for (job.Json rule) = role.Parser
 role_for (job.Sieve work) = role.Expert
 role_for (job.Dedup rule) = role.Expert
-role_for (job.Prefix table) = role.Expert
-role_for job.Taxonomy = role.Expert
+role_for (job.Change change) = role.Expert
 role_for job.Output = role.Output
+
+-- the fields of the one event that an expert makes of one with these
+abbrev pub changed : Change → FieldMap → FieldMap
+changed (change.Prefix table) fields = enriched table.networks table.sets table.overwrite fields
+changed change.Taxonomy fields = with_taxonomy fields
+changed (change.Modify work) fields = modified work.rules work.overwrite work.most fields

@@ -44,6 +44,8 @@ use Rattle.bot_rules.specs.Gives.{are_lawful, body_gives, fate_gives, is_lawful,
 use Rattle.bot_rules.specs.Intel.{bare_report, bot_gives, bot_reports, facts_in, intel, module_reports, plan_in, planned_in, planned_named, work_gives}
 use Rattle.bot_rules.specs.Jobs.{csv_rule, dedup_rule, job_of, json_rule, role_for}
 use Rattle.bot_rules.specs.Report.{report_text}
+use Rattle.bot_rules.specs.declared.change.Change.{Change}
+use Rattle.bot_rules.specs.declared.change.Change.TheVariants as change
 use Rattle.bot_rules.specs.declared.job.Job.{Job}
 use Rattle.bot_rules.specs.declared.job.Job.TheVariants as job
 
@@ -67,6 +69,7 @@ module_is_lawful (modules.Sieve sieve) piece now = bare_is_lawful
 module_is_lawful (modules.Dedup keys keep ttl cache_max) piece now = bare_is_lawful
 module_is_lawful (modules.Prefix networks sets overwrite) piece now = bare_is_lawful
 module_is_lawful modules.Taxonomy piece now = bare_is_lawful
+module_is_lawful (modules.Modify rules overwrite most) piece now = bare_is_lawful
 module_is_lawful modules.Output piece now = bare_is_lawful
 
 bot_is_lawful : (p : Option Planned) (piece : List ℕ) (now : ℕ) → is_lawful (bot_reports p piece now) ≡ true
@@ -92,6 +95,7 @@ sound_as p (modules.Sieve sieve) is within = sound_with _ is.some_instance is.in
 sound_as p (modules.Dedup keys keep ttl cache_max) is within = sound_with _ is.some_instance is.instances is.retries is.delay refl tt tt within
 sound_as p (modules.Prefix networks sets overwrite) is within = sound_with _ is.some_instance is.instances is.retries is.delay refl tt tt tt
 sound_as p modules.Taxonomy is within = sound_with _ is.some_instance is.instances is.retries is.delay refl tt tt tt
+sound_as p (modules.Modify rules overwrite most) is within = sound_with _ is.some_instance is.instances is.retries is.delay refl tt tt tt
 sound_as p modules.Output is within = sound_with _ is.some_instance is.instances is.retries is.delay refl tt tt tt
 
 bot_is_sound : (p : Planned) → IsBotWithin p → IsSoundBot (facts_of p)
@@ -153,6 +157,7 @@ collects_as p (modules.Sieve sieve) = refl
 collects_as p (modules.Dedup keys keep ttl cache_max) = refl
 collects_as p (modules.Prefix networks sets overwrite) = refl
 collects_as p modules.Taxonomy = refl
+collects_as p (modules.Modify rules overwrite most) = refl
 collects_as p modules.Output = refl
 
 -- a bot is a collector where its module is that of collectors
@@ -204,6 +209,10 @@ body_fits : (f : Facts) (work : Job) (queues : List (List ℕ)) (since : ℕ) (b
 unfolding body_gives
 body_fits f work queues since body right = message_fits f work queues since (strict body) right
 
+change_fits : (f : Facts) (c : Change) (queues : List (List ℕ)) (since : ℕ) (body : List ℕ) → FitsBot intel f (body_gives (job.Change c) queues since body)
+unfolding job_gives
+change_fits f c queues since body = body_fits f (job.Change c) queues since body (λ fields. plain f)
+
 -- the facts of the bot with this module in place of its own
 abbrev facts_as : Planned → Module → Facts
 facts_as p m = facts_of (record p { «module» = m })
@@ -228,11 +237,10 @@ module_fits p (modules.Dedup keys keep ttl cache_max) since body =
     body_fits (facts_as p (modules.Dedup keys keep ttl cache_max)) (job.Dedup (dedup_rule keys keep ttl cache_max)) (queues_on default_path p.paths) since body
     (λ fields. (λ some. refl, λ line. absurd (cc (line))))
 module_fits p (modules.Prefix networks sets overwrite) since body =
-    let f = facts_as p (modules.Prefix networks sets overwrite) in
-    body_fits f (job.Prefix (record { networks = networks; sets = sets; overwrite = overwrite })) (queues_on default_path p.paths) since body (λ fields. plain f)
-module_fits p modules.Taxonomy since body =
-    let f = facts_as p modules.Taxonomy in
-    body_fits f job.Taxonomy (queues_on default_path p.paths) since body (λ fields. plain f)
+    change_fits (facts_as p (modules.Prefix networks sets overwrite)) (change.Prefix (record { networks = networks; sets = sets; overwrite = overwrite })) (queues_on default_path p.paths) since body
+module_fits p modules.Taxonomy since body = change_fits (facts_as p modules.Taxonomy) change.Taxonomy (queues_on default_path p.paths) since body
+module_fits p (modules.Modify rules overwrite most) since body =
+    change_fits (facts_as p (modules.Modify rules overwrite most)) (change.Modify (record { rules = rules; overwrite = overwrite; most = most })) (queues_on default_path p.paths) since body
 module_fits p modules.Output since body =
     body_fits (facts_as p modules.Output) job.Output (queues_on default_path p.paths) since body (λ fields. (λ some. absurd (cc (some)), λ line. refl))
 

@@ -2,15 +2,15 @@
 ghost use Rattle.std.specs.Prelude.{◌≡◌, true, IfOk};
 ghost use Rattle.std.specs.List.{list_all};
 ghost use Rattle.expert_rules.specs.Chosen.{chosen};
-ghost use Rattle.expert_rules.specs.Enrich.{enriched};
-ghost use Rattle.expert_rules.specs.Taxonomy.{with_taxonomy};
+ghost use Rattle.bot_rules.specs.Jobs.{changed};
 ghost use Rattle.bot_rules.specs.Gives.{are_lawful, body_of, dedup_gives, expert_gives, is_lawful, to_each};
 
-use crate::Table;
+use crate::Change;
 use crate::body::{body_of, send_to_each};
+use crate::change::changed;
 use base_types::{Blob, NoteList, OutOfMemory, QueueList, SendList};
 use event_model::{Fields, Kind};
-use expert_rules::{DedupRule, dedup_fields, enrich, taxonomy};
+use expert_rules::{DedupRule, dedup_fields};
 use std::alloc::Global;
 use step_code::Given;
 
@@ -38,32 +38,19 @@ fn event_gives(alloc: Global, queues: &QueueList, fields: Fields) -> Result<Give
     })
 }
 
-/// What a prefix expert gives of an event.
-pub fn prefix_gives(
+/// What an expert gives that makes one event of one.
+pub fn change_gives(
     alloc: Global,
-    table: &Table,
+    change: &mut Change,
     queues: &QueueList,
     fields: &Fields,
 ) -> Result<Given, OutOfMemory>
-    ensures given { IfOk result (λ g. g ≡ expert_gives queues.now (enriched table.now.networks table.now.sets table.now.overwrite fields.now)) }
+    ensures given { IfOk result (λ g. g ≡ expert_gives queues.now (changed change.old fields.now)) }
     ensures lawful { IfOk result (λ g. are_lawful g ≡ true) }
+    ensures same { change.new ≡ change.old }
 {
-    let rows = table.rows();
-    let found = enrich(alloc, &rows.networks, &rows.sets, rows.overwrite, fields)?;
-    event_gives(alloc, queues, found)
-}
-
-/// What a taxonomy expert gives of an event.
-pub fn taxonomy_gives(
-    alloc: Global,
-    queues: &QueueList,
-    fields: &Fields,
-) -> Result<Given, OutOfMemory>
-    ensures given { IfOk result (λ g. g ≡ expert_gives queues.now (with_taxonomy fields.now)) }
-    ensures lawful { IfOk result (λ g. are_lawful g ≡ true) }
-{
-    let classified = taxonomy(alloc, fields)?;
-    event_gives(alloc, queues, classified)
+    let made = changed(alloc, change, fields)?;
+    event_gives(alloc, queues, made)
 }
 
 /// What a deduplicator gives of the event whose text the body is. The body goes on as it is.

@@ -28,9 +28,11 @@ fn role_of(module: &Module) -> Role
     match module {
         Module::Collector { .. } => Role::Collector,
         Module::Csv { .. } | Module::Json { .. } => Role::Parser,
-        Module::Sieve(_) | Module::Dedup { .. } | Module::Prefix { .. } | Module::Taxonomy => {
-            Role::Expert
-        }
+        Module::Sieve(_)
+        | Module::Dedup { .. }
+        | Module::Prefix { .. }
+        | Module::Taxonomy
+        | Module::Modify { .. } => Role::Expert,
         Module::Output => Role::Output,
     }
 }

@@ -8,7 +8,7 @@ ghost use Rattle.bot_rules.specs.Jobs.{role_for};
 
 use crate::Job;
 use crate::body::message_of;
-use crate::experts::{dedup_gives, prefix_gives, taxonomy_gives};
+use crate::experts::{change_gives, dedup_gives};
 use crate::parsers::{csv_gives, json_gives};
 use crate::sieves::sieve_gives;
 use base_types::{Blob, Moment, NoteList, OutOfMemory, QueueList, SendList};
@@ -22,7 +22,7 @@ fn role_for(job: &Job) -> Role
 {
     match job {
         Job::Csv(_) | Job::Json(_) => Role::Parser,
-        Job::Sieve(_) | Job::Dedup(_) | Job::Prefix(_) | Job::Taxonomy => Role::Expert,
+        Job::Sieve(_) | Job::Dedup(_) | Job::Change(_) => Role::Expert,
         Job::Output => Role::Output,
     }
 }
@@ -79,8 +79,7 @@ fn job_gives(
         Job::Json(rule) => json_gives(alloc, rule, queues, fields),
         Job::Sieve(work) => sieve_gives(alloc, work, fields, since),
         Job::Dedup(rule) => dedup_gives(alloc, rule, queues, body, fields),
-        Job::Prefix(table) => prefix_gives(alloc, table, queues, fields),
-        Job::Taxonomy => taxonomy_gives(alloc, queues, fields),
+        Job::Change(change) => change_gives(alloc, change, queues, fields),
         Job::Output => Ok(written(alloc)),
     }
 }

@@ -1,4 +1,4 @@
-use crate::Table;
+use crate::Change;
 use expert_rules::DedupRule;
 use feed_csv::CsvRule;
 use feed_json::JsonRule;
@@ -19,7 +19,7 @@ pub enum Job {
     Json(JsonRule),
     Sieve(SieveJob),
     Dedup(DedupRule),
-    Prefix(Table),
-    Taxonomy,
+    /// It makes one event of one.
+    Change(Change),
     Output,
 }

@@ -2,6 +2,7 @@
 #![tactic(auto)]
 
 mod body;
+mod change;
 mod copies;
 mod experts;
 mod facts;
@@ -16,6 +17,7 @@ mod sieves;
 mod table;
 mod work;
 
+pub use change::{Change, ModifyJob};
 pub use job::{Job, SieveJob};
 pub use plan::IntelPlan;
 pub use rules::IntelRules;

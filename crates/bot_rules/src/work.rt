@@ -7,9 +7,10 @@ ghost use Rattle.bot_rules.specs.Intel.{bot_gives, planned_in};
 use crate::copies::{columns_of, copy_routes, copy_texts};
 use crate::facts::{DEFAULT_PATH, queues_on};
 use crate::give::body_gives;
-use crate::{IntelPlan, Job, SieveJob, Table};
+use crate::{Change, IntelPlan, Job, ModifyJob, SieveJob, Table};
 use base_types::{Blob, BotName, Moment, OutOfMemory, QueueList, Text, TextList};
 use event_model::Fields;
+use expert_modify::{ModifyRules, PreparedRules};
 use expert_rules::DedupRule;
 use feed_csv::CsvRule;
 use feed_json::{JsonRule, Style};
@@ -110,12 +111,28 @@ fn dedup(
 // A prefix expert shares the table of its plan.
 fn prefix(table: &Option<Table>) -> Result<Job, OutOfMemory>
     requires { IsSome table.now }
-    ensures { IfOk result (λ job. option_map Job.Prefix table.now ≡ Some job) }
+    ensures { IfOk result (λ job. option_map (λ rows. Job.Change (Change.Prefix rows)) table.now ≡ Some job) }
 {
     match table {
-        Some(table) => Ok(Job::Prefix(table.share()?)),
+        Some(table) => Ok(Job::Change(Change::Prefix(table.share()?))),
         None => unreachable!(),
     }
+}
+
+// The patterns of rules are built here, once for all messages.
+fn modify(
+    alloc: Global,
+    rules: &ModifyRules,
+    overwrite: bool,
+    most: u32,
+) -> Result<Job, OutOfMemory>
+    ensures { IfOk result (λ job. job ≡ Job.Change (Change.Modify (record { rules = rules.now; overwrite = overwrite; most = most }))) }
+{
+    Ok(Job::Change(Change::Modify(ModifyJob {
+        rules: PreparedRules::new(alloc, rules)?,
+        overwrite,
+        most,
+    })))
 }
 
 // What a bot with these paths and this module, which is no collector's, does with messages.
@@ -147,7 +164,12 @@ fn job_of(
             cache_max,
         } => dedup(alloc, keys, *keep, *ttl, *cache_max),
         Module::Prefix { .. } => prefix(table),
-        Module::Taxonomy => Ok(Job::Taxonomy),
+        Module::Taxonomy => Ok(Job::Change(Change::Taxonomy)),
+        Module::Modify {
+            rules,
+            overwrite,
+            most,
+        } => modify(alloc, rules, *overwrite, *most),
         Module::Output => Ok(Job::Output),
     }
 }

@@ -81,3 +81,12 @@ pub all_set : {A : Type 0} (P : A → Type 0) (xs : List A) (i : ℕ) (x new : A
 all_set P [] i x new is keeps all = tt
 all_set P (y ∷ ys) zero x new is keeps all = (keeps (subst P (sym is) all.0), all.1)
 all_set P (y ∷ ys) (suc i) x new is keeps all = (all.0, all_set P ys i x new is keeps all.1)
+
+-- what holds of each item holds of the first that passes
+pub at_place : {A : Type 0} (P : A → Type 0) (p : A → Bool) (xs : List A) (i : ℕ) (x : A) → position p xs ≡ Some i → x ≡ get_or xs i x → AllByRecursion P xs → P x
+at_place {A = A} P p xs i x place is all = within xs i is (first_at p xs i place).inside all
+  where
+    within : (ys : List A) (k : ℕ) → x ≡ get_or ys k x → k < length ys → AllByRecursion P ys → P x
+    within [] k is inside all = absurd (omega (arith, inside))
+    within (y ∷ ys) zero is inside all = subst P (sym is) all.0
+    within (y ∷ ys) (suc k) is inside all = within ys k is (omega (arith, inside)) all.1

@@ -1,5 +1,5 @@
 -- Caches of bots, as the lists that they stand for.
-use Rattle.std.specs.Prelude.{ℕ, Bool, List, map}
+use Rattle.std.specs.Prelude.{◌≤◌, ℕ, Bool, List, map}
 use Rattle.std.specs.List.{AllByRecursion}
 use Rattle.std.specs.Str.{bytes_eq}
 use Rattle.step_code.specs.declared.cache.BotCache.{BotCache}
@@ -14,6 +14,10 @@ caches_of ms = map cache_of ms
 
 abbrev pub has_bot : List ℕ → Marks → Bool
 has_bot bot m = bytes_eq m.bot bot
+
+-- to no cache more marks came than this
+abbrev pub GotAtMost : ℕ → List Marks → Type 0
+GotAtMost n ms = AllByRecursion (λ m. m.marks.pushed ≤ n) ms
 
 -- caches can hold the marks of these lists: their moments don't fall, and no two of a list have one key
 abbrev pub AreCaches : List BotCache → Type 0

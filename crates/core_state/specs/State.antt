@@ -1,7 +1,7 @@
 -- The state in its parts, as the lists that it stands for.
-use Rattle.std.specs.Prelude.{◌≤◌, ◌+◌}
+use Rattle.std.specs.Prelude.{◌≤◌, ◌+◌, ◌^◌}
 use Rattle.step_code.specs.declared.base.Base.{Base}
-use Rattle.core_state.specs.Caches.{caches_of}
+use Rattle.core_state.specs.Caches.{GotAtMost, caches_of}
 use Rattle.core_state.specs.Outputs.{outs_of}
 use Rattle.core_state.specs.declared.state.State.{State}
 
@@ -31,3 +31,7 @@ AreSendsNumbered old new = new.broker.pushed + old.next_message ≤ old.broker.p
 -- already
 abbrev pub HasFewSends : State → Type 0
 HasFewSends s = s.broker.pushed + 1 ≤ s.next_message + s.steps
+
+-- to no cache more marks came than its base may have had and steps were taken, together: a step marks at most one key in a cache
+abbrev pub HasFewMarks : State → Type 0
+HasFewMarks s = GotAtMost (2 ^ 32 + s.steps) s.caches.items

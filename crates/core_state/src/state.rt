@@ -1,9 +1,9 @@
 //! The state in parts that grow.
-ghost use Rattle.std.specs.Prelude.{◌≡◌, ◌+◌, IfOk, OnOk, length, map};
+ghost use Rattle.std.specs.Prelude.{◌≡◌, ◌+◌, ◌^◌, IfOk, OnOk, length, map};
 ghost use Rattle.std.specs.List.Sorted.{IsStrictlySortedBy};
 ghost use Rattle.std.specs.Ordering.{nat_cmp};
 ghost use Rattle.queue_broker.specs.Broker.{HaveQueues, total};
-ghost use Rattle.core_state.specs.Caches.{AreCaches};
+ghost use Rattle.core_state.specs.Caches.{AreCaches, GotAtMost};
 ghost use Rattle.core_state.specs.Outputs.{HaveLengths, outs_of};
 ghost use Rattle.core_state.specs.Sealing.{HaveSmallOutputs, sealed_whole};
 ghost use Rattle.core_state.specs.State.{state_of};
@@ -44,6 +44,7 @@ pub fn from_base(alloc: Global, base: Base) -> Result<State, OutOfMemory>
     ensures same { IfOk result (λ state. state_of state ≡ base) }
     ensures lengths { IfOk result (λ state. HaveLengths state.outs.items) }
     ensures pushed { IfOk result (λ state. state.broker.pushed ≡ total base.queues + length base.hands) }
+    ensures marks { IfOk result (λ state. GotAtMost (2 ^ 32) state.caches.items) }
 {
     Ok(State {
         steps: base.steps,

@@ -3,3 +3,4 @@ mod KeptMarks
 pub mod Keys
 mod LastApart
 mod Updated
+mod Rows

@@ -5,10 +5,11 @@ use Rattle.std.specs.List.Sorted.{IsNonDecreasingBy}
 use Rattle.std.specs.Str.{bytes_eq}
 use Rattle.stored_types.specs.declared.mark.Mark.{Mark}
 
--- the marks, the oldest first, and the key that room is kept for
+-- the marks, the oldest first, the key that room is kept for, and how many marks came so far
 pub record CacheView : Type 0 where
   pub marks : List Mark
   pub ready : Option (List ℕ)
+  pub pushed : ℕ
 
 -- no mark is later than one behind it
 abbrev pub DoNotFall : List Mark → Type 0

@@ -1,14 +1,13 @@
 -- Marks in a queue, and the moments of their keys.
-use Rattle.std.specs.Prelude.{◌≡◌, ◌<◌, ◌-◌, ℕ, Bool, false, not, cond, nat_lt, List, [], ◌∷◌, Option, Some, None}
+use Rattle.std.specs.Prelude.{◌≡◌, ◌≤◌, ◌+◌, ◌-◌, ℕ, Bool, false, not, cond, nat_lt, List, [], ◌∷◌, length, map, Option, Some, None}
 use Rattle.std.specs.BTreeMap.{BTreeMap, get_by}
 use Rattle.std.specs.Cmp.Lexicographic.{slice_cmp}
 use Rattle.std.specs.Ordering.{nat_cmp}
 use Rattle.std.specs.Str.{bytes_eq}
-use Rattle.std.specs.declared.collections.VecDeque.{VecDeque}
 use Rattle.std.specs.declared.vec.Vec.{Vec}
-use Rattle.std.specs.VecDeque.{deque_len, deque_capacity}
 use Rattle.base_types.specs.declared.message.Moment.{Moment}
 use Rattle.stored_types.specs.declared.mark.Mark.{Mark}
+use Rattle.link_store.specs.Links.{Item, LinksView, list_of}
 use Rattle.dedup_cache.specs.declared.moments.Moments.{Moments}
 use Rattle.dedup_cache.specs.Cache.{DoNotFall, HaveOwnKeys}
 
@@ -51,7 +50,31 @@ pub record KeepMarks (marks : List Mark) (moments : Moments) : Type 0 where
   pub keys : HaveOwnKeys marks
   pub same : (key : List ℕ) → found key moments ≡ moment_of key marks
 
+-- marks in a row, for how many more there is room, and how many came so far
+pub record RowView : Type 0 where
+  pub marks : List Mark
+  pub spare : ℕ
+  pub pushed : ℕ
+
+-- the marks of a list
+abbrev pub marks_in : List (Item Mark) → List Mark
+marks_in items = map (λ i. i.value) items
+
+-- the row of one list, or of none yet
+abbrev pub row_of : Option (LinksView Mark) → RowView
+row_of None = record { marks = []; spare = 0; pushed = 0 }
+row_of (Some links) = record { marks = marks_in (list_of links 0); spare = links.spare; pushed = links.pushed }
+
+abbrev pub IsRow : Option (LinksView Mark) → Type 0
+IsRow None = Unit {0}
+IsRow (Some links) = length links.lists ≡ 1
+
+-- the first of these marks left the row, and is the answer
+abbrev pub LosesFirst : List Mark → RowView → RowView → Option Mark → Type 0
+LosesFirst [] old new answer = (answer ≡ None) × (new ≡ old)
+LosesFirst (mark ∷ marks) old new answer = (answer ≡ Some mark) × (new ≡ record old { marks = marks; spare = old.spare + 1 })
+
 -- both have room for one more
-pub record HaveRoom {Z : Type 0} (marks : VecDeque Mark Z) (moments : Moments) : Type 0 where
-  pub mark : deque_len marks < deque_capacity marks
+pub record HaveRoom (row : RowView) (moments : Moments) : Type 0 where
+  pub mark : 1 ≤ row.spare
   pub moment : moments.last ≡ None

@@ -1,20 +1,20 @@
-ghost use Rattle.std.specs.Prelude.{◌≡◌, ◌++◌, ◌∷◌, [], false, IfOk, OnOk, OnErr, Some, None};
+ghost use Rattle.std.specs.Prelude.{◌≡◌, ◌<◌, ◌+◌, ◌^◌, ◌++◌, ◌∷◌, [], length, false, IfOk, OnOk, OnErr, Some, None};
 ghost use Rattle.stored_types.specs.Mark.{fresh, is_marked, trimmed};
 ghost use Rattle.dedup_cache.specs.Cache.{ArePast, DoNotFall, HaveOwnKeys};
 
 use crate::kept::{drop_expired, drop_first, is_fresh, moments_of};
 use crate::moments::Moments;
+use crate::row::Row;
 use base_types::{Blob, Moment, OutOfMemory};
 use std::alloc::Global;
-use std::collections::VecDeque;
 use std::marker::Model;
-use stored_types::{Mark, MarkList, copy_all};
+use stored_types::{Mark, MarkList};
 
 /// The marks of a bot, the oldest first, each with a key of its own; and the key that room is kept for. Moments don't fall.
 #[derive(Debug, Drop)]
 pub struct Cache {
     alloc: Global,
-    marks: VecDeque<Mark>,
+    marks: Row,
     // The moment of each key.
     moments: Moments,
     // A copy of the key that comes.
@@ -28,19 +28,19 @@ impl Model for Cache {
 
     ghost Value = { CacheView };
 
-    ghost view = { λ c. record { marks = c.marks.items; ready = option_map (λ k. k.items) c.ready } };
+    ghost view = { λ c. record { marks = c.marks.marks; ready = option_map (λ k. k.items) c.ready; pushed = c.marks.pushed } };
 
-    ghost invariant = { λ c. KeepMarks c.marks.items c.moments × (IsSome c.ready → HaveRoom c.marks c.moments) };
+    ghost invariant = { λ c. KeepMarks c.marks.marks c.moments × (IsSome c.ready → HaveRoom c.marks c.moments) };
 }
 
 impl Cache {
     /// A cache with no marks. It takes no memory.
     pub fn new(alloc: Global) -> Cache
-        ensures { result ≡ record { marks = []; ready = None } }
+        ensures { result ≡ record { marks = []; ready = None; pushed = 0 } }
     {
         Cache {
             alloc,
-            marks: VecDeque::new(alloc),
+            marks: Row::new(),
             moments: Moments::new(alloc),
             ready: None,
         }
@@ -54,12 +54,13 @@ impl Cache {
     pub fn from_list(marks: MarkList, alloc: Global) -> Result<Cache, OutOfMemory>
         requires order { DoNotFall marks }
         requires keys { HaveOwnKeys marks }
-        ensures { IfOk result (λ cache. cache ≡ record { marks = marks; ready = None }) }
+        ensures cache { IfOk result (λ cache. cache ≡ record { marks = marks; ready = None; pushed = length marks }) }
+        ensures few { OnOk result (length marks < 2 ^ 32) }
     {
         let moments = moments_of(alloc, marks.as_slice())?;
         Ok(Cache {
             alloc,
-            marks: VecDeque::from_vec(marks.into_vec()),
+            marks: Row::from_vec(alloc, marks.into_vec())?,
             moments,
             ready: None,
         })
@@ -73,11 +74,7 @@ impl Cache {
     pub fn copy(&self, alloc: Global) -> Result<MarkList, OutOfMemory>
         ensures { IfOk result (λ marks. marks ≡ self.now.marks) }
     {
-        let (front, back) = self.marks.as_slices();
-        let mut marks = Vec::with_capacity(alloc, self.marks.len())?;
-        copy_all(alloc, &mut marks, front)?;
-        copy_all(alloc, &mut marks, back)?;
-        Ok(MarkList::from(marks))
+        self.marks.copy(alloc)
     }
 
     /// Whether the key is marked.
@@ -108,7 +105,8 @@ impl Cache {
     pub fn trim(&mut self, below: u32)
         ensures { self.new ≡ record self.old { marks = trimmed below self.old.marks } }
     {
-        let count = (self.marks.len() + 1).saturating_sub(below as usize);
+        let left = below.saturating_sub(1) as usize;
+        let count = self.marks.len().saturating_sub(left);
         drop_first(&mut self.marks, &mut self.moments, count);
     }
 
@@ -119,11 +117,12 @@ impl Cache {
     /// `OutOfMemory`: nothing has changed.
     pub fn reserve(&mut self, key: &Blob) -> Result<(), OutOfMemory>
         ensures marks { self.new.marks ≡ self.old.marks }
+        ensures pushed { self.new.pushed ≡ self.old.pushed }
         ensures ready { OnOk result (self.new.ready ≡ Some key.now) }
         ensures err { OnErr result (self.new ≡ self.old) }
     {
         let copy = key.bytes().to_vec(self.alloc)?;
-        self.marks.reserve(1)?;
+        self.marks.reserve(self.alloc, 1)?;
         self.moments.reserve()?;
         self.ready = Some(copy);
         Ok(())
@@ -134,12 +133,13 @@ impl Cache {
         requires ready { self.old.ready ≡ Some key }
         requires new { is_marked key self.old.marks ≡ false }
         requires past { ArePast now.0 self.old.marks }
-        ensures { self.new ≡ record { marks = self.old.marks ++ record { key = key; moment = now } ∷ []; ready = None } }
+        requires few { self.old.pushed < 2 ^ 63 }
+        ensures { self.new ≡ record { marks = self.old.marks ++ record { key = key; moment = now } ∷ []; ready = None; pushed = self.old.pushed + 1 } }
     {
         let Some(copy) = self.ready.take() else {
             unreachable!()
         };
         self.moments.insert(copy, now);
-        self.marks.push_back_reserved(Mark { key, moment: now });
+        self.marks.push(Mark { key, moment: now });
     }
 }

@@ -1,14 +1,13 @@
-//! Marks in a queue, and the moments of their keys.
+//! Marks in a row, and the moments of their keys.
 ghost use Rattle.std.specs.Prelude.{◌≡◌, ◌-◌, drop, nat_lt, List, ℕ, IfOk};
-ghost use Rattle.std.specs.VecDeque.{deque_len};
 ghost use Rattle.stored_types.specs.Mark.{fresh};
 ghost use Rattle.dedup_cache.specs.Cache.{HaveOwnKeys};
 ghost use Rattle.dedup_cache.specs.Kept.{KeepMarks, HaveRoom, found, has_expired, moment_of};
 
 use crate::moments::Moments;
+use crate::row::Row;
 use base_types::{Moment, OutOfMemory};
 use std::alloc::Global;
-use std::collections::VecDeque;
 use stored_types::Mark;
 
 /// Whether a key that was marked at this moment, `ttl` seconds being its time to live, still counts.
@@ -19,34 +18,35 @@ pub fn is_fresh(moment: Moment, ttl: u64, now: Moment) -> bool
 }
 
 // Whether the oldest mark has expired.
-fn has_expired(marks: &VecDeque<Mark>, ttl: u64, now: Moment) -> bool
-    ensures { result ≡ has_expired ttl now.0 marks.now.items }
+fn has_expired(marks: &Row, ttl: u64, now: Moment) -> bool
+    ensures { result ≡ has_expired ttl now.0 marks.now.marks }
 {
-    match marks.front() {
+    match marks.oldest() {
         Some(mark) => !is_fresh(mark.moment, ttl, now),
         None => false,
     }
 }
 
 // The oldest mark leaves, and its key. It takes no memory.
-fn drop_oldest(marks: &mut VecDeque<Mark>, moments: &mut Moments)
-    requires kept { KeepMarks marks.old.items moments.old }
-    ensures marks { marks.new.items ≡ drop 1 marks.old.items }
-    ensures len { deque_len marks.new ≡ deque_len marks.old - 1 }
-    ensures kept { KeepMarks marks.new.items moments.new }
+fn drop_oldest(marks: &mut Row, moments: &mut Moments)
+    requires kept { KeepMarks marks.old.marks moments.old }
+    ensures marks { marks.new.marks ≡ drop 1 marks.old.marks }
+    ensures pushed { marks.new.pushed ≡ marks.old.pushed }
+    ensures kept { KeepMarks marks.new.marks moments.new }
     ensures room { HaveRoom marks.old moments.old → HaveRoom marks.new moments.new }
 {
-    if let Some(mark) = marks.pop_front() {
+    if let Some(mark) = marks.pop() {
         moments.remove(mark.key.bytes());
     }
 }
 
 /// Marks that have expired leave. Since moments don't fall, they stand in front. It takes no memory.
-pub fn drop_expired(marks: &mut VecDeque<Mark>, moments: &mut Moments, ttl: u64, now: Moment)
-    requires kept { KeepMarks marks.old.items moments.old }
-    ensures fresh { marks.new.items ≡ fresh ttl now.0 marks.old.items }
-    ensures kept { KeepMarks marks.new.items moments.new }
+pub fn drop_expired(marks: &mut Row, moments: &mut Moments, ttl: u64, now: Moment)
+    requires kept { KeepMarks marks.old.marks moments.old }
+    ensures fresh { marks.new.marks ≡ fresh ttl now.0 marks.old.marks }
+    ensures kept { KeepMarks marks.new.marks moments.new }
     ensures room { HaveRoom marks.old moments.old → HaveRoom marks.new moments.new }
+    ensures pushed { marks.new.pushed ≡ marks.old.pushed }
 {
     'expired: while has_expired(marks, ttl, now) {
         drop_oldest(marks, moments);
@@ -54,11 +54,12 @@ pub fn drop_expired(marks: &mut VecDeque<Mark>, moments: &mut Moments, ttl: u64,
 }
 
 /// So many of the oldest marks leave, or all. It takes no memory.
-pub fn drop_first(marks: &mut VecDeque<Mark>, moments: &mut Moments, count: usize)
-    requires kept { KeepMarks marks.old.items moments.old }
-    ensures left { marks.new.items ≡ drop count marks.old.items }
-    ensures kept { KeepMarks marks.new.items moments.new }
+pub fn drop_first(marks: &mut Row, moments: &mut Moments, count: usize)
+    requires kept { KeepMarks marks.old.marks moments.old }
+    ensures left { marks.new.marks ≡ drop count marks.old.marks }
+    ensures kept { KeepMarks marks.new.marks moments.new }
     ensures room { HaveRoom marks.old moments.old → HaveRoom marks.new moments.new }
+    ensures pushed { marks.new.pushed ≡ marks.old.pushed }
 {
     'oldest: for _ in 0..count {
         drop_oldest(marks, moments);

@@ -8,5 +8,6 @@
 mod cache;
 mod kept;
 mod moments;
+mod row;
 
 pub use cache::Cache;

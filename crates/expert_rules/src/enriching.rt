@@ -1,7 +1,7 @@
 ghost use Rattle.std.specs.Prelude.{◌≡◌, ◌<◌, length, IfOk, IfSome};
 ghost use Rattle.expert_rules.specs.Enrich.{address_of, row_for, joined, enriched};
 
-use crate::setting::{with_absent, with_all};
+use crate::setting::join;
 use crate::word::text_of;
 use base_types::{ListOf, OutOfMemory};
 use event_model::Fields;
@@ -48,11 +48,9 @@ fn joined(
 ) -> Result<Fields, OutOfMemory>
     ensures { IfOk result (λ both. both ≡ joined overwrite others.now fields.now) }
 {
-    if overwrite {
-        with_all(alloc, fields, others)
-    } else {
-        with_absent(alloc, fields, others)
-    }
+    let mut both = fields.copy(alloc)?;
+    join(alloc, overwrite, others, &mut both)?;
+    Ok(both)
 }
 
 /// The fields with those of the longest network that holds their `source.ip`: each where it is absent or, with

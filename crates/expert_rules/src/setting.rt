@@ -1,9 +1,8 @@
 ghost use Rattle.std.specs.Prelude.{◌≡◌, is_some, IfOk, OnOk, if◌then◌else◌};
 ghost use Rattle.std.specs.FinMap.{get, insert};
 ghost use Rattle.event_model.specs.Fields.{IsField};
-ghost use Rattle.expert_rules.specs.Enrich.{union};
+ghost use Rattle.expert_rules.specs.Enrich.{joined, union};
 
-use crate::word::text_of;
 use base_types::OutOfMemory;
 use event_model::Fields;
 use field_types::{FieldName, Value};
@@ -13,9 +12,9 @@ fn set(alloc: Global, fields: &mut Fields, pair: &(FieldName, Value)) -> Result<
     requires { IsField pair.now.0 pair.now.1 }
     ensures { OnOk result (fields.new ≡ insert fields.old pair.now.0 pair.now.1) }
 {
-    let key = text_of(alloc, pair.0.as_str())?;
+    let name = pair.0.copy(alloc)?;
     let value = pair.1.copy(alloc)?;
-    fields.put(key, value)
+    fields.put_named(name, value)
 }
 
 // Sets a field that is absent.
@@ -23,35 +22,47 @@ fn add(alloc: Global, fields: &mut Fields, pair: &(FieldName, Value)) -> Result<
     requires { IsField pair.now.0 pair.now.1 }
     ensures { OnOk result (fields.new ≡ (if is_some (get fields.old pair.now.0) then fields.old else insert fields.old pair.now.0 pair.now.1)) }
 {
-    let key = text_of(alloc, pair.0.as_str())?;
-    if fields.get(&key).is_some() {
+    if fields.get_named(&pair.0).is_some() {
         return Ok(());
     }
-    let value = pair.1.copy(alloc)?;
-    fields.put(key, value)
+    set(alloc, fields, pair)
 }
 
-/// The fields with each of the set.
-pub fn with_all(alloc: Global, fields: &Fields, others: &Fields) -> Result<Fields, OutOfMemory>
-    ensures { IfOk result (λ both. both ≡ union others.now fields.now) }
+/// Sets each of the set.
+pub fn set_all(alloc: Global, fields: &mut Fields, others: &Fields) -> Result<(), OutOfMemory>
+    ensures { OnOk result (fields.new ≡ union others.now fields.old) }
 {
-    let mut both = fields.copy(alloc)?;
     let pairs = others.pairs();
     let mut left = pairs.len();
     'pairs: while left > 0 {
         left -= 1;
-        set(alloc, &mut both, &pairs[left])?;
+        set(alloc, fields, &pairs[left])?;
     }
-    Ok(both)
+    Ok(())
 }
 
-/// The fields with each of the set that is absent.
-pub fn with_absent(alloc: Global, fields: &Fields, others: &Fields) -> Result<Fields, OutOfMemory>
-    ensures { IfOk result (λ both. both ≡ union fields.now others.now) }
+/// Sets each of the set that is absent.
+pub fn set_absent(alloc: Global, fields: &mut Fields, others: &Fields) -> Result<(), OutOfMemory>
+    ensures { OnOk result (fields.new ≡ union fields.old others.now) }
 {
-    let mut both = fields.copy(alloc)?;
     'pairs: for pair in others.pairs() {
-        add(alloc, &mut both, pair)?;
+        add(alloc, fields, pair)?;
     }
-    Ok(both)
+    Ok(())
+}
+
+/// Sets each of the set, or with `overwrite` false each that is absent.
+pub fn join(
+    alloc: Global,
+    overwrite: bool,
+    others: &Fields,
+    fields: &mut Fields,
+) -> Result<(), OutOfMemory>
+    ensures { OnOk result (fields.new ≡ joined overwrite others.now fields.old) }
+{
+    if overwrite {
+        set_all(alloc, fields, others)
+    } else {
+        set_absent(alloc, fields, others)
+    }
 }

@@ -14,3 +14,4 @@ pub mod Wider
 pub mod Seen
 pub mod Found
 pub mod Reading
+pub mod Walked

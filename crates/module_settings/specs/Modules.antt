@@ -25,6 +25,7 @@ module_words =
     (codes "expert.deduplicator", modules.Dedup) ∷
     (codes "expert.prefix", modules.Prefix) ∷
     (codes "expert.taxonomy", modules.Taxonomy) ∷
+    (codes "expert.modify", modules.Modify) ∷
     (codes "output.file", modules.Output) ∷
     []
 
@@ -50,6 +51,7 @@ facts_of modules.Sieve = row role.Expert (Some kind.Sieve) instances.Several
 facts_of modules.Dedup = row role.Expert None instances.Several
 facts_of modules.Prefix = row role.Expert (Some kind.Table) instances.Several
 facts_of modules.Taxonomy = row role.Expert None instances.Several
+facts_of modules.Modify = row role.Expert (Some kind.Rules) instances.Several
 facts_of modules.Output = row role.Output None instances.Several
 
 -- ---- what is asked of them, of a module that may be unknown
@@ -89,11 +91,19 @@ abbrev pub is_sieve : Option FileKind → Bool
 is_sieve None = false
 is_sieve (Some kind.Sieve) = true
 is_sieve (Some kind.Table) = false
+is_sieve (Some kind.Rules) = false
 
 abbrev pub is_table : Option FileKind → Bool
 is_table None = false
 is_table (Some kind.Sieve) = false
 is_table (Some kind.Table) = true
+is_table (Some kind.Rules) = false
+
+abbrev pub is_rules : Option FileKind → Bool
+is_rules None = false
+is_rules (Some kind.Sieve) = false
+is_rules (Some kind.Table) = false
+is_rules (Some kind.Rules) = true
 
 -- that file is a sieve's
 abbrev pub reads_sieve : Option ModuleWord → Bool
@@ -102,6 +112,10 @@ reads_sieve word = is_sieve (file_kind word)
 -- that file is a table
 abbrev pub reads_table : Option ModuleWord → Bool
 reads_table word = is_table (file_kind word)
+
+-- that file has rules that set fields
+abbrev pub reads_rules : Option ModuleWord → Bool
+reads_rules word = is_rules (file_kind word)
 
 -- how many instances may run at most
 abbrev pub most_of : Instances → ℕ

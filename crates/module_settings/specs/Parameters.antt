@@ -1,5 +1,5 @@
 -- What the parameters of a module may be, and what they are taken as.
-use Rattle.std.specs.Prelude.{ℕ, List, [], ◌∷◌, ◌++◌, ◌==◌, ◌&&◌, ◌||◌, Bool, false, not, nat_le, nat_lt, length, codes, is_some, Option, Some, None, option_map, option_and_then, if◌then◌else◌}
+use Rattle.std.specs.Prelude.{ℕ, List, [], ◌∷◌, ◌++◌, ◌==◌, ◌&&◌, ◌||◌, Bool, true, false, not, nat_le, nat_lt, length, codes, is_some, Option, Some, None, option_map, option_and_then, if◌then◌else◌}
 use Rattle.std.specs.List.{slice_split}
 use Rattle.std.specs.Result.{result_ok}
 use Rattle.std.specs.Str.{bytes_eq}
@@ -146,6 +146,11 @@ own modules.Prefix =
     row (codes "overwrite") form.Flag (Some (Switch false)) ∷
     []
 own modules.Taxonomy = []
+own modules.Modify =
+    row (codes "file") form.FileName None ∷
+    row (codes "maximum_matches") (form.Number 0 10000) (Some (Whole 0)) ∷
+    row (codes "overwrite") form.Flag (Some (Switch true)) ∷
+    []
 own modules.Output = []
 
 -- those of all bots, and those of the module where it is known

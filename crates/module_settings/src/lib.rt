@@ -13,7 +13,7 @@ mod texts;
 pub use form::{Form, Words};
 pub use module::{
     FileKind, Instances, ModuleFacts, ModuleWord, Role, facts_of, file_kind, is_collector,
-    is_output, module_of, reads_file, reads_sieve, reads_table,
+    is_output, module_of, reads_file, reads_rules, reads_sieve, reads_table,
 };
 pub use parameter::{
     Otherwise, Parameter, own_parameters, parameters_of, setting_of, shared_parameters,

@@ -1,7 +1,7 @@
 //! The modules, and what is known of each: its word, what its bots are for, the file that they read, how many instances may run.
 ghost use Rattle.std.specs.Prelude.{◌≡◌};
 ghost use Rattle.serde_json.specs.View.{view};
-ghost use Rattle.module_settings.specs.Modules.{facts_of, file_kind, is_collector, is_output, module_of_value, module_words, named_module, reads_file, reads_sieve, reads_table};
+ghost use Rattle.module_settings.specs.Modules.{facts_of, file_kind, is_collector, is_output, module_of_value, module_words, named_module, reads_file, reads_rules, reads_sieve, reads_table};
 
 use serde_json::Value as Tree;
 
@@ -22,6 +22,8 @@ pub enum ModuleWord {
     Prefix,
     /// `expert.taxonomy`.
     Taxonomy,
+    /// `expert.modify`.
+    Modify,
     /// `output.file`.
     Output,
 }
@@ -46,6 +48,8 @@ fn named(word: &str) -> Option<ModuleWord>
         Some(ModuleWord::Prefix)
     } else if word == "expert.taxonomy" {
         Some(ModuleWord::Taxonomy)
+    } else if word == "expert.modify" {
+        Some(ModuleWord::Modify)
     } else if word == "output.file" {
         Some(ModuleWord::Output)
     } else {
@@ -82,6 +86,8 @@ pub enum FileKind {
     Sieve,
     /// A table of networks.
     Table,
+    /// A list of rules that set fields.
+    Rules,
 }
 
 /// How many instances of a bot may run.
@@ -124,6 +130,7 @@ pub fn facts_of(word: ModuleWord) -> ModuleFacts
         ModuleWord::Dedup => row(Role::Expert, None, Instances::Several),
         ModuleWord::Prefix => row(Role::Expert, Some(FileKind::Table), Instances::Several),
         ModuleWord::Taxonomy => row(Role::Expert, None, Instances::Several),
+        ModuleWord::Modify => row(Role::Expert, Some(FileKind::Rules), Instances::Several),
         ModuleWord::Output => row(Role::Output, None, Instances::Several),
     }
 }
@@ -171,7 +178,7 @@ pub fn reads_sieve(word: Option<ModuleWord>) -> bool
 {
     match file_kind(word) {
         Some(FileKind::Sieve) => true,
-        Some(FileKind::Table) | None => false,
+        Some(FileKind::Table | FileKind::Rules) | None => false,
     }
 }
 
@@ -181,6 +188,16 @@ pub fn reads_table(word: Option<ModuleWord>) -> bool
 {
     match file_kind(word) {
         Some(FileKind::Table) => true,
-        Some(FileKind::Sieve) | None => false,
+        Some(FileKind::Sieve | FileKind::Rules) | None => false,
+    }
+}
+
+/// Whether that file has rules that set fields.
+pub fn reads_rules(word: Option<ModuleWord>) -> bool
+    ensures { result ≡ reads_rules word }
+{
+    match file_kind(word) {
+        Some(FileKind::Rules) => true,
+        Some(FileKind::Sieve | FileKind::Table) | None => false,
     }
 }

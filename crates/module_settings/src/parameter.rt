@@ -188,6 +188,23 @@ static PREFIX: [Parameter; 2] = [
     },
 ];
 
+static MODIFY: [Parameter; 3] = [
+    FILE,
+    Parameter {
+        name: "maximum_matches",
+        form: Form::Number {
+            least: 0,
+            most: 10_000,
+        },
+        otherwise: Otherwise::Whole(0),
+    },
+    Parameter {
+        name: "overwrite",
+        form: Form::Flag,
+        otherwise: Otherwise::Switch(true),
+    },
+];
+
 static NONE: [Parameter; 0] = [];
 
 /// The parameters of all bots, of which so many instances may run.
@@ -211,6 +228,7 @@ pub fn own_parameters(word: ModuleWord) -> &'static [Parameter]
         ModuleWord::Sieve => &SIEVE,
         ModuleWord::Dedup => &DEDUP,
         ModuleWord::Prefix => &PREFIX,
+        ModuleWord::Modify => &MODIFY,
         ModuleWord::Taxonomy | ModuleWord::Output => &NONE,
     }
 }

@@ -1,6 +1,5 @@
 mod Calls
 mod Changes
-mod Copied
 mod Firsts
 mod Lengths
 mod More

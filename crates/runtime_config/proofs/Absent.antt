@@ -9,7 +9,7 @@ use Rattle.event_model.specs.Trees.{tree_in}
 use Rattle.runtime_text.specs.Named.{file_of, named_files}
 use Rattle.runtime_text.proofs.AllNamed.{files_are_named}
 use Rattle.runtime_text.specs.Runtime.{object_of, runtime_in, Entry, Runtime}
-use Rattle.runtime_config.specs.Faults.{absent_file, bad_parameter, bad_row, content_of, fault_of, fault_when, first_fault, first_some, missing_member, on_cycle, past_limit, places_from, refused_sieve, unknown_module, unknown_path, unknown_queue, HasFiles, Place}
+use Rattle.runtime_config.specs.Faults.{absent_file, bad_parameter, bad_row, bad_rule, content_of, fault_of, fault_when, first_fault, first_some, missing_member, on_cycle, past_limit, places_from, refused_sieve, unknown_module, unknown_path, unknown_queue, HasFiles, Place}
 use Rattle.runtime_config.specs.Load.{load, longest_runtime, of_runtime, runtime_of, unless}
 use Rattle.runtime_config.specs.declared.fault.LoadFault.{LoadFault}
 use Rattle.runtime_config.specs.declared.fault.LoadFault.TheVariants as fault
@@ -59,7 +59,7 @@ module _ (name : List ℕ) where
       let missing = behind (missing_member p) _ (fault.File name) (not_mapped (fault.Missing p.bot.0) _ (λ x e. absurd (cc))) bad in
       first (absent_file p) _ (fault.File name) later missing
     where
-      later : Is (option_or (refused_sieve p) (option_or (unknown_path p) (option_or (on_cycle p) (option_or (past_limit p) (option_or (unknown_queue p) (option_or (bad_row p) None)))))) → ⊥
+      later : Is (option_or (refused_sieve p) (option_or (unknown_path p) (option_or (on_cycle p) (option_or (past_limit p) (option_or (unknown_queue p) (option_or (bad_row p) (option_or (bad_rule p) None))))))) → ⊥
       later is =
           let sieve = behind (refused_sieve p) _ (fault.File name) (not_mapped (fault.Sieve p.bot.0) _ (λ x e. absurd (cc))) is in
           let path = behind (unknown_path p) _ (fault.File name) (not_mapped (fault.Path p.bot.0) _ (λ x e. absurd (cc))) sieve in
@@ -67,7 +67,8 @@ module _ (name : List ℕ) where
           let limit = behind (past_limit p) _ (fault.File name) (not_limit _ _ p.bot.0) cycle in
           let queue = behind (unknown_queue p) _ (fault.File name) (not_when _ (fault.Queue p.bot.0) (λ e. absurd (cc))) limit in
           let table = behind (bad_row p) _ (fault.File name) (not_mapped (fault.Table p.bot.0) _ (λ x e. absurd (cc))) queue in
-          absurd (cc (table))
+          let rules = behind (bad_rule p) _ (fault.File name) (not_mapped (fault.Rules p.bot.0) _ (λ x e. absurd (cc))) table in
+          absurd (cc (rules))
 
   -- ---- all bots
 

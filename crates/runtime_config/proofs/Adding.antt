@@ -99,4 +99,4 @@ module _ (bundle : Bundle) (global : Members) where
       ∙ ap (λ n. nat_lt most_bots (length bots) || nat_lt most_instances (sum_by (instances global) bots) || nat_lt most_rows_in_all (sum_by (rows_in_all bundle global) bots) || nat_lt longest_bundle n) sums.bytes_are
 
   pub own_passes : (bot : Entry) (n : Numbers) → AreNumbers bundle global bot n → passes_by global bot n ≡ passes_own bundle global bot
-  own_passes bot n numbers = rw (numbers.rows_are, numbers.length_is) refl
+  own_passes bot n numbers = rw (numbers.rows_are, numbers.length_is, numbers.many_are) refl

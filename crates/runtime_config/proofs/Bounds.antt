@@ -30,6 +30,7 @@ instances_of (Some modules.Sieve) of = given_within (codes "instances_threads") 
 instances_of (Some modules.Dedup) of = given_within (codes "instances_threads") 1 16 1 (of (codes "instances_threads")) (omega arith)
 instances_of (Some modules.Prefix) of = given_within (codes "instances_threads") 1 16 1 (of (codes "instances_threads")) (omega arith)
 instances_of (Some modules.Taxonomy) of = given_within (codes "instances_threads") 1 16 1 (of (codes "instances_threads")) (omega arith)
+instances_of (Some modules.Modify) of = given_within (codes "instances_threads") 1 16 1 (of (codes "instances_threads")) (omega arith)
 instances_of (Some modules.Output) of = given_within (codes "instances_threads") 1 16 1 (of (codes "instances_threads")) (omega arith)
 
 retries_of : WithinAll (codes "error_max_retries") 100
@@ -49,6 +50,7 @@ chunk_of (Some modules.Sieve) of = omega arith
 chunk_of (Some modules.Dedup) of = omega arith
 chunk_of (Some modules.Prefix) of = omega arith
 chunk_of (Some modules.Taxonomy) of = omega arith
+chunk_of (Some modules.Modify) of = omega arith
 chunk_of (Some modules.Output) of = omega arith
 
 cache_of : WithinAll (codes "cache_max") 200000
@@ -60,7 +62,20 @@ cache_of (Some modules.Sieve) of = omega arith
 cache_of (Some modules.Dedup) of = given_within (codes "cache_max") 1 200000 100000 (of (codes "cache_max")) (omega arith)
 cache_of (Some modules.Prefix) of = omega arith
 cache_of (Some modules.Taxonomy) of = omega arith
+cache_of (Some modules.Modify) of = omega arith
 cache_of (Some modules.Output) of = omega arith
+
+matches_of : WithinAll (codes "maximum_matches") 10000
+matches_of None of = omega arith
+matches_of (Some modules.Collector) of = omega arith
+matches_of (Some modules.Csv) of = omega arith
+matches_of (Some modules.Json) of = omega arith
+matches_of (Some modules.Sieve) of = omega arith
+matches_of (Some modules.Dedup) of = omega arith
+matches_of (Some modules.Prefix) of = omega arith
+matches_of (Some modules.Taxonomy) of = omega arith
+matches_of (Some modules.Modify) of = given_within (codes "maximum_matches") 0 10000 0 (of (codes "maximum_matches")) (omega arith)
+matches_of (Some modules.Output) of = omega arith
 
 byte_within : (text : List ℕ) → whole_in (byte_of text) ≤ 127
 byte_within [] = omega arith
@@ -94,6 +109,7 @@ delimiter_of (Some modules.Sieve) of = omega arith
 delimiter_of (Some modules.Dedup) of = omega arith
 delimiter_of (Some modules.Prefix) of = omega arith
 delimiter_of (Some modules.Taxonomy) of = omega arith
+delimiter_of (Some modules.Modify) of = omega arith
 delimiter_of (Some modules.Output) of = omega arith
 
 within : (name : List ℕ) (most : ℕ) (global : Members) (bot : Entry) → WithinAll name most → whole_in (set_as global bot name) ≤ most
@@ -114,6 +130,9 @@ small_chunk global bot = within (codes "chunk_size") 1048576 global bot chunk_of
 
 pub small_cache : (global : Members) (bot : Entry) → whole_in (set_as global bot (codes "cache_max")) ≤ 200000
 small_cache global bot = within (codes "cache_max") 200000 global bot cache_of
+
+pub few_matches : (global : Members) (bot : Entry) → whole_in (set_as global bot (codes "maximum_matches")) ≤ 10000
+few_matches global bot = within (codes "maximum_matches") 10000 global bot matches_of
 
 pub one_byte : (global : Members) (bot : Entry) → whole_in (set_as global bot (codes "delimiter")) ≤ 127
 one_byte global bot = within (codes "delimiter") 127 global bot delimiter_of

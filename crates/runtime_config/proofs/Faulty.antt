@@ -1,14 +1,14 @@
 -- The first fault of several.
-use Rattle.std.proofs.Common.{◌≡◌, ℕ, List, [], ◌∷◌, ◌++◌, Bool, true, false, not, ◌||◌, OnOk, if◌then◌else◌, Option, Some, None, Result, Ok, Err, refl, sym, ap, subst, ◌∙◌}
+use Rattle.std.proofs.Common.{◌≡◌, ℕ, List, [], ◌∷◌, ◌++◌, Bool, true, false, not, ◌||◌, MatchResult, OnOk, if◌then◌else◌, Option, Some, None, Result, Ok, Err, refl, sym, ap, subst, ◌∙◌}
 use Rattle.std.specs.Option.{option_or}
 use Rattle.serde_json.specs.Data.{Members}
 use Rattle.config_bundle.specs.declared.bundle.Bundle.{Bundle}
-use Rattle.runtime_config.specs.Faults.{fault_of, first_of, pass_together, passes_own, passes_patterns, past_limit, rules_of_places, rules_of_settings, rules_of_sieves, table_fault, Place, Rule}
+use Rattle.runtime_config.specs.Faults.{fault_of, first_of, pass_together, passes_own, passes_patterns, past_limit, rules_of_places, rules_of_settings, rules_fault, rules_of_sieves, content_fault, table_fault, Place, Rule}
 use Rattle.runtime_config.specs.Found.{IsFault, IsFound, IsPlannedAs, IsSieveOf}
 use Rattle.runtime_config.specs.Load.{planned}
 use Rattle.runtime_config.specs.Whole.{is_past}
 use Rattle.runtime_text.specs.Runtime.{module_of, Entry}
-use Rattle.module_settings.specs.Modules.{reads_table}
+use Rattle.module_settings.specs.Modules.{reads_rules, reads_table}
 use Rattle.runtime_config.specs.declared.fault.LoadFault.{LoadFault}
 use Rattle.runtime_config.specs.declared.fault.LoadFault.TheVariants as fault
 use Rattle.event_model.specs.Fields.{FieldMap}
@@ -32,6 +32,7 @@ moved (fault.Cycle bot) o p goes is = goes is
 moved (fault.Limit bot) o p goes is = goes is
 moved (fault.Queue bot) o p goes is = goes is
 moved (fault.Table bot line) o p goes is = goes is
+moved (fault.Rules bot rule) o p goes is = goes is
 moved fault.OutOfMemory o p goes is = tt
 
 pub first_fault_is : (o rest : Found) (e : LoadFault) → IsFault o e → IsFault (option_or o rest) e
@@ -78,6 +79,29 @@ rules_split (rule ∷ front) back p = ap (λ (o : Found). option_or (rule p) o) 
 -- a bot whose module reads no table has no fault in one
 pub no_table : (bundle : Bundle) (global : Members) (bot : Entry) → reads_table (module_of bot) ≡ false → table_fault bundle global bot ≡ None
 no_table bundle global bot is = rw is refl
+
+-- nor has one whose module reads no rules one in those
+pub no_rules : (bundle : Bundle) (global : Members) (bot : Entry) → reads_rules (module_of bot) ≡ false → rules_fault bundle global bot ≡ None
+no_rules bundle global bot is = rw is refl
+
+pub no_content : (bundle : Bundle) (global : Members) (bot : Entry) → reads_table (module_of bot) ≡ false → reads_rules (module_of bot) ≡ false → content_fault bundle global bot ≡ None
+no_content bundle global bot table rules = ap (λ (o : Found). option_or o (rules_fault bundle global bot)) (no_table bundle global bot table) ∙ no_rules bundle global bot rules
+
+-- one that reads rules has a fault in them alone, and one that reads a table in that alone
+pub rules_alone : (bundle : Bundle) (global : Members) (bot : Entry) → reads_table (module_of bot) ≡ false → content_fault bundle global bot ≡ rules_fault bundle global bot
+rules_alone bundle global bot table = ap (λ (o : Found). option_or o (rules_fault bundle global bot)) (no_table bundle global bot table)
+
+pub table_alone : (bundle : Bundle) (global : Members) (bot : Entry) → reads_rules (module_of bot) ≡ false → content_fault bundle global bot ≡ table_fault bundle global bot
+table_alone bundle global bot rules = ap (option_or (table_fault bundle global bot)) (no_rules bundle global bot rules) ∙ or_none (table_fault bundle global bot)
+
+-- a result that is of one fault and of one value is of those that equal them
+pub same_result : {A : Type 0} (o p : Found) (x y : A) (r : Result A LoadFault) → o ≡ p → x ≡ y → MatchResult r (λ a. (o ≡ None) × (a ≡ x)) (IsFault o) → MatchResult r (λ a. (p ≡ None) × (a ≡ y)) (IsFault p)
+same_result o p x y (Ok a) found same is = (sym found ∙ is.0, is.1 ∙ same)
+same_result o p x y (Err e) found same is = same_fault o p e found is
+
+-- the last two rules of several
+pub last_two : (o p : Found) (q : Planned) (r : Result Planned LoadFault) → IsPlannedAs (option_or o p) q r → IsPlannedAs (option_or o (option_or p None)) q r
+last_two o p q r is = subst (λ (x : Found). IsPlannedAs (option_or o x) q r) (sym (or_none p)) is
 
 pub planned_is : (bundle : Bundle) (global : Members) (bot : Entry) (p : Planned) → p.bot ≡ (planned bundle global bot).bot → p.«module» ≡ (planned bundle global bot).«module» → p.instances ≡ (planned bundle global bot).instances
     → p.retries ≡ (planned bundle global bot).retries → p.delay ≡ (planned bundle global bot).delay → p.stop ≡ (planned bundle global bot).stop → p.paths ≡ (planned bundle global bot).paths → p ≡ planned bundle global bot

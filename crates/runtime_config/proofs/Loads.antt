@@ -84,6 +84,7 @@ loaded_as (fault.Cycle bot) meant found goes is = goes is
 loaded_as (fault.Limit bot) meant found goes is = goes is
 loaded_as (fault.Queue bot) meant found goes is = goes is
 loaded_as (fault.Table bot line) meant found goes is = goes is
+loaded_as (fault.Rules bot rule) meant found goes is = goes is
 loaded_as fault.OutOfMemory meant found goes is = tt
 
 pub loaded : (bundle : Bundle) (rt : Runtime) (r : Result Plan LoadFault) → runtime_of bundle ≡ Some rt

@@ -71,6 +71,7 @@ some_instance (Some modules.Sieve) of none = one_at_least (codes "instances_thre
 some_instance (Some modules.Dedup) of none = one_at_least (codes "instances_threads") 16 1 (parameters_of (Some modules.Dedup)) of (omega arith) none refl
 some_instance (Some modules.Prefix) of none = one_at_least (codes "instances_threads") 16 1 (parameters_of (Some modules.Prefix)) of (omega arith) none refl
 some_instance (Some modules.Taxonomy) of none = one_at_least (codes "instances_threads") 16 1 (parameters_of (Some modules.Taxonomy)) of (omega arith) none refl
+some_instance (Some modules.Modify) of none = one_at_least (codes "instances_threads") 16 1 (parameters_of (Some modules.Modify)) of (omega arith) none refl
 some_instance (Some modules.Output) of none = one_at_least (codes "instances_threads") 16 1 (parameters_of (Some modules.Output)) of (omega arith) none refl
 
 some_bytes : AtLeast (codes "chunk_size") 1 (Some modules.Collector)
@@ -96,6 +97,7 @@ module_within bundle global bot (Some modules.Sieve) is none = tt
 module_within bundle global bot (Some modules.Dedup) is none = at_least (codes "cache_max") 1 global bot _ is some_key none
 module_within bundle global bot (Some modules.Prefix) is none = tt
 module_within bundle global bot (Some modules.Taxonomy) is none = tt
+module_within bundle global bot (Some modules.Modify) is none = tt
 module_within bundle global bot (Some modules.Output) is none = tt
 
 bot_within : (bundle : Bundle) (global : Members) (bot : Entry) → filter (is_bad global bot) (parameters bot) ≡ [] → IsBotWithin (planned bundle global bot)

@@ -8,17 +8,19 @@ use Rattle.serde_json.specs.Find.{as_bool, get_member}
 use Rattle.base_types.specs.Lists.{IsIn}
 use Rattle.event_model.specs.Lenient.{least}
 use Rattle.config_bundle.specs.declared.bundle.Bundle.{Bundle}
-use Rattle.module_settings.specs.Modules.{is_output, reads_sieve, reads_table}
+use Rattle.module_settings.specs.Modules.{is_output, reads_rules, reads_sieve, reads_table}
 use Rattle.module_settings.specs.Parameters.{Parameter}
 use Rattle.runtime_text.specs.Named.{file_of}
 use Rattle.runtime_text.specs.Reaches.{is_queue_of, reaches, targets}
 use Rattle.runtime_text.specs.Runtime.{given, is_given_badly, lines_in, module_key, module_of, object_of, parameters, routes, routes_key, routes_of_value, set_as, setting, whole_in, Entry, Route, Runtime}
+use Rattle.runtime_config.specs.FileRules.{bad_rule_of, pass_limit, rules_of}
 use Rattle.runtime_config.specs.Sieves.{refusal_of, sieve_of}
 use Rattle.module_settings.specs.Table.{row_count, table_in}
 use Rattle.runtime_config.specs.declared.fault.LoadFault.{LoadFault}
 use Rattle.runtime_config.specs.declared.fault.LoadFault.TheVariants as fault
 use Rattle.module_settings.specs.declared.table.Table.{Table}
 use Rattle.sieve_tree.specs.SieveView.{SieveView}
+use Rattle.expert_modify.specs.declared.rule.Rule.{Rule as FieldRule}
 
 -- one bot of a bundle, as loading looks at it
 pub record Place : Type 0 where
@@ -152,6 +154,27 @@ path_fault bundle global bot = option_map (fault.Path bot.0) (unknown_spot (rout
 abbrev pub unknown_path : Place → Option LoadFault
 unknown_path p = path_fault p.bundle p.runtime.global p.bot
 
+-- ---- rules that set fields
+
+-- the bytes of the bot's file, where it has such rules
+abbrev pub rules_text : Bundle → Members → Entry → Option (List ℕ)
+rules_text bundle global bot = if reads_rules (module_of bot) then content bundle global bot else None
+
+-- the bot's rules; none where the bot has none
+unfoldable pub modify_rules : Bundle → Members → Entry → List FieldRule
+modify_rules bundle global bot = rules_of (rules_text bundle global bot)
+
+-- the file has too many rules, or too many patterns
+abbrev pub passes_rules : Bundle → Members → Entry → Bool
+passes_rules bundle global bot = pass_limit (rules_text bundle global bot)
+
+-- the first rule of the bot's file that is none
+abbrev pub rules_fault : Bundle → Members → Entry → Option LoadFault
+rules_fault bundle global bot = option_map (fault.Rules bot.0) (bad_rule_of (rules_text bundle global bot))
+
+abbrev pub bad_rule : Place → Option LoadFault
+bad_rule p = rules_fault p.bundle p.runtime.global p.bot
+
 -- ---- paths and queues
 
 -- the bot is reached from itself
@@ -237,12 +260,13 @@ abbrev pub is_route : Route → Bool
 is_route r = nat_le 1 (length r.1) && nat_le (length r.1) most_queues
 
 -- the bot has too many paths, or a path with no queue or too many; too many columns; too many rows, or a file that is
--- too long
+-- too long; too many rules, or patterns in them
 abbrev pub passes_own : Bundle → Members → Entry → Bool
 passes_own bundle global bot =
     nat_lt most_routes (length (routes bot)) || not (list_all is_route (routes bot))
     || nat_lt most_columns (length (lines_in (set_as global bot (codes "columns"))))
     || nat_lt most_rows (rows bundle global bot) || nat_lt longest_file (length (unwrap_or (content bundle global bot) []))
+    || passes_rules bundle global bot
 
 -- the bot's sieve has too many patterns, one for each `=~` and `!~`
 abbrev pub passes_patterns : Bundle → Members → Entry → Bool
@@ -278,6 +302,10 @@ table_fault bundle global bot = option_map (fault.Table bot.0) (option_and_then 
 abbrev pub bad_row : Place → Option LoadFault
 bad_row p = table_fault p.bundle p.runtime.global p.bot
 
+-- the bot's file has a line that is no row, or a rule that is none
+abbrev pub content_fault : Bundle → Members → Entry → Option LoadFault
+content_fault bundle global bot = option_or (table_fault bundle global bot) (rules_fault bundle global bot)
+
 -- ---- all rules, in their order
 
 abbrev pub Rule : Type 0
@@ -291,7 +319,7 @@ abbrev pub rules_of_sieves : List Rule
 rules_of_sieves = refused_sieve ∷ unknown_path ∷ []
 
 abbrev pub rules_of_places : List Rule
-rules_of_places = on_cycle ∷ past_limit ∷ unknown_queue ∷ bad_row ∷ []
+rules_of_places = on_cycle ∷ past_limit ∷ unknown_queue ∷ bad_row ∷ bad_rule ∷ []
 
 abbrev pub rules : List Rule
 rules = rules_of_settings ++ rules_of_sieves ++ rules_of_places

@@ -1,6 +1,7 @@
 -- what public contracts cite
 pub mod SieveIn
 pub mod Sieves
+pub mod FileRules
 pub mod Faults
 pub mod Load
 pub mod Within

@@ -5,7 +5,7 @@ use Rattle.std.specs.Str.{bytes_eq}
 use Rattle.serde_json.specs.Data.{Members}
 use Rattle.event_model.specs.Trees.{tree_in}
 use Rattle.config_bundle.specs.declared.bundle.Bundle.{Bundle}
-use Rattle.runtime_config.specs.Faults.{bot_sieve, first_fault, instances, table_text}
+use Rattle.runtime_config.specs.Faults.{bot_sieve, first_fault, instances, modify_rules, table_text}
 use Rattle.runtime_text.specs.Runtime.{defaults_in, line, line_in, lines_in, module_of, object_of, routes, runtime_in, set_as, switch_in, whole_in, Entry, Route as Path, Runtime}
 use Rattle.module_settings.specs.Table.{table_in}
 use Rattle.runtime_config.specs.declared.fault.LoadFault.{LoadFault}
@@ -66,6 +66,10 @@ module_as bundle global bot (Some modules.Prefix) = as_module.Prefix
     (table_of (table_text bundle global bot)).sets
     (switch_in (set_as global bot (codes "overwrite")))
 module_as bundle global bot (Some modules.Taxonomy) = as_module.Taxonomy
+module_as bundle global bot (Some modules.Modify) = as_module.Modify
+    (modify_rules bundle global bot)
+    (switch_in (set_as global bot (codes "overwrite")))
+    (whole_in (set_as global bot (codes "maximum_matches")))
 module_as bundle global bot (Some modules.Output) = as_module.Output
 
 abbrev pub route_of : Path → Route

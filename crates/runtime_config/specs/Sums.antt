@@ -4,7 +4,7 @@ use Rattle.std.specs.List.{list_all, list_any}
 use Rattle.std.specs.Str.{bytes_eq}
 use Rattle.serde_json.specs.Data.{Members}
 use Rattle.config_bundle.specs.declared.bundle.Bundle.{Bundle}
-use Rattle.runtime_config.specs.Faults.{bytes_of, content, instances, is_route, longest_bundle, longest_file, most_bots, most_columns, most_instances, most_routes, most_rows, most_rows_in_all, rows, rows_in_all}
+use Rattle.runtime_config.specs.Faults.{bytes_of, content, instances, is_route, longest_bundle, longest_file, most_bots, most_columns, most_instances, most_routes, most_rows, most_rows_in_all, passes_rules, rows, rows_in_all}
 use Rattle.runtime_text.specs.Named.{file_of}
 use Rattle.runtime_text.specs.Runtime.{lines_in, routes, set_as, Entry}
 use Rattle.runtime_config.specs.declared.limits.Numbers.{Numbers}
@@ -16,6 +16,7 @@ pub record AreNumbers (bundle : Bundle) (global : Members) (bot : Entry) (n : Nu
   pub rows_are : n.rows ≡ rows bundle global bot
   pub file_is : n.file ≡ file_of global bot
   pub length_is : n.length ≡ length (unwrap_or (content bundle global bot) [])
+  pub many_are : n.many_rules ≡ passes_rules bundle global bot
   pub few : n.instances ≤ 16
 
 -- a number of the bot itself is above its limit
@@ -24,6 +25,7 @@ passes_by global bot n =
     nat_lt most_routes (length (routes bot)) || not (list_all is_route (routes bot))
     || nat_lt most_columns (length (lines_in (set_as global bot (codes "columns"))))
     || nat_lt most_rows n.rows || nat_lt longest_file n.length
+    || n.many_rules
 
 -- they are the sums over these bots
 pub record AreSums (bundle : Bundle) (global : Members) (bots : List Entry) (s : Sums) : Type 0 where

@@ -32,6 +32,8 @@ pub enum LoadFault {
     Queue { bot: BotName },
     /// The line of the bot's file, from 1, is no header or row; the first such.
     Table { bot: BotName, line: u64 },
+    /// The rule with this number of the bot's file, from 1, is none; the first such. 0 where the file is no JSON list.
+    Rules { bot: BotName, rule: u32 },
     OutOfMemory,
 }
 

@@ -2,6 +2,7 @@
 #![tactic(auto)]
 
 mod fault;
+mod file_rules;
 pub mod laws;
 mod limits;
 mod loading;

@@ -7,6 +7,7 @@ ghost use Rattle.runtime_text.specs.Read.{entries_of, entry_of, members_of};
 ghost use Rattle.runtime_config.specs.Sums.{new_bytes, passes_by, with_file, AreNumbers, AreSmall, AreSums};
 ghost use Rattle.module_settings.specs.Table.{row_count};
 
+use crate::file_rules::passes_rules;
 use crate::rules::{content, file_of, table_text};
 use base_types::{OutOfMemory, Text, TextList};
 use config_bundle::Bundle;
@@ -43,6 +44,8 @@ pub(crate) struct Numbers {
     file: Option<Text>,
     /// The bytes of its file.
     length: u64,
+    /// Whether it has too many rules that set fields, or too many patterns in them.
+    many_rules: bool,
 }
 
 /// Their sums over bots. A file counts once.
@@ -87,6 +90,7 @@ fn numbers_of(
         rows: rows_of(table_text(alloc, bundle, global, bot)?),
         file: file_of(alloc, global, bot)?,
         length: length_of(content(alloc, bundle, global, bot)?),
+        many_rules: passes_rules(alloc, bundle, global, bot)?,
     })
 }
 
@@ -115,7 +119,12 @@ fn passes_own(
         return Ok(true);
     }
     let columns = lines(alloc, global, bot, "columns")?;
-    Ok(columns.len() > MOST_COLUMNS || numbers.rows > MOST_ROWS || numbers.length > LONGEST_FILE)
+    Ok(
+        columns.len() > MOST_COLUMNS
+            || numbers.rows > MOST_ROWS
+            || numbers.length > LONGEST_FILE
+            || numbers.many_rules,
+    )
 }
 
 fn is_named(files: &TextList, name: &Text) -> bool

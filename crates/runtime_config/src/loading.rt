@@ -2,7 +2,7 @@
 ghost use Rattle.std.specs.Prelude.{◌≡◌, ◌<◌, ◌≤◌, ◌+◌, ◌++◌, ◌∷◌, [], false, length, take, map, nat_lt, option_and_then, option_map, slice_get, None, Some, IfOk, MatchResult, OnOk, if◌then◌else◌};
 ghost use Rattle.serde_json.specs.View.{view};
 ghost use Rattle.event_model.specs.Trees.{tree_in};
-ghost use Rattle.runtime_config.specs.Faults.{absent_file, bad_parameter, bad_row, fault_of, first_fault, first_of, missing_member, past_limit, rules_of_places, rules_of_settings, rules_of_sieves, unknown_queue};
+ghost use Rattle.runtime_config.specs.Faults.{absent_file, bad_parameter, bad_row, bad_rule, fault_of, first_fault, first_of, missing_member, past_limit, rules_of_places, rules_of_settings, rules_of_sieves, unknown_queue};
 ghost use Rattle.runtime_config.specs.Found.{IsFault, IsFound, IsPlannedAs, IsSieveOf};
 ghost use Rattle.runtime_config.specs.Load.{load, longest_runtime, of_runtime, planned, IsLoaded};
 ghost use Rattle.runtime_text.specs.Read.{entries_of, members_of};
@@ -70,7 +70,7 @@ fn is_on_cycle(alloc: Global, whole: &Whole, at: usize) -> Result<bool, OutOfMem
 fn routed(alloc: Global, at: &PlacedBot, sieve: Sieve) -> Result<Planned, LoadFault>
     requires placed { IsPlaced at.now }
     requires sieve { sieve ≡ sieve_at (place_of at.now) }
-    ensures { IsPlannedAs (first_of (unknown_queue ∷ bad_row ∷ []) (place_of at.now)) (planned_at (place_of at.now)) result }
+    ensures { IsPlannedAs (first_of (unknown_queue ∷ bad_row ∷ bad_rule ∷ []) (place_of at.now)) (planned_at (place_of at.now)) result }
 {
     match known_paths(alloc, at.whole.bots, at.bot)? {
         Some(paths) => planned(
@@ -121,7 +121,7 @@ fn limited(
     requires placed { IsPlaced at.now }
     requires sieve { sieve ≡ sieve_at (place_of at.now) }
     requires sums { AreSumsBefore at.now sums.old }
-    ensures found { IsPlannedAs (first_of (past_limit ∷ unknown_queue ∷ bad_row ∷ []) (place_of at.now)) (planned_at (place_of at.now)) result }
+    ensures found { IsPlannedAs (first_of (past_limit ∷ unknown_queue ∷ bad_row ∷ bad_rule ∷ []) (place_of at.now)) (planned_at (place_of at.now)) result }
     ensures sums { OnOk result (AreSumsWith at.now sums.new) }
 {
     if passes_limit(alloc, at, &sieve, sums)? {

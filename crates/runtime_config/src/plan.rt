@@ -1,5 +1,6 @@
 use base_types::{BotName, ListOf, QueueList, Text, TextList};
 use event_model::Fields;
+use expert_modify::ModifyRules;
 use module_settings::{FieldsList, NetworkList};
 use scalar_net::Network;
 use sieve_tree::Sieve;
@@ -65,6 +66,13 @@ pub enum Module {
         overwrite: bool,
     },
     Taxonomy,
+    Modify {
+        rules: ModifyRules,
+        /// Whether fields that are there are set too.
+        overwrite: bool,
+        /// After how many rules that matched no other is tried; 0 where that has no limit.
+        most: u32,
+    },
     Output,
 }
 

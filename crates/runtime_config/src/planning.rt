@@ -3,7 +3,7 @@ ghost use Rattle.std.specs.Prelude.{◌≡◌, ◌<◌, ◌^◌, ◌==◌, map, 
 ghost use Rattle.std.specs.List.{slice_split};
 ghost use Rattle.std.specs.Str.{bytes_eq};
 ghost use Rattle.config_bundle.specs.declared.bundle.Bundle.{Bundle as AnyBundle};
-ghost use Rattle.runtime_config.specs.Faults.{bot_sieve, instances, table_fault, table_text};
+ghost use Rattle.runtime_config.specs.Faults.{bot_sieve, content_fault, instances, rules_fault, table_fault, table_text};
 ghost use Rattle.runtime_config.specs.Found.{IsFault, IsPlannedAs};
 ghost use Rattle.runtime_config.specs.Shared.{AreShared};
 ghost use Rattle.runtime_config.specs.Load.{is_allowing, module_as, names_of, planned, route_of, table_of};
@@ -11,6 +11,7 @@ ghost use Rattle.runtime_text.specs.Read.{entry_of, members_of};
 ghost use Rattle.runtime_text.specs.Runtime.{line, module_of, routes, set_as, whole_in};
 ghost use Rattle.module_settings.specs.declared.module.ModuleWord.TheVariants as modules;
 
+use crate::file_rules::modify_rules;
 use crate::rules::table_text;
 use crate::{LoadFault, Module, NamesList, Planned, RouteList};
 use base_types::{OutOfMemory, Text, TextList};
@@ -168,6 +169,29 @@ fn prefix(alloc: Global, bundle: &Bundle, global: &Object, bot: &Bot) -> Result<
     })
 }
 
+// After how many rules that matched no other is tried.
+fn most_matches(alloc: Global, global: &Object, bot: &Bot) -> Result<u32, OutOfMemory>
+    ensures { IfOk result (λ n. n ≡ whole_in (set_as (members_of global.now) (entry_of bot.now) (codes "maximum_matches"))) }
+{
+    let matches = whole(alloc, global, bot, "maximum_matches")?;
+    Ok(small(matches))
+}
+
+fn modify(alloc: Global, bundle: &Bundle, global: &Object, bot: &Bot) -> Result<Module, LoadFault>
+    ensures { MatchResult result (λ m. (rules_fault bundle.now (members_of global.now) (entry_of bot.now) ≡ None)
+        × (m ≡ module_as bundle.now (members_of global.now) (entry_of bot.now) (Some modules.Modify)))
+        (IsFault (rules_fault bundle.now (members_of global.now) (entry_of bot.now))) }
+{
+    let overwrite = switch(alloc, global, bot, "overwrite")?;
+    let most = most_matches(alloc, global, bot)?;
+    let rules = modify_rules(alloc, bundle, global, bot)?;
+    Ok(Module::Modify {
+        rules,
+        overwrite,
+        most,
+    })
+}
+
 fn module_of(
     alloc: Global,
     bundle: &Bundle,
@@ -176,9 +200,9 @@ fn module_of(
     sieve: Sieve,
 ) -> Result<Module, LoadFault>
     requires { sieve ≡ bot_sieve bundle.now (members_of global.now) (entry_of bot.now) }
-    ensures { MatchResult result (λ m. (table_fault bundle.now (members_of global.now) (entry_of bot.now) ≡ None)
+    ensures { MatchResult result (λ m. (content_fault bundle.now (members_of global.now) (entry_of bot.now) ≡ None)
         × (m ≡ module_as bundle.now (members_of global.now) (entry_of bot.now) (module_of (entry_of bot.now))))
-        (IsFault (table_fault bundle.now (members_of global.now) (entry_of bot.now))) }
+        (IsFault (content_fault bundle.now (members_of global.now) (entry_of bot.now))) }
 {
     match bot.module() {
         Some(ModuleWord::Collector) => Ok(collector(alloc, global, bot)?),
@@ -188,6 +212,7 @@ fn module_of(
         Some(ModuleWord::Dedup) => Ok(dedup(alloc, global, bot)?),
         Some(ModuleWord::Prefix) => prefix(alloc, bundle, global, bot),
         Some(ModuleWord::Taxonomy) => Ok(Module::Taxonomy),
+        Some(ModuleWord::Modify) => modify(alloc, bundle, global, bot),
         Some(ModuleWord::Output) | None => Ok(Module::Output),
     }
 }
@@ -248,7 +273,7 @@ pub(crate) fn planned(
 ) -> Result<Planned, LoadFault>
     requires paths { paths ≡ map route_of (routes (entry_of bot.now)) }
     requires sieve { sieve ≡ bot_sieve bundle.now (members_of global.now) (entry_of bot.now) }
-    ensures { IsPlannedAs (table_fault bundle.now (members_of global.now) (entry_of bot.now)) (planned bundle.now (members_of global.now) (entry_of bot.now)) result }
+    ensures { IsPlannedAs (content_fault bundle.now (members_of global.now) (entry_of bot.now)) (planned bundle.now (members_of global.now) (entry_of bot.now)) result }
 {
     let shared = shared_of(alloc, global, bot)?;
     // Nothing fails behind the module: at each such end its drop would be proved over all modules.

@@ -3,7 +3,7 @@ ghost use Rattle.std.specs.Prelude.{◌≡◌, ◌++◌, map, filter, option_map
 ghost use Rattle.serde_json.specs.Find.{get_member};
 ghost use Rattle.serde_json.specs.View.{view};
 ghost use Rattle.event_model.specs.Lenient.{least, lesser};
-ghost use Rattle.runtime_config.specs.Faults.{bad_members, bad_names, content, content_of, default_path, enabled_key, file_fault, has_path, is_bad, is_missing, is_true, missing_fault, missing_members, missing_names, module_fault, name_when, parameter_fault, parameters_key, sieve_text, table_text};
+ghost use Rattle.runtime_config.specs.Faults.{bad_members, bad_names, content, content_of, default_path, enabled_key, file_fault, has_path, is_bad, is_missing, is_true, missing_fault, missing_members, missing_names, module_fault, name_when, parameter_fault, parameters_key, rules_text, sieve_text, table_text};
 ghost use Rattle.runtime_config.specs.Found.{IsFound};
 ghost use Rattle.runtime_text.specs.Named.{file_of};
 ghost use Rattle.runtime_text.specs.Read.{entry_of, members_of};
@@ -15,7 +15,7 @@ use crate::LoadFault;
 use base_types::{Blob, OutOfMemory, Text, TextList};
 use config_bundle::Bundle;
 use module_settings::{
-    Otherwise, Parameter, is_output, parameters_of, reads_sieve, reads_table, text_of,
+    Otherwise, Parameter, is_output, parameters_of, reads_rules, reads_sieve, reads_table, text_of,
 };
 use runtime_text::given::{given, setting};
 use runtime_text::{Bot, Object, object_of};
@@ -305,6 +305,22 @@ pub(crate) fn table_text<'b>(
     ensures { IfOk result (λ bytes. option_map (λ b. b.now) bytes ≡ table_text bundle.now (members_of global.now) (entry_of bot.now)) }
 {
     if reads_table(bot.module()) {
+        content(alloc, bundle, global, bot)
+    } else {
+        Ok(None)
+    }
+}
+
+/// These bytes, where they are rules that set fields.
+pub(crate) fn rules_text<'b>(
+    alloc: Global,
+    bundle: &'b Bundle,
+    global: &Object,
+    bot: &Bot,
+) -> Result<Option<&'b [u8]>, OutOfMemory>
+    ensures { IfOk result (λ bytes. option_map (λ b. b.now) bytes ≡ rules_text bundle.now (members_of global.now) (entry_of bot.now)) }
+{
+    if reads_rules(bot.module()) {
         content(alloc, bundle, global, bot)
     } else {
         Ok(None)

@@ -22,6 +22,7 @@ fault_number (fault.Cycle bot) = 8
 fault_number (fault.Limit bot) = 9
 fault_number (fault.Queue bot) = 10
 fault_number (fault.Table bot line) = 11
+fault_number (fault.Rules bot rule) = 13
 fault_number fault.OutOfMemory = 0
 
 -- the bot that has it
@@ -37,6 +38,7 @@ fault_bot (fault.Cycle bot) = Some bot
 fault_bot (fault.Limit bot) = Some bot
 fault_bot (fault.Queue bot) = Some bot
 fault_bot (fault.Table bot line) = Some bot
+fault_bot (fault.Rules bot rule) = Some bot
 fault_bot fault.OutOfMemory = None
 
 abbrev pub config_text : ℕ → Option (List ℕ) → List ℕ

@@ -22,6 +22,7 @@ pub fn fault_number(fault: &LoadFault) -> u8
         LoadFault::Limit { .. } => 9,
         LoadFault::Queue { .. } => 10,
         LoadFault::Table { .. } => 11,
+        LoadFault::Rules { .. } => 13,
         LoadFault::OutOfMemory => 0,
     }
 }
@@ -40,7 +41,8 @@ pub(crate) fn fault_bot(fault: &LoadFault) -> Option<&BotName>
         | LoadFault::Cycle { bot }
         | LoadFault::Limit { bot }
         | LoadFault::Queue { bot }
-        | LoadFault::Table { bot, .. } => Some(bot),
+        | LoadFault::Table { bot, .. }
+        | LoadFault::Rules { bot, .. } => Some(bot),
         LoadFault::Json | LoadFault::OutOfMemory => None,
     }
 }

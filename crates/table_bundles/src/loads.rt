@@ -12,10 +12,10 @@ pub fn loaded(alloc: Global, case: &str) -> Result<String, OutOfMemory> {
 }
 
 /// The same of the bundle whose bot `p` has this module and these parameters, and feeds an output `w`. It has a sieve in the file
-/// `sieve` and a table in the file `table`.
+/// `sieve`, a table in the file `table`, and no rules in the file `rules`.
 pub fn loaded_with(alloc: Global, module: &str, parameters: &str) -> Result<String, OutOfMemory> {
     let case = format!(in alloc;
-        "{{\"p\":{{\"module\":\"{module}\",\"parameters\":{{{parameters}}},\"destination_queues\":{{\"_default\":[\"w-queue\"]}}}},\"w\":{{\"module\":\"output.file\"}}}} | sieve=keep | table=network\\n"
+        "{{\"p\":{{\"module\":\"{module}\",\"parameters\":{{{parameters}}},\"destination_queues\":{{\"_default\":[\"w-queue\"]}}}},\"w\":{{\"module\":\"output.file\"}}}} | sieve=keep | table=network\\n | rules=[]"
     )?;
     loaded(alloc, case.as_str())
 }
@@ -44,6 +44,7 @@ pub fn fault_text(alloc: Global, fault: &LoadFault) -> Result<String, OutOfMemor
         LoadFault::Limit { bot } => with_bot(alloc, "limit", bot),
         LoadFault::Queue { bot } => with_bot(alloc, "queue", bot),
         LoadFault::Table { bot, line } => with_number(alloc, "table", bot, *line),
+        LoadFault::Rules { bot, rule } => with_number(alloc, "rules", bot, u64::from(*rule)),
         LoadFault::OutOfMemory => Err(OutOfMemory),
     }
 }

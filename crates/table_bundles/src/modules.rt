@@ -34,6 +34,11 @@ pub fn push_module(out: &mut String, module: &Module) -> Result<(), OutOfMemory>
             overwrite,
         } => push_prefix(out, networks.len(), sets.len(), *overwrite),
         Module::Taxonomy => push_words(out, "taxonomy", ""),
+        Module::Modify {
+            rules,
+            overwrite,
+            most,
+        } => push_modify(out, rules.len(), *overwrite, *most),
         Module::Output => push_words(out, "output", ""),
     }
 }
@@ -108,6 +113,16 @@ fn push_prefix(
     overwrite: bool,
 ) -> Result<(), OutOfMemory> {
     write!(out, "prefix {networks} {sets} {overwrite}")?;
+    Ok(())
+}
+
+fn push_modify(
+    out: &mut String,
+    rules: usize,
+    overwrite: bool,
+    most: u32,
+) -> Result<(), OutOfMemory> {
+    write!(out, "modify {rules} {overwrite} {most}")?;
     Ok(())
 }
 

@@ -1,6 +1,7 @@
 //! What is answered to a case.
 use crate::experts::{chosen, classified, enriched};
 use crate::prefixes::{enriched_among, found, found_alike, found_among};
+use crate::rules::{counted, counted_among, modified};
 use crate::sieves::{listed, refusal, tree};
 use crate::verdicts::{holders, verdict};
 use base_types::OutOfMemory;
@@ -22,6 +23,10 @@ use std::alloc::{AllocError, Global};
 /// | `find alike` | a seed, and numbers of networks and of addresses | how many are found as by a look at each network, and how many in none |
 /// | `enrich among` | a number of networks, and how often each is looked up | how many of the events got the number of their network |
 /// | `allow`, `deny` | names and an event | the fields that tell it from others |
+/// | `rules` | rules that set fields | how many there are, or the first that is none, or that a limit is passed |
+/// | `rules among` | a number and a rule | the same of so many rules |
+/// | `modify`, `modify absent` | rules and an event | the event with what the rules set, in any case or where it is absent |
+/// | `modify some` | a number of matches, rules and an event | the same, with at most so many rules that match |
 pub fn answer(alloc: Global, line: &str) -> Result<String, AllocError> {
     let Some((call, input)) = line.split_once(": ") else {
         return "no case".to_string(alloc);
@@ -48,6 +53,11 @@ fn answer_to(alloc: Global, call: &str, input: &str) -> Result<String, OutOfMemo
         "enrich among" => enriched_among(alloc, input),
         "allow" => chosen(alloc, true, input),
         "deny" => chosen(alloc, false, input),
+        "rules" => counted(alloc, input),
+        "rules among" => counted_among(alloc, input),
+        "modify" => modified(alloc, true, false, input),
+        "modify absent" => modified(alloc, false, false, input),
+        "modify some" => modified(alloc, true, true, input),
         _ => Ok("no call".to_string(alloc)?),
     }
 }

@@ -7,6 +7,7 @@ mod experts;
 mod items;
 mod messages;
 mod prefixes;
+mod rules;
 mod sieves;
 mod texts;
 mod verdicts;

@@ -48,6 +48,7 @@ fn of_number(word: &str, bot: BotName, number: u32) -> Option<LoadFault> {
             bot,
             line: u64::from(number),
         }),
+        "Rules" => Some(LoadFault::Rules { bot, rule: number }),
         _ => None,
     }
 }

@@ -108,6 +108,27 @@ done dedup 1 3 1 write-queue>D key>a -> unfit
 at 1060
 done dedup 1 3 1 write-queue>D key>a -> ok
 = 6 steps, next 6 1, at 1060, 1 tiny; dedup-queue:; write-queue: 4=D 5=D; cache dedup: a@1060; out write 0 0:; feed collect 1 0
+
+# Three keys come while two marks are kept. The first key's mark leaves for the third's, and the key is let through again; then all expire.
+@ 0 steps, next 6 1, at 1000, 1 tiny; dedup-queue: 1=a 2=a 3=a 4=a 5=a; out write 0 0:; feed collect 1 0
+at 1000
+take dedup 1 1 -> ok
+done dedup 1 1 1 write-queue>D key>a -> ok
+take dedup 1 2 -> ok
+done dedup 1 2 1 write-queue>D key>b -> ok
+= 4 steps, next 8 1, at 1000, 1 tiny; dedup-queue: 3=a 4=a 5=a; write-queue: 6=D 7=D; cache dedup: a@1000 b@1000; out write 0 0:; feed collect 1 0
+at 1001
+take dedup 1 3 -> ok
+done dedup 1 3 1 write-queue>D key>a -> unfit
+done dedup 1 3 1 write-queue>D key>c -> ok
+= 6 steps, next 9 1, at 1001, 1 tiny; dedup-queue: 4=a 5=a; write-queue: 6=D 7=D 8=D; cache dedup: b@1000 c@1001; out write 0 0:; feed collect 1 0
+take dedup 1 4 -> ok
+done dedup 1 4 1 write-queue>D key>a -> ok
+= 8 steps, next 10 1, at 1001, 1 tiny; dedup-queue: 5=a; write-queue: 6=D 7=D 8=D 9=D; cache dedup: c@1001 a@1001; out write 0 0:; feed collect 1 0
+at 2000
+take dedup 1 5 -> ok
+done dedup 1 5 1 write-queue>D key>c -> ok
+= 10 steps, next 11 1, at 2000, 1 tiny; dedup-queue:; write-queue: 6=D 7=D 8=D 9=D 10=D; cache dedup: c@2000; out write 0 0:; feed collect 1 0
 ";
 
 fn course() -> &'static str {

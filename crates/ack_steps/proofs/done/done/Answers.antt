@@ -1,4 +1,4 @@
-use Rattle.std.proofs.Common.{◌≡◌, ◌+◌, ◌∙◌, sym, ap, subst, arith, length}
+use Rattle.std.proofs.Common.{◌≡◌, ◌+◌, ◌-◌, ◌^◌, ℕ, ◌∙◌, sym, ap, subst, arith, length}
 use Rattle.step_code.specs.declared.base.Base.{Base}
 use Rattle.step_code.specs.After.{cached, numbered, sent}
 use Rattle.core_state.specs.declared.state.State.{State}
@@ -7,6 +7,7 @@ use Rattle.core_state.specs.State.{state_of}
 use Rattle.ack_steps.proofs.Kept.{numbered_above}
 use Rattle.core_state.proofs.Numbered.{length-numbered}
 use Rattle.ack_steps.proofs.Results.{acknowledged, put_aside, whole}
+use Rattle.ack_steps.proofs.Marked.{marks_on_err, marks_stay, on_err_always}
 use Rattle.ack_steps.proofs.done.done.Goals as goal
 
 pub put_aside-requires-clause-above : goal.put_aside-requires-clause-above
@@ -78,3 +79,18 @@ returns-in_err-make_all_room-clause-pushed c = omega (arith, c.make_all_room.ens
 
 pub returns-in_err-mark-clause-pushed : goal.returns-in_err-mark-clause-pushed
 returns-in_err-mark-clause-pushed c = omega (arith, c.make_all_room.ensures.pushed, ap (λ (b : Base). b.next_message) c.make_all_room.ensures.same)
+
+pub mark-requires-clause-few : goal.mark-requires-clause-few
+mark-requires-clause-few c = marks_stay c.args.state.now c.make_all_room.new.state c.make_all_room.ensures.caches (2 ^ 63 - 1) c.requires.marks
+
+pub returns-clause-got : goal.returns-clause-got
+returns-clause-got c = λ n all.
+    let marked = record c.make_all_room.new.state { caches = c.mark.new.caches } in
+    let same = c.acknowledge.ensures.caches ∙ ap (λ (t : State). t.caches) c.put_aside.ensures.same ∙ ap (λ (t : State). t.caches) c.send_all.ensures.same in
+    marks_stay marked c.acknowledge.new.state same (n + 1) (c.in_ok-mark.ensures.got n (marks_stay c.args.state.now c.make_all_room.new.state c.make_all_room.ensures.caches n all))
+
+pub returns-in_err-make_all_room-clause-kept : goal.returns-in_err-make_all_room-clause-kept
+returns-in_err-make_all_room-clause-kept c = marks_on_err c.args.state.now c.make_all_room.new.state c.make_all_room.ensures.caches c.from_residual-in_err-make_all_room.result
+
+pub returns-in_err-mark-clause-kept : goal.returns-in_err-mark-clause-kept
+returns-in_err-mark-clause-kept c = λ n all. on_err_always c.from_residual-in_err-mark.result (c.in_err-mark.ensures.kept n (marks_stay c.args.state.now c.make_all_room.new.state c.make_all_room.ensures.caches n all))

@@ -1,4 +1,4 @@
-use Rattle.std.proofs.Common.{◌≡◌, ◌+◌, List, OnOk, find, option_and_then, sym, ◌∙◌, ap, subst, arith}
+use Rattle.std.proofs.Common.{◌≡◌, ◌≤◌, ◌+◌, ◌-◌, ◌^◌, List, OnOk, find, option_and_then, sym, ◌∙◌, ap, subst, arith}
 use Rattle.step_code.specs.declared.rules.Facts.{Facts}
 use Rattle.step_code.specs.declared.step.StepKind.TheVariants as kind
 use Rattle.step_code.specs.After.{acted, after}
@@ -11,6 +11,7 @@ use Rattle.core_state.specs.State.{state_of}
 use Rattle.ack_steps.proofs.Counted.{acted_keeps}
 use Rattle.ack_steps.proofs.Fewer.{redone_err, redone_number, redone_ok, sent_err, sent_ok}
 use Rattle.ack_steps.proofs.Kept.{marked_anew, marks_past, round_small, tries_small}
+use Rattle.ack_steps.proofs.Marked.{at_most_more, marks_and_one, marks_on_err, marks_on_ok}
 use Rattle.ack_steps.proofs.pipeline_core.act.Goals as goal
 
 pub retry-requires-clause-tries : goal.retry-requires-clause-tries
@@ -98,3 +99,48 @@ collect-requires-clause-few g c =
     let now = c.args.step.now.moment in
     let small = subst (λ w. HasSmallNumbers (after m s (record { moment = now; what = w }))) c.in-Collect.is c.requires.small in
     omega (arith, small.steps, small.messages, c.requires.few)
+
+pub returns-in-Start-clause-got : goal.returns-in-Start-clause-got
+returns-in-Start-clause-got g c = marks_and_one c.args.state.now c.start.new.state c.start.ensures.caches
+
+pub returns-in-FeedEnd-clause-got : goal.returns-in-FeedEnd-clause-got
+returns-in-FeedEnd-clause-got g c = marks_and_one c.args.state.now c.end_feed.new.state c.end_feed.ensures.caches
+
+pub returns-in-Retry-clause-got : goal.returns-in-Retry-clause-got
+returns-in-Retry-clause-got g c = marks_and_one c.args.state.now c.retry.new.state c.retry.ensures.caches
+
+pub returns-in-Round-clause-got : goal.returns-in-Round-clause-got
+returns-in-Round-clause-got g c = marks_and_one c.args.state.now c.begin_round.new.state c.begin_round.ensures.caches
+
+pub returns-in-Collect-clause-got : goal.returns-in-Collect-clause-got
+returns-in-Collect-clause-got g c = marks_on_ok c.args.state.now c.collect.new.state c.collect.ensures.caches c.collect.result
+
+pub returns-in-Collect-clause-kept : goal.returns-in-Collect-clause-kept
+returns-in-Collect-clause-kept g c = marks_on_err c.args.state.now c.collect.new.state c.collect.ensures.caches c.collect.result
+
+pub returns-in-Take-clause-got : goal.returns-in-Take-clause-got
+returns-in-Take-clause-got g c = marks_on_ok c.args.state.now c.take.new.state c.take.ensures.caches c.take.result
+
+pub returns-in-Take-clause-kept : goal.returns-in-Take-clause-kept
+returns-in-Take-clause-kept g c = marks_on_err c.args.state.now c.take.new.state c.take.ensures.caches c.take.result
+
+pub returns-in-Fail-clause-got : goal.returns-in-Fail-clause-got
+returns-in-Fail-clause-got g c = marks_on_ok c.args.state.now c.fail.new.state c.fail.ensures.caches c.fail.result
+
+pub returns-in-Fail-clause-kept : goal.returns-in-Fail-clause-kept
+returns-in-Fail-clause-kept g c = marks_on_err c.args.state.now c.fail.new.state c.fail.ensures.caches c.fail.result
+
+pub returns-in-Redo-clause-got : goal.returns-in-Redo-clause-got
+returns-in-Redo-clause-got g c = marks_on_ok c.args.state.now c.redo.new.state c.redo.ensures.caches c.redo.result
+
+pub returns-in-Redo-clause-kept : goal.returns-in-Redo-clause-kept
+returns-in-Redo-clause-kept g c = marks_on_err c.args.state.now c.redo.new.state c.redo.ensures.caches c.redo.result
+
+pub done-requires-clause-marks : goal.done-requires-clause-marks
+done-requires-clause-marks g c =
+    let m = g.R.Rules.meaning in
+    let s = c.args.state.now in
+    let now = c.args.step.now.moment in
+    let what = c.args.step.now.what in
+    let steps = acted_keeps m now (record (state_of s) { steps = s.steps + 1; latest = now }) what c.requires.kind in
+    at_most_more (2 ^ 32 + s.steps) (2 ^ 63 - 1) (omega (arith, c.requires.small.steps, steps.steps)) s c.requires.marks

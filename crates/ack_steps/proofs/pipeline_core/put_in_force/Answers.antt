@@ -1,4 +1,4 @@
-use Rattle.std.proofs.Common.{◌+◌, ◌≤◌, ◌<◌, [], sym, ◌∙◌, ap, subst, arith, unwrap_or}
+use Rattle.std.proofs.Common.{◌+◌, ◌≤◌, ◌<◌, ◌^◌, [], sym, ◌∙◌, ap, subst, arith, unwrap_or}
 use Rattle.std.specs.List.{AllByRecursion}
 use Rattle.base_types.specs.Number.{last_u64}
 use Rattle.step_code.specs.declared.base.Base.{Base}
@@ -10,6 +10,7 @@ use Rattle.ack_steps.specs.Core.{IsOrderly}
 use Rattle.core_state.specs.State.{state_of}
 use Rattle.ack_steps.proofs.Orderly.{orderly_after}
 use Rattle.ack_steps.proofs.Kept.{may_reload, reload_counted, rounds_small}
+use Rattle.ack_steps.proofs.Marked.{at_most_more, marks_stay}
 use Rattle.ack_steps.proofs.pipeline_core.put_in_force.Goals as goal
 
 pub overflow_add-state : goal.overflow_add-state
@@ -57,3 +58,15 @@ pub returns-in_default-clause-few : goal.returns-in_default-clause-few
 returns-in_default-clause-few g c =
     let same = c.prepare.ensures.same in
     omega (arith, c.requires.few, c.prepare.ensures.pushed, ap (λ (b : Base). b.next_message) same, ap (λ (b : Base). b.steps) same)
+
+pub returns-clause-marks : goal.returns-clause-marks
+returns-clause-marks g c =
+    let s = c.args.state.now in
+    let same = c.reload.ensures.caches ∙ c.in-Ok-prepare.ensures.caches in
+    at_most_more (2 ^ 32 + s.steps) (2 ^ 32 + c.reload.new.state.steps) (omega (arith, c.reload.ensures.steps, ap (λ (b : Base). b.steps) c.in-Ok-prepare.ensures.same)) c.reload.new.state (marks_stay s c.reload.new.state same (2 ^ 32 + s.steps) c.requires.marks)
+
+pub returns-in_default-clause-marks : goal.returns-in_default-clause-marks
+returns-in_default-clause-marks g c =
+    let s = c.args.state.now in
+    let new = c.prepare.new.state in
+    at_most_more (2 ^ 32 + s.steps) (2 ^ 32 + new.steps) (omega (arith, ap (λ (b : Base). b.steps) c.prepare.ensures.same)) new (marks_stay s new c.prepare.ensures.caches (2 ^ 32 + s.steps) c.requires.marks)

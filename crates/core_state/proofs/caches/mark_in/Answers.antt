@@ -1,4 +1,4 @@
-use Rattle.std.proofs.Common.{◌≡◌, ◌-◌, suc, false, List, length, sym, ◌∙◌, ap, subst}
+use Rattle.std.proofs.Common.{◌≡◌, ◌-◌, suc, false, List, length, sym, ◌∙◌, ap, subst, arith}
 use Rattle.stored_types.specs.declared.mark.Mark.{Mark}
 use Rattle.stored_types.specs.Mark.{fresh, is_marked, trimmed}
 use Rattle.dedup_cache.specs.declared.cache.Cache.{Cache}
@@ -19,4 +19,8 @@ mark-requires c =
       ready = ap (λ (v : Cache). v.ready) c.trim.ensures ∙ ap (λ (v : Cache). v.ready) c.due.ensures ∙ c.in_ok-reserve.ensures.ready;
       new = subst (λ (l : List Mark). is_marked c.args.key l ≡ false) (sym left) (unmarked_drop c.args.key (suc (length live) - below) live c.requires.new);
       past = subst (ArePast now.0) (sym left) (past_trimmed now below live (past_fresh now ttl c.args.cache.now.marks c.requires.past));
+      few = omega (arith, c.requires.few, c.reserve.ensures.pushed, ap (λ (v : Cache). v.pushed) c.due.ensures, ap (λ (v : Cache). v.pushed) c.trim.ensures);
     }
+
+pub returns-clause-got : goal.returns-clause-got
+returns-clause-got c = omega (arith, c.reserve.ensures.pushed, ap (λ (v : Cache). v.pushed) c.due.ensures, ap (λ (v : Cache). v.pushed) c.trim.ensures, ap (λ (v : Cache). v.pushed) c.mark.ensures)

@@ -3,7 +3,7 @@ use Rattle.std.specs.Option.{IfSome}
 use Rattle.std.proofs.lemmas.List.{length_push}
 use Rattle.base_types.specs.declared.message.Msg.{Msg}
 use Rattle.link_store.specs.Links.{HasItem, Item, Place, list_of}
-use Rattle.queue_broker.proofs.Copied.{IsNext, all_copied, copied_more, fewer_than, it_stands, its_value, next_item}
+use Rattle.link_store.proofs.Walked.{IsNext, all_walked, fewer_than, it_stands, its_value, next_item, walked_more}
 use Rattle.queue_broker.proofs.copies.copy_messages.Goals as goal
 
 pub messages-init : goal.messages-init
@@ -29,7 +29,7 @@ messages-preserved c =
     let has : HasItem (record { node = node; value = c.unwrap-message.result.now }) c.args.links.now =
     subst (λ (o : Option (Bor Msg)). IfSome o (λ value. HasItem (record { node = node; value = value.now }) c.args.links.now)) c.unwrap-message.ensures c.get.ensures.value in
     let same : c.in_ok-copy.copy ≡ is.item.value = c.in_ok-copy.ensures ∙ its_value c.args.links.now c.numbers_differ.ensures.once item place c.unwrap-message.result.now stands has in
-    copied_more items copies c.push.new.self.items node c.in_ok-copy.copy c.next-next.result is same c.in_ok-push.ensures.items (c.next-next.ensures.behind is.item.value place stands)
+    walked_more items copies c.push.new.self.items node c.in_ok-copy.copy c.next-next.result is same c.in_ok-push.ensures.items (c.next-next.ensures.behind is.item.value place stands)
 
 pub messages-smaller : goal.messages-smaller
 messages-smaller c =
@@ -40,4 +40,4 @@ messages-smaller c =
     omega (arith, fewer_than items copies node is, ap length c.in_ok-push.ensures.items, length_push copies c.in_ok-copy.copy)
 
 pub returns : goal.returns
-returns c = c.from.ensures ∙ all_copied (list_of c.args.links.now c.args.list) c.messages.copies.items c.messages.next c.in_default.is c.messages.invariant
+returns c = c.from.ensures ∙ all_walked (list_of c.args.links.now c.args.list) c.messages.copies.items c.messages.next c.in_default.is c.messages.invariant

@@ -15,5 +15,6 @@ returns c = record {
   rows_are = c.rows_of.ensures ∙ ap (λ (o : Option ℕ). unwrap_or o 0) (counted c.in_ok-table_text.field-0 ∙ ap (option_map row_count) c.in_ok-table_text.ensures);
   file_is = c.in_ok-file_of.ensures;
   length_is = c.length_of.ensures ∙ ap (λ (o : Option (List ℕ)). length (unwrap_or o [])) c.in_ok-content.ensures;
+  many_are = c.in_ok-passes_rules.ensures;
   few = subst (λ n. n ≤ 16) (sym c.in_ok-whole.ensures) (few_instances (members_of c.args.global.now) (entry_of c.args.bot.now));
 }

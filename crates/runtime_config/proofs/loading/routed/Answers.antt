@@ -1,5 +1,5 @@
 use Rattle.std.proofs.Common.{map, sym, ap, ◌∙◌}
-use Rattle.runtime_config.proofs.Faulty.{absent, last_planned, later_planned, paths_known, paths_unknown, there}
+use Rattle.runtime_config.proofs.Faulty.{absent, last_two, later_planned, paths_known, paths_unknown, there}
 use Rattle.runtime_config.proofs.KnownPaths.{paths_are}
 use Rattle.runtime_config.specs.Faults.{is_known}
 use Rattle.runtime_config.specs.Load.{route_of}
@@ -24,7 +24,7 @@ returns-in-Some c =
     let bots = entries_of c.args.at.now.whole.now.bots.now in
     let bot = entry_of c.args.at.now.bot.now in
     let known = (paths_known (list_all (is_known bots) (targets bot)) c.in-Some.paths (map route_of (routes bot)) (sym c.in-Some.is ∙ c.in_ok-paths.ensures ∙ paths_are bots (routes bot))).0 in
-    later_planned _ _ _ c.planned.result (absent _ (fault.Queue bot.0) known) (last_planned _ _ c.planned.result c.planned.ensures)
+    later_planned _ _ _ c.planned.result (absent _ (fault.Queue bot.0) known) (last_two _ _ _ c.planned.result c.planned.ensures)
 
 pub returns-in-None : goal.returns-in-None
 returns-in-None c =

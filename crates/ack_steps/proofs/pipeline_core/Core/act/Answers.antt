@@ -26,6 +26,7 @@ invariant_of-self g c =
       held.0,
       held.1,
       call.few,
+      call.marks,
     )
   where
     ok_always : {A E P : Type 0} (result : Result A E) → P → OnOk result P

@@ -19,4 +19,4 @@ invariant_of-self g c =
     let held = held_after_call m s (state_of c.put_in_force.new.state) (reload_of c.in-Reload.bundle now) bots c.put_in_force.result call.fits call.ok (on_err_weaker c.put_in_force.result (λ both. both.0) call.err)
     (subst (λ w. Fits m s (record { moment = now; what = w }) → MayReplay m s (record { moment = now; what = w })) c.in-Reload.is may)
     c.self.invariant.1 (g.met.R.Rules.bots_are_sound s.bundle bots c.self.invariant.1) c.self.invariant.4 c.self.invariant.5 in
-    (call.bundle, call.plan, call.lengths c.self.invariant.2, call.orderly, held.0, held.1, call.few)
+    (call.bundle, call.plan, call.lengths c.self.invariant.2, call.orderly, held.0, held.1, call.few, call.marks)

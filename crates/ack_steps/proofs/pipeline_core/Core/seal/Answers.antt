@@ -11,4 +11,5 @@ invariant_of-self g c =
       record { queues = held.queues; hands = held.hands; each_hand = held.each_hand },
       c.self.invariant.5,
       c.self.invariant.6,
+      c.self.invariant.7,
     )

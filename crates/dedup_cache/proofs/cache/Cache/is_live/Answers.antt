@@ -7,7 +7,7 @@ use Rattle.dedup_cache.proofs.cache.Cache.is_live.Goals as goal
 pub returns-in-Some : goal.returns-in-Some
 returns-in-Some c =
     let key = c.args.key.now in
-    let marks = c.self.inside.marks.items in
+    let marks = c.self.inside.marks.marks in
     let kept = c.self.invariant.0 in
     let has : Some c.in-Some.moment ≡ moment_of key marks = sym c.in-Some.is ∙ c.get.ensures ∙ ap (λ (k : List ℕ). found k c.self.inside.moments) c.bytes.ensures ∙ kept.same key in
     c.is_fresh.ensures ∙ ap (still_counts c.args.ttl c.args.now.0) has ∙ counts_by_moment c.args.ttl c.args.now.0 key marks kept.keys
@@ -16,7 +16,7 @@ returns-in-Some c =
 pub returns-in-None : goal.returns-in-None
 returns-in-None c =
     let key = c.args.key.now in
-    let marks = c.self.inside.marks.items in
+    let marks = c.self.inside.marks.marks in
     let kept = c.self.invariant.0 in
     let has : None ≡ moment_of key marks = sym c.in-None.is ∙ c.get.ensures ∙ ap (λ (k : List ℕ). found k c.self.inside.moments) c.bytes.ensures ∙ kept.same key in
     ap (still_counts c.args.ttl c.args.now.0) has ∙ counts_by_moment c.args.ttl c.args.now.0 key marks kept.keys ∙ ap (λ v. is_marked key (fresh c.args.ttl c.args.now.0 v.marks)) c.self.view_is

@@ -2,7 +2,7 @@ use Rattle.std.proofs.Common.{◌≡◌, false, true≢false, ℕ, List, Option,
 use Rattle.stored_types.specs.declared.mark.Mark.{Mark}
 use Rattle.stored_types.specs.Mark.{is_marked}
 use Rattle.dedup_cache.specs.Cache.{ArePast}
-use Rattle.dedup_cache.specs.Kept.{Changes, KeepMarks}
+use Rattle.dedup_cache.specs.Kept.{Changes, KeepMarks, RowView}
 use Rattle.dedup_cache.proofs.KeptMarks.{kept_pushed}
 use Rattle.dedup_cache.proofs.cache.Cache.mark.Goals as goal
 
@@ -18,5 +18,5 @@ invariant_of-self c =
     let marks = sym (ap (λ v. v.marks) view) in
     let none = subst (λ (l : List Mark). is_marked key l ≡ false) marks c.requires.new in
     let past = subst (ArePast c.args.now.0) marks c.requires.past in
-    let pushed = kept_pushed inside.moments new key c.args.now inside.marks.items c.self.invariant.0 none past changes in
-    (subst (λ (l : List Mark). KeepMarks l new) (sym {A = List Mark} c.push_back_reserved.ensures.items) pushed, λ some. absurd (true≢false (sym (subst IsSome c.take.ensures.after some))))
+    let pushed = kept_pushed inside.moments new key c.args.now inside.marks.marks c.self.invariant.0 none past changes in
+    (subst (λ (l : List Mark). KeepMarks l new) (sym {A = List Mark} (ap (λ (r : RowView). r.marks) c.push.ensures)) pushed, λ some. absurd (true≢false (sym (subst IsSome c.take.ensures.after some))))

@@ -9,4 +9,4 @@ returns c =
     let key = c.args.key.now in
     let inside = c.self.inside in
     c.is_some.ensures ∙ ap is_some (c.get.ensures ∙ ap (λ (k : List ℕ). found k inside.moments) c.bytes.ensures ∙ c.self.invariant.0.same key)
-    ∙ has_moment key inside.marks.items ∙ ap (λ v. is_marked key v.marks) c.self.view_is
+    ∙ has_moment key inside.marks.marks ∙ ap (λ v. is_marked key v.marks) c.self.view_is
