@@ -120,7 +120,7 @@ fn collect<R: Rules>(
             let sends = to_each(alloc, facts.defaults.as_slice(), body)?;
             acts::collect(state, bot, upto, sends)
         }
-        None => Err(OutOfMemory),
+        None => unreachable!(),
     }
 }
 
@@ -385,7 +385,8 @@ impl<R: Rules> Core<R> {
         if let StepKind::Reload { .. } = &step.what {
             return match self.apply(step) {
                 Ok(()) => Ok(()),
-                Err(_) => Err(OutOfMemory),
+                Err(StepRefusal::OutOfMemory) => Err(OutOfMemory),
+                Err(_) => unreachable!(),
             };
         }
         self.act(step)

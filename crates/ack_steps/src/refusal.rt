@@ -15,11 +15,9 @@ use core_state::feeds::{has_finished, position_of};
 use core_state::state::State;
 use std::alloc::Global;
 use step_code::{
-    Facts, PlanFault, Rules, StepKind, StepRefusal, bot_named, is_collector, is_instance,
+    BACKLOG_LIMIT, Facts, PlanFault, Rules, StepKind, StepRefusal, bot_named, is_collector,
+    is_instance,
 };
-
-// Nothing is collected while the bodies in live queues have so many bytes together.
-const BACKLOG_LIMIT: u64 = 8_388_608;
 
 /// What refuses the step, if it doesn't fit. The bots are those of the bundle in force.
 pub fn refusal<R: Rules>(

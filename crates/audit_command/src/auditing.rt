@@ -17,8 +17,7 @@ use std::alloc::Global;
 use step_code::Rules;
 use store_audit::{Verdict, audit_store};
 use store_commands::STEP_BYTES;
-
-const ROOT: u64 = 0;
+use store_image::ROOT;
 
 fn print_legal<S: Sink>(alloc: Global, steps: u64, out: &mut S) -> AuditEnd
     ensures told { IsTold (Verdict.Legal steps) result (S.sink out.old) (S.sink out.new) }

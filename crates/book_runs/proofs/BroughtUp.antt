@@ -1,5 +1,5 @@
 -- Completing the outputs of a book makes no step.
-use Rattle.std.proofs.Common.{◌≡◌, ◌≢◌, ◌⊎◌, ⊎_elim, ◌≤◌, ◌++◌, List, [], length, true, Some, Result, Ok, Err, refl, sym, ap, subst, ◌∙◌, arith}
+use Rattle.std.proofs.Common.{◌≡◌, ◌≢◌, ◌⊎◌, ⊎_elim, ◌≤◌, ◌++◌, List, [], length, true, Some, Result, Ok, Err, refl, sym, ap, ◌∙◌, arith}
 use Rattle.std.specs.Prelude.{IfErr, IsErrOf, OnOk}
 use Rattle.edge_traits.specs.Disk.{DiskView, Image, Leaves}
 use Rattle.step_code.specs.declared.step.Step.{Step}

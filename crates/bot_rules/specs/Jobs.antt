@@ -42,7 +42,7 @@ dedup_rule keys keep ttl cache_max = record { keys = keys; keep = keep; ttl = tt
 
 -- the table of a prefix expert; no other module has one
 abbrev pub table_of : Module → Option Rows
-table_of (modules.Prefix networks sets overwrite) = Some (record { networks = networks; sets = sets; overwrite = overwrite })
+table_of (modules.Prefix table overwrite) = Some (record { networks = table.networks; sets = table.sets; overwrite = overwrite })
 table_of _ = None
 
 -- what a bot with these paths and this module does with messages; a collector gets none
@@ -52,7 +52,7 @@ job_of routes (modules.Csv columns delimiter skip_header defaults stamp) = Some 
 job_of routes (modules.Json word defaults) = Some (job.Json (json_rule word defaults))
 job_of routes (modules.Sieve sieve) = Some (job.Sieve (record { sieve = sieve; routes = routes }))
 job_of routes (modules.Dedup keys keep ttl cache_max) = Some (job.Dedup (dedup_rule keys keep ttl cache_max))
-job_of routes (modules.Prefix networks sets overwrite) = Some (job.Change (change.Prefix (record { networks = networks; sets = sets; overwrite = overwrite })))
+job_of routes (modules.Prefix table overwrite) = Some (job.Change (change.Prefix (record { networks = table.networks; sets = table.sets; overwrite = overwrite })))
 job_of routes modules.Taxonomy = Some (job.Change change.Taxonomy)
 job_of routes (modules.Modify rules overwrite most) = Some (job.Change (change.Modify (record { rules = rules; overwrite = overwrite; most = most })))
 job_of routes modules.Output = Some job.Output

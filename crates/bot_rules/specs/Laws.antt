@@ -67,7 +67,7 @@ module_is_lawful (modules.Csv columns delimiter skip_header defaults stamp) piec
 module_is_lawful (modules.Json style defaults) piece now = bare_is_lawful
 module_is_lawful (modules.Sieve sieve) piece now = bare_is_lawful
 module_is_lawful (modules.Dedup keys keep ttl cache_max) piece now = bare_is_lawful
-module_is_lawful (modules.Prefix networks sets overwrite) piece now = bare_is_lawful
+module_is_lawful (modules.Prefix table overwrite) piece now = bare_is_lawful
 module_is_lawful modules.Taxonomy piece now = bare_is_lawful
 module_is_lawful (modules.Modify rules overwrite most) piece now = bare_is_lawful
 module_is_lawful modules.Output piece now = bare_is_lawful
@@ -93,7 +93,7 @@ sound_as p (modules.Csv columns delimiter skip_header defaults stamp) is within 
 sound_as p (modules.Json style defaults) is within = sound_with _ is.some_instance is.instances is.retries is.delay refl tt tt tt
 sound_as p (modules.Sieve sieve) is within = sound_with _ is.some_instance is.instances is.retries is.delay refl tt tt tt
 sound_as p (modules.Dedup keys keep ttl cache_max) is within = sound_with _ is.some_instance is.instances is.retries is.delay refl tt tt within
-sound_as p (modules.Prefix networks sets overwrite) is within = sound_with _ is.some_instance is.instances is.retries is.delay refl tt tt tt
+sound_as p (modules.Prefix table overwrite) is within = sound_with _ is.some_instance is.instances is.retries is.delay refl tt tt tt
 sound_as p modules.Taxonomy is within = sound_with _ is.some_instance is.instances is.retries is.delay refl tt tt tt
 sound_as p (modules.Modify rules overwrite most) is within = sound_with _ is.some_instance is.instances is.retries is.delay refl tt tt tt
 sound_as p modules.Output is within = sound_with _ is.some_instance is.instances is.retries is.delay refl tt tt tt
@@ -155,7 +155,7 @@ collects_as p (modules.Csv columns delimiter skip_header defaults stamp) = refl
 collects_as p (modules.Json style defaults) = refl
 collects_as p (modules.Sieve sieve) = refl
 collects_as p (modules.Dedup keys keep ttl cache_max) = refl
-collects_as p (modules.Prefix networks sets overwrite) = refl
+collects_as p (modules.Prefix table overwrite) = refl
 collects_as p modules.Taxonomy = refl
 collects_as p (modules.Modify rules overwrite most) = refl
 collects_as p modules.Output = refl
@@ -236,8 +236,8 @@ module_fits p (modules.Sieve sieve) since body =
 module_fits p (modules.Dedup keys keep ttl cache_max) since body =
     body_fits (facts_as p (modules.Dedup keys keep ttl cache_max)) (job.Dedup (dedup_rule keys keep ttl cache_max)) (queues_on default_path p.paths) since body
     (λ fields. (λ some. refl, λ line. absurd (cc (line))))
-module_fits p (modules.Prefix networks sets overwrite) since body =
-    change_fits (facts_as p (modules.Prefix networks sets overwrite)) (change.Prefix (record { networks = networks; sets = sets; overwrite = overwrite })) (queues_on default_path p.paths) since body
+module_fits p (modules.Prefix table overwrite) since body =
+    change_fits (facts_as p (modules.Prefix table overwrite)) (change.Prefix (record { networks = table.networks; sets = table.sets; overwrite = overwrite })) (queues_on default_path p.paths) since body
 module_fits p modules.Taxonomy since body = change_fits (facts_as p modules.Taxonomy) change.Taxonomy (queues_on default_path p.paths) since body
 module_fits p (modules.Modify rules overwrite most) since body =
     change_fits (facts_as p (modules.Modify rules overwrite most)) (change.Modify (record { rules = rules; overwrite = overwrite; most = most })) (queues_on default_path p.paths) since body

@@ -5,7 +5,6 @@ ghost use Rattle.bot_rules.specs.Jobs.{table_of};
 use crate::copies::copy_sets;
 use base_types::{ListOf, OutOfMemory};
 use expert_rules::FieldsList;
-use module_settings::NetworkList;
 use prefix_table::PrefixTable;
 use runtime_config::{Module, Planned};
 use std::alloc::Global;
@@ -45,25 +44,19 @@ impl Model for Table {
 /// The table of each bot of a plan; of a prefix expert alone there is one.
 pub type TableList = ListOf<Option<Table>>;
 
-// The most networks that a table takes. A plan has fewer.
-const MOST_NETWORKS: usize = 0x8000_0000;
-
 impl Table {
-    // The table of a prefix expert. A plan has as many sets as networks.
+    // The table of a prefix expert.
     fn new(
         alloc: Global,
-        networks: &NetworkList,
-        sets: &FieldsList,
+        table: &module_settings::Table,
         overwrite: bool,
     ) -> Result<Table, OutOfMemory>
-        ensures { IfOk result (λ t. t ≡ record { networks = networks.now; sets = sets.now; overwrite = overwrite }) }
+        ensures { IfOk result (λ t. t ≡ record { networks = table.now.networks; sets = table.now.sets; overwrite = overwrite }) }
     {
-        if networks.len() >= MOST_NETWORKS || networks.len() != sets.len() {
-            return Err(OutOfMemory);
-        }
+        let read = table.rows();
         let rows = Rows {
-            networks: PrefixTable::build(alloc, networks)?,
-            sets: copy_sets(alloc, sets.as_slice())?,
+            networks: PrefixTable::build(alloc, &read.networks)?,
+            sets: copy_sets(alloc, read.sets.as_slice())?,
             overwrite,
         };
         match Arc::new(alloc, rows) {
@@ -93,11 +86,7 @@ fn table_of(alloc: Global, module: &Module) -> Result<Option<Table>, OutOfMemory
     ensures { IfOk result (λ t. t ≡ table_of module.now) }
 {
     match module {
-        Module::Prefix {
-            networks,
-            sets,
-            overwrite,
-        } => Ok(Some(Table::new(alloc, networks, sets, *overwrite)?)),
+        Module::Prefix { table, overwrite } => { Ok(Some(Table::new(alloc, table, *overwrite)?)) }
         _ => Ok(None),
     }
 }

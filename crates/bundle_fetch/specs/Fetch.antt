@@ -1,6 +1,7 @@
 -- The bundle that a shelf has under a name.
-use Rattle.std.specs.Prelude.{◌≡◌, ℕ, List, [], ◌∷◌, take, Option, Some, None, Result, Ok, Err}
+use Rattle.std.specs.Prelude.{◌≡◌, ◌+◌, ℕ, List, [], ◌∷◌, take, Option, Some, None, Result, Ok, Err}
 use Rattle.config_bundle.specs.declared.bundle.Bundle.{Bundle}
+use Rattle.config_bundle.specs.Limits.{longest_file, longest_runtime}
 use Rattle.edge_traits.specs.Named.{find_named}
 use Rattle.runtime_text.specs.Named.{named_files}
 use Rattle.bundle_fetch.specs.declared.fault.BundleFault.{BundleFault}
@@ -12,10 +13,10 @@ Files = List (List ℕ × List ℕ)
 
 -- how much is kept: one byte more than a runtime text, or another file, may have
 abbrev pub kept_runtime : ℕ
-kept_runtime = 1048577
+kept_runtime = longest_runtime + 1
 
 abbrev pub kept_file : ℕ
-kept_file = 4194305
+kept_file = longest_file + 1
 
 abbrev pub with_kept : List ℕ → Option (List ℕ) → Result Files (List ℕ) → Result Files (List ℕ)
 with_kept name None later = Err name

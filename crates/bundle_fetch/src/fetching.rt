@@ -11,15 +11,15 @@ ghost use Rattle.runtime_text.specs.Named.{named_files};
 use crate::BundleFault;
 use crate::front::fetch_front;
 use base_types::{Blob, NamedList, OutOfMemory, Text, TextList};
-use config_bundle::Bundle;
+use config_bundle::{Bundle, LONGEST_FILE, LONGEST_RUNTIME};
 use edge_traits::Shelf;
 use runtime_text::named_files;
 use std::alloc::Global;
 
-// A runtime text and a file count up to these lengths in bytes. One byte more is kept, so that it shows that they are longer.
-const KEPT_RUNTIME: usize = 1_048_577;
+// One byte more is kept than a runtime text and a file may have, so that it shows that they are longer.
+const KEPT_RUNTIME: usize = LONGEST_RUNTIME + 1;
 
-const KEPT_FILE: usize = 4_194_305;
+const KEPT_FILE: usize = LONGEST_FILE + 1;
 
 // So many files have no code.
 const MOST_FILES: usize = 0x1_0000_0000;

@@ -7,4 +7,5 @@ mod value;
 mod words;
 
 pub use command::{Ask, Command, Run};
+pub use value::is_name;
 pub use words::{command_of, run_of};

@@ -8,12 +8,19 @@ use base_types::Text;
 
 const LONGEST_NAME: usize = 255;
 
+/// Whether these bytes have the length of a name, 1 to 255 bytes.
+pub fn is_name(bytes: &[u8]) -> bool
+    ensures { result ≡ is_name bytes.now }
+{
+    let len = bytes.len();
+    len >= 1 && len <= LONGEST_NAME
+}
+
 /// A name of 1 to 255 bytes.
 pub fn name_in(text: &Text) -> Option<&Text>
     ensures { option_copied result ≡ name_in text.now }
 {
-    let len = text.bytes().len();
-    if len >= 1 && len <= LONGEST_NAME {
+    if is_name(text.bytes()) {
         Some(text)
     } else {
         None

@@ -5,11 +5,13 @@ mod bundle;
 mod fault;
 mod file_name;
 pub mod laws;
+mod limits;
 mod order;
 mod reading;
 mod writing;
 
 pub use bundle::{Bundle, is_bundle};
 pub use fault::BundleBad;
+pub use limits::{LONGEST_FILE, LONGEST_RUNTIME};
 pub use reading::bundle_read;
 pub use writing::bundle_code;

@@ -16,10 +16,7 @@ ghost use Rattle.core_state.specs.State.{state_of};
 use crate::outputs::{Written, has_output, place_of_output};
 use crate::state::State;
 use base_types::BotName;
-use step_code::{Facts, StepKind, bot_named, writes};
-
-/// The last number that may be given.
-pub const LAST_GIVEN: u64 = 1 << 62;
+use step_code::{Facts, LAST_GIVEN, StepKind, bot_named, writes};
 
 fn first_past(numbers: &[u64]) -> Option<u64>
     ensures { result ≡ find is_past numbers.now }

@@ -8,11 +8,11 @@ pub struct Heading {
     pub generation: u64,
 }
 
-// How many bytes a header takes.
-pub(crate) const HEADER: usize = 16;
+/// How many bytes a header takes.
+pub const HEADER: usize = 16;
 
-// How many bytes a record takes besides its body: its length, and a gate.
-pub(crate) const FRAME: usize = 9;
+/// How many bytes a record takes besides its body: its length, and a gate.
+pub const FRAME: usize = 9;
 
 // The gate before a record that counts. Any other byte is a closed gate.
 pub(crate) const OPEN: u8 = 1;

@@ -7,7 +7,7 @@ mod journal;
 mod laws;
 mod reading;
 
-pub use header::Heading;
+pub use header::{FRAME, HEADER, Heading};
 pub use journal::{AppendFault, Journal, JournalFault};
 pub use laws::{
     a_file_has_bodies_or_damage, bodies_are_one, damage_is_at_one_place, damaged_has_no_bodies,

@@ -6,10 +6,7 @@ ghost use Rattle.drain_turns.specs.Turn.{is_backed_up};
 
 use ack_steps::Core;
 use base_types::BotName;
-use step_code::Rules;
-
-// Where so many bytes of bodies wait, nothing is collected.
-const BACKLOG_LIMIT: u64 = 8_388_608;
+use step_code::{BACKLOG_LIMIT, Rules};
 
 /// Whether so much waits that nothing is collected.
 pub fn is_backed_up<R: Rules>(core: &Core<R>) -> bool

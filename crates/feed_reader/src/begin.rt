@@ -8,11 +8,8 @@ use crate::ReaderFault;
 use crate::front::{has_byte, length_within, read_front};
 use base_types::Blob;
 use edge_traits::Source;
-use report_cut::{CutRule, Cutter, first_line};
+use report_cut::{CutRule, Cutter, LONGEST_LINE, first_line};
 use std::alloc::Global;
-
-// No line has more bytes, its newline included.
-const LONGEST_LINE: usize = 1_048_576;
 
 /// What stands at an offset of a feed, for a reader that is to go on there.
 #[derive(Drop)]

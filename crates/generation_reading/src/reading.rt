@@ -13,17 +13,14 @@ use base_types::{Blob, read_u64};
 use disk_journal::JournalFault;
 use std::alloc::Global;
 use std::snapshot::Snapshot;
-use step_code::{Base, Rules, decode_base};
+use step_code::{Base, LAST_GIVEN, Rules, decode_base};
 use stored_types::CodeFault;
 
 /// How many bytes stand before the first record of a file.
-pub const HEADER: u64 = 16;
+pub const HEADER: u64 = disk_journal::HEADER as u64;
 
 /// How many bytes of a record stand before its body.
-pub const FRAME: u64 = 9;
-
-// No generation has a greater number.
-const LAST_GIVEN: u64 = 1 << 62;
+pub const FRAME: u64 = disk_journal::FRAME as u64;
 
 // The number that a body of the root shows.
 fn generation_of(body: &[u8]) -> Option<u64>

@@ -19,7 +19,7 @@ ghost use Rattle.journal_book.specs.NewStore.{HasOldRootOrFirst};
 ghost use Rattle.journal_book.specs.Opening.{KeepsHistories};
 
 use crate::BookFault;
-use crate::files::{ROOT, generation_file};
+use crate::files::generation_file;
 use ack_steps::{Core, CoreFault};
 use base_types::Blob;
 use disk_journal::{Heading, Journal, JournalFault};
@@ -28,7 +28,7 @@ use generation_reading::first_state;
 use std::alloc::Global;
 use std::snapshot::Snapshot;
 use step_code::{Base, PlanFault, Rules, encode_base};
-use store_image::{WRITTEN_FORMAT, heading_of, root_heading};
+use store_image::{ROOT, WRITTEN_FORMAT, heading_of, root_heading};
 
 /// What a store is opened with: its state, the files of its root and of its generation, and the state with which the
 /// generation begins.

@@ -3,9 +3,6 @@ ghost use Rattle.std.specs.Prelude.{◌≡◌, ◌≤◌};
 ghost use Rattle.step_code.specs.Spent.{last_given};
 ghost use Rattle.store_image.specs.Files.{out_file, generation_file};
 
-/// It names the generations; the last of them is in force.
-pub const ROOT: u64 = 0;
-
 /// The file of an output's lines.
 pub fn out_file(k: usize) -> u64
     requires { k ≤ last_given }

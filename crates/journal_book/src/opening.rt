@@ -20,7 +20,7 @@ ghost use Rattle.generation_reading.specs.Reading.{AreGenerations, AreHistory, I
 ghost use Rattle.step_code.specs.Code.{first_format};
 
 use crate::BookFault;
-use crate::files::{ROOT, generation_file, out_file};
+use crate::files::{generation_file, out_file};
 use ack_steps::Core;
 use base_types::BlobList;
 use disk_journal::{Heading, Journal, JournalFault};
@@ -28,7 +28,7 @@ use edge_traits::Disk;
 use generation_reading::{History, generation_named, history_of};
 use std::alloc::Global;
 use step_code::Rules;
-use store_image::{FIRST_FORMAT, heading_of, root_heading};
+use store_image::{FIRST_FORMAT, ROOT, heading_of, root_heading};
 
 /// What a store was opened with: the files of its root and of its generation, and what that holds.
 #[derive(Drop)]

@@ -18,20 +18,16 @@ use crate::files::generation_file;
 use crate::{BookFault, RenewFault};
 use ack_steps::Core;
 use base_types::{Blob, OutOfMemory};
-use core_state::spent::LAST_GIVEN;
 use disk_journal::{Journal, JournalFault};
 use edge_traits::Disk;
 use std::alloc::Global;
 use std::snapshot::Snapshot;
-use step_code::{Base, Rules, encode_base};
+use step_code::{Base, LAST_GIVEN, LONGEST_BASE, Rules, encode_base};
 use store_image::{WRITTEN_FORMAT, heading_of};
 use stored_types::Coded;
 
 // What a root grows by that names a generation, in bytes.
 const ROOT_ENTRY: u64 = 17;
-
-// The longest code of a state.
-const LONGEST_BASE: u64 = 268_435_456;
 
 /// The number of the generation behind this one, where the root's file has so many bytes.
 pub fn next_number(generation: u64, root: u64) -> Result<u64, RenewFault>

@@ -1,16 +1,13 @@
 -- What a line of control asks for.
-use Rattle.std.specs.Prelude.{ℕ, Bool, List, ◌&&◌, nat_le, length, take, drop, codes, if◌then◌else◌}
+use Rattle.std.specs.Prelude.{ℕ, List, ◌&&◌, take, drop, codes, if◌then◌else◌}
 use Rattle.std.specs.Str.{bytes_eq, is_utf8}
+use Rattle.command_words.specs.Values.{is_name}
 use Rattle.live_reload.specs.declared.control.Control.{Control}
 use Rattle.live_reload.specs.declared.control.Control.TheVariants as control
 
--- 1 to 255 bytes
-abbrev pub is_short : List ℕ → Bool
-is_short name = nat_le 1 (length name) && nat_le (length name) 255
-
--- a name is a short text in UTF-8
+-- a name is a text of 1 to 255 bytes in UTF-8
 abbrev pub name_in : List ℕ → Control
-name_in name = if is_short name && is_utf8 name then control.Reload name else control.Bad
+name_in name = if is_name name && is_utf8 name then control.Reload name else control.Bad
 
 -- what stands behind `reload` and a space is the name of a bundle
 abbrev pub reload_in : List ℕ → Control

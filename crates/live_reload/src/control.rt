@@ -1,12 +1,10 @@
 //! A line of control, and what it asks for.
 ghost use Rattle.std.specs.Prelude.{◌≡◌, IfOk};
-ghost use Rattle.live_reload.specs.Control.{control_in, is_short, name_in, reload_in};
+ghost use Rattle.live_reload.specs.Control.{control_in, name_in, reload_in};
 
 use base_types::{OutOfMemory, Text, TextFault};
+use command_words::is_name;
 use std::alloc::Global;
-
-// A name has at most so many bytes.
-const LONGEST_NAME: usize = 255;
 
 /// What a line of control asks for.
 #[derive(Debug, Drop, PartialEq, Eq)]
@@ -47,17 +45,10 @@ fn read_reload(alloc: Global, line: &[u8]) -> Result<Control, OutOfMemory>
     }
 }
 
-fn is_short(name: &[u8]) -> bool
-    ensures { result ≡ is_short name.now }
-{
-    let len = name.len();
-    len >= 1 && len <= LONGEST_NAME
-}
-
 fn read_name(alloc: Global, name: &[u8]) -> Result<Control, OutOfMemory>
     ensures { IfOk result (λ control. control ≡ name_in name.now) }
 {
-    if !is_short(name) {
+    if !is_name(name) {
         return Ok(Control::Bad);
     }
     match Text::new(alloc, name) {

@@ -7,7 +7,7 @@ use Rattle.module_settings.specs.declared.parameter.Otherwise.TheVariants as oth
 use Rattle.module_settings.specs.declared.parameter.Parameter.{Parameter}
 use Rattle.module_settings.specs.declared.setting.Setting.{Setting}
 use Rattle.module_settings.specs.declared.setting.Setting.TheVariants as setting
-use Rattle.module_settings.specs.declared.table.Table.{Table}
+use Rattle.module_settings.specs.declared.table.Rows.{Rows}
 use Rattle.module_settings.specs.declared.table.TableFault.{TableFault}
 use Rattle.module_settings.specs.declared.table.TableFault.TheVariants.{Line, OutOfMemory}
 use Rattle.scalar_net.specs.declared.network.Network.{Network}
@@ -30,19 +30,19 @@ parameter_of q = table.row q.name.now q.form (otherwise_of q.otherwise)
 -- ---- tables
 
 -- the rows of one table behind those of another
-abbrev pub joined : Table → Table → Table
+abbrev pub joined : Rows → Rows → Rows
 joined front back = record { networks = front.networks ++ back.networks; sets = front.sets ++ back.sets }
 
 -- a row behind those of a table
-abbrev pub with_row : Table → Network × FieldMap → Table
+abbrev pub with_row : Rows → Network × FieldMap → Rows
 with_row table row = record { networks = table.networks ++ row.0 ∷ []; sets = table.sets ++ row.1 ∷ [] }
 
 -- the rows stand behind those that were there
-abbrev pub IsPut : Result Table ℕ → Table → Table → Type 0
+abbrev pub IsPut : Result Rows ℕ → Rows → Rows → Type 0
 IsPut (Ok rows) old new = new ≡ joined old rows
 IsPut (Err n) old new = ⊥
 
 -- the line that is no header or row; memory may run out in any case
-abbrev pub IsTableFault : Result Table ℕ → TableFault → Type 0
+abbrev pub IsTableFault : Result Rows ℕ → TableFault → Type 0
 IsTableFault meant (Line n) = meant ≡ Err n
 IsTableFault meant OutOfMemory = Unit {0}

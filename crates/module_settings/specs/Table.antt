@@ -12,7 +12,7 @@ use Rattle.csv_line.specs.Cells.{bare, has_odd_quotes}
 use Rattle.csv_line.specs.Line.{one_record}
 use Rattle.event_model.specs.Fields.{FieldMap, value_for}
 use Rattle.event_model.specs.Trees.{both}
-use Rattle.module_settings.specs.declared.table.Table.{Table}
+use Rattle.module_settings.specs.declared.table.Rows.{Rows}
 use Rattle.module_settings.specs.Networks.{network_is_cut}
 
 -- the byte between cells
@@ -73,17 +73,17 @@ row_in names line = option_and_then (row_of names) (cells_of line)
 abbrev pub is_empty_line : List ℕ → Bool
 is_empty_line line = length (bare line) == 0
 
-abbrev pub in_front : Network × FieldMap → Result Table ℕ → Result Table ℕ
+abbrev pub in_front : Network × FieldMap → Result Rows ℕ → Result Rows ℕ
 in_front row (Ok table) = Ok (record { networks = row.0 ∷ table.networks; sets = row.1 ∷ table.sets })
 in_front row (Err n) = Err n
 
-abbrev pub row_first : Option (Network × FieldMap) → ℕ → Result Table ℕ → Result Table ℕ
+abbrev pub row_first : Option (Network × FieldMap) → ℕ → Result Rows ℕ → Result Rows ℕ
 row_first (Some row) n table = in_front row table
 row_first None n table = Err n
 
 -- the rows that these lines are, of which the first has this number; or the number of the first that is no row. Empty
 -- lines are none
-abbrev pub rows_of : List (List ℕ) → ℕ → List (List ℕ) → Result Table ℕ
+abbrev pub rows_of : List (List ℕ) → ℕ → List (List ℕ) → Result Rows ℕ
 rows_of names n [] = Ok (record { networks = []; sets = [] })
 rows_of names n (line ∷ lines) =
     if is_empty_line line then rows_of names (suc n) lines else row_first (row_in names (bare line)) n (rows_of names (suc n) lines)
@@ -106,17 +106,17 @@ header_of (cell ∷ names) = if bytes_eq cell (codes "network") then columns_of 
 unfoldable pub header_in : List ℕ → Option (List (List ℕ))
 header_in line = option_and_then header_of (cells_of line)
 
-abbrev pub behind_header : Option (List (List ℕ)) → List (List ℕ) → Result Table ℕ
+abbrev pub behind_header : Option (List (List ℕ)) → List (List ℕ) → Result Rows ℕ
 behind_header (Some names) lines = rows_of names 2 lines
 behind_header None lines = Err 1
 
-abbrev pub of_lines : List (List ℕ) → Result Table ℕ
+abbrev pub of_lines : List (List ℕ) → Result Rows ℕ
 of_lines [] = Err 1
 of_lines (line ∷ lines) = behind_header (header_in (bare line)) lines
 
 -- the table that a file is; or the number, from 1, of the first line that is no header or row. An empty file has none
 -- at 1
-unfoldable pub table_in : List ℕ → Result Table ℕ
+unfoldable pub table_in : List ℕ → Result Rows ℕ
 table_in content = of_lines (lines_of content)
 
 -- how many rows there are, bad ones too: the lines behind the first that aren't empty

@@ -19,6 +19,6 @@ pub use parameter::{
     Otherwise, Parameter, own_parameters, parameters_of, setting_of, shared_parameters,
 };
 pub use setting::Setting;
-pub use table::{FieldsList, NetworkList, Table, TableFault, row_count, table_in};
+pub use table::{FieldsList, NetworkList, Rows, Table, TableFault, row_count, table_in};
 pub use taken::{is_file_name, taken_as};
 pub use texts::{copies_of, text_of, texts_in, texts_of};

@@ -1,5 +1,5 @@
 //! The file of a prefix expert: a header of names of fields, and rows of a network and values.
-ghost use Rattle.std.specs.Prelude.{◌≡◌, ◌∷◌, [], ◌++◌, ◌&&◌, true, not, count_by, map, option_map, option_and_then, Some, None, IfOk, OnOk, MatchResult, Ok, if◌then◌else◌};
+ghost use Rattle.std.specs.Prelude.{◌≡◌, ◌<◌, ◌^◌, ◌∷◌, [], ◌++◌, ◌&&◌, true, not, length, count_by, map, option_map, option_and_then, Some, None, IfOk, OnOk, MatchResult, Ok, if◌then◌else◌};
 ghost use Rattle.std.specs.Str.{is_utf8};
 ghost use Rattle.base_types.specs.Lines.{lines_of};
 ghost use Rattle.csv_line.specs.Cells.{has_odd_quotes};
@@ -20,6 +20,7 @@ use report_cut::first_line;
 use scalar_net::{Network, read_network};
 use scalar_text::strip;
 use std::alloc::{AllocError, Global};
+use std::marker::Model;
 use std::str;
 
 pub type NetworkList = ListOf<Network>;
@@ -28,10 +29,45 @@ pub type FieldsList = ListOf<Fields>;
 
 /// Networks, and what each of them sets.
 #[derive(Debug, Drop)]
-pub struct Table {
+pub struct Rows {
     pub networks: NetworkList,
     pub sets: FieldsList,
 }
+
+impl Rows {
+    fn new(alloc: Global) -> Self
+        ensures { result ≡ record { networks = []; sets = [] } }
+    {
+        Rows {
+            networks: NetworkList::new(alloc),
+            sets: FieldsList::new(alloc),
+        }
+    }
+}
+
+/// Rows with as many sets as networks, fewer than 2^31. Contracts see the rows.
+#[derive(Debug, Drop)]
+pub struct Table {
+    rows: Rows,
+}
+
+impl Model for Table {
+    ghost use Rattle.std.specs.Prelude.{◌≡◌, ◌<◌, ◌^◌, length};
+    ghost use Rattle.std.specs.Coded.{codes};
+    ghost use Rattle.event_model.specs.contracts.fields.Fields as fields;
+    ghost use Rattle.module_settings.specs.declared.table.Rows.{Rows};
+
+    ghost Value = { Rows };
+
+    ghost coded = { Prim.hlevel (codes, fields.the_row.coded) };
+
+    ghost view = { λ t. t.rows };
+
+    ghost invariant = { λ t. (length t.rows.sets ≡ length t.rows.networks) × (length t.rows.networks < 2 ^ 31) };
+}
+
+// No table has so many rows.
+const ROWS_LIMIT: usize = 0x8000_0000;
 
 impl Table {
     /// A table of no rows. It takes no memory.
@@ -39,9 +75,28 @@ impl Table {
         ensures { result ≡ record { networks = []; sets = [] } }
     {
         Table {
-            networks: NetworkList::new(alloc),
-            sets: FieldsList::new(alloc),
+            rows: Rows::new(alloc),
         }
+    }
+
+    // There is no room for 2^31 rows.
+    fn with_rows(rows: Rows) -> Result<Table, OutOfMemory>
+        requires { length rows.sets ≡ length rows.networks }
+        ensures { IfOk result (λ table. table ≡ rows) }
+    {
+        if rows.networks.len() >= ROWS_LIMIT {
+            return Err(OutOfMemory);
+        }
+        Ok(Table { rows })
+    }
+
+    /// The rows, with as many sets as networks.
+    pub fn rows(&self) -> &Rows
+        ensures rows { result.now ≡ self.now }
+        ensures paired { length result.now.sets ≡ length result.now.networks }
+        ensures few { length result.now.networks < 2 ^ 31 }
+    {
+        &self.rows
     }
 }
 
@@ -331,7 +386,7 @@ fn header_in(alloc: Global, line: &[u8]) -> Result<Option<Vec<FieldName>>, OutOf
 
 // ---- the whole
 
-fn push_row(table: &mut Table, row: (Network, Fields)) -> Result<(), OutOfMemory>
+fn push_row(table: &mut Rows, row: (Network, Fields)) -> Result<(), OutOfMemory>
     ensures { OnOk result (table.new ≡ with_row table.old row) }
 {
     let (network, fields) = row;
@@ -350,7 +405,7 @@ fn put_line(
     names: &[FieldName],
     number: u64,
     line: &[u8],
-    table: &mut Table,
+    table: &mut Rows,
 ) -> Result<(), TableFault>
     ensures { MatchResult result (λ _. IsPut (rows_of names.now number (line.now ∷ [])) table.old table.new) (IsTableFault (rows_of names.now number (line.now ∷ []))) }
 {
@@ -365,10 +420,10 @@ fn put_line(
 }
 
 // The rows that these lines are, behind a header.
-fn rows_of(alloc: Global, names: &[FieldName], lines: &[u8]) -> Result<Table, TableFault>
+fn rows_of(alloc: Global, names: &[FieldName], lines: &[u8]) -> Result<Rows, TableFault>
     ensures { MatchResult result (λ table. rows_of names.now 2 (lines_of lines.now) ≡ Ok table) (IsTableFault (rows_of names.now 2 (lines_of lines.now))) }
 {
-    let mut table = Table::new(alloc);
+    let mut table = Rows::new(alloc);
     let mut before = 0;
     let mut rest = lines;
     'lines: while let Some((line, behind)) = first_line(rest) {
@@ -388,7 +443,7 @@ pub fn table_in(alloc: Global, content: &[u8]) -> Result<Table, TableFault>
         return Err(TableFault::Line(1));
     };
     match header_in(alloc, bare(line))? {
-        Some(names) => rows_of(alloc, &names, lines),
+        Some(names) => Ok(Table::with_rows(rows_of(alloc, &names, lines)?)?),
         None => Err(TableFault::Line(1)),
     }
 }

@@ -5,7 +5,8 @@ use Rattle.event_text.specs.Lenient.{lenient, PutsText}
 use Rattle.event_text.specs.Text.{message_text}
 use Rattle.report_cut.specs.Line.{without_newline}
 use Rattle.report_cut.specs.Pieces.{longest_line}
-use Rattle.pipeline_top.specs.Convert.{Line, empty, text, refused, line_of, short_line, read_line, line_of_reading, longest_feed, convert_bot, behind_line, put_line, conversion_from, end_at, end_from}
+use Rattle.pipeline_top.specs.Convert.{Line, empty, text, refused, line_of, short_line, read_line, line_of_reading, convert_bot, behind_line, put_line, conversion_from, end_at, end_from}
+use Rattle.step_code.specs.Content.{longest_feed}
 use Rattle.edge_traits.specs.Sink.{SinkView}
 use Rattle.edge_traits.specs.Output.{Moved}
 use Rattle.edge_traits.proofs.Outputs.{Moved-write}

@@ -4,7 +4,8 @@ use Rattle.base_types.specs.Lines.{lines_of}
 use Rattle.edge_traits.specs.Output.{Moved}
 use Rattle.edge_traits.specs.Sink.{SinkView}
 use Rattle.feed_reader.specs.Ahead.{Reading}
-use Rattle.pipeline_top.specs.Convert.{longest_feed, conversion, conversion_from, end_of, end_from}
+use Rattle.pipeline_top.specs.Convert.{conversion, conversion_from, end_of, end_from}
+use Rattle.step_code.specs.Content.{longest_feed}
 use Rattle.pipeline_top.specs.Line.{whole_lines}
 use Rattle.pipeline_top.specs.declared.line.Place.{Place}
 

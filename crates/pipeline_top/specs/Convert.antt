@@ -10,11 +10,8 @@ use Rattle.report_cut.specs.Line.{without_newline}
 use Rattle.report_cut.specs.Pieces.{longest_line}
 use Rattle.pipeline_top.specs.declared.line.Place.{Place}
 use Rattle.status_texts.specs.declared.status.Status.{Status}
+use Rattle.step_code.specs.Content.{longest_feed}
 use Rattle.status_texts.specs.declared.status.Status.TheVariants as status
-
--- no line may end behind this offset of a feed
-abbrev pub longest_feed : ℕ
-longest_feed = 1073741824
 
 -- the bot for which the feed of `convert` counts
 abbrev pub convert_bot : List ℕ

@@ -5,6 +5,7 @@ ghost use Rattle.edge_traits.specs.Shelf.{count_on};
 ghost use Rattle.status_texts.specs.declared.status.FeedWhy.TheVariants.{Failed as FailedWhy};
 ghost use Rattle.store_commands.specs.Ends.{IsPrinted};
 ghost use Rattle.pipeline_top.specs.Commands.{bots_text, IsChecked};
+ghost use Rattle.pipeline_top.specs.Outside.{seen_as, ShelfStays, SinkCounts};
 
 use crate::Status;
 use crate::statuses::{store_status, unbrought_status};
@@ -30,14 +31,12 @@ fn print_bots<S: Sink>(alloc: Global, bots: usize, out: &mut S) -> StoreEnd
 
 /// Loads the bundle of this name, and prints how many bots it has.
 pub fn check<H: Shelf, S: Sink>(alloc: Global, name: &Text, shelf: &mut H, out: &mut S) -> Status
-    ensures checked { (clock : Option ℕ) → IsChecked name.now (record { shelf = H.shelf shelf.old; shelf_now = H.shelf shelf.new; sink = S.sink out.old; sink_now = S.sink out.new; clock = clock }) result }
+    ensures checked { (clock : Option ℕ) → IsChecked name.now (seen_as (H.shelf shelf.old) (H.shelf shelf.new) (S.sink out.old) (S.sink out.new) clock) result }
     ensures words { result ≢ Status.Words }
     ensures disk { result ≢ Status.Disk }
-    ensures sink { result ≡ Status.Sink → Rose (S.sink out.old).faults (S.sink out.new).faults }
+    ensures sink { SinkCounts result (S.sink out.old) (S.sink out.new) }
     ensures failed { (other : List ℕ) → result ≡ Status.Feed other FailedWhy → Rose (count_on (H.shelf shelf.old) other) (count_on (H.shelf shelf.new) other) }
-    ensures told { (H.shelf shelf.new).told ≡ (H.shelf shelf.old).told }
-    ensures counts { (other : List ℕ) → count_on (H.shelf shelf.old) other ≤ count_on (H.shelf shelf.new) other }
-    ensures sink_count { (S.sink out.old).faults ≤ (S.sink out.new).faults }
+    ensures shelf { ShelfStays (H.shelf shelf.old) (H.shelf shelf.new) }
 {
     match bring(alloc, shelf, name) {
         Ok((_bundle, plan)) => store_status(print_bots(alloc, plan.bots.len(), out)),

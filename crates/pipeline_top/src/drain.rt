@@ -1,12 +1,12 @@
 //! `drain`: the pipeline runs.
-ghost use Rattle.std.specs.Prelude.{◌≡◌, ◌≢◌, ◌≤◌, ℕ, List, Some, None, IsSome};
+ghost use Rattle.std.specs.Prelude.{◌≡◌, ◌≢◌, ◌≤◌, ℕ, List, Some, IsSome};
 ghost use Rattle.edge_traits.specs.Count.{Rose};
 ghost use Rattle.edge_traits.specs.Shelf.{ShelfView, count_on};
 ghost use Rattle.bot_rules.specs.Intel.{intel};
 ghost use Rattle.command_words.specs.Asked.{ask_of};
 ghost use Rattle.status_texts.specs.declared.status.FeedWhy.TheVariants.{Failed as FailedWhy};
 ghost use Rattle.pipeline_top.specs.Commands.{IsDrained, IsDrainedBy, IsUndrained};
-ghost use Rattle.pipeline_top.specs.Outside.{Seen};
+ghost use Rattle.pipeline_top.specs.Outside.{seen_as, DiskCounts, Seen, ShelfStays, SinkCounts};
 ghost use Rattle.pipeline_top.specs.Statuses.{unbrought_status};
 
 use crate::Status;
@@ -30,15 +30,12 @@ pub fn drain<H: Shelf, D: Disk, S: Sink, C: Clock>(
     out: &mut S,
     clock: &C,
 ) -> (Status, D)
-    ensures drained { IsDrained D.disk (ask_of ask.entry) (record { shelf = H.shelf shelf.old; shelf_now = H.shelf shelf.new; sink = S.sink out.old; sink_now = S.sink out.new; clock = C.told clock.now }) (D.disk disk) (D.disk result.1) result.0 }
+    ensures drained { IsDrained D.disk (ask_of ask.entry) (seen_as (H.shelf shelf.old) (H.shelf shelf.new) (S.sink out.old) (S.sink out.new) (C.told clock.now)) (D.disk disk) (D.disk result.1) result.0 }
     ensures words { result.0 ≢ Status.Words }
-    ensures disk { result.0 ≡ Status.Disk → Rose (D.disk disk).faults (D.disk result.1).faults }
-    ensures sink { result.0 ≡ Status.Sink → Rose (S.sink out.old).faults (S.sink out.new).faults }
+    ensures disk { DiskCounts result.0 (D.disk disk) (D.disk result.1) }
+    ensures sink { SinkCounts result.0 (S.sink out.old) (S.sink out.new) }
     ensures failed { (other : List ℕ) → result.0 ≡ Status.Feed other FailedWhy → Rose (count_on (H.shelf shelf.old) other) (count_on (H.shelf shelf.new) other) }
-    ensures told { (H.shelf shelf.new).told ≡ (H.shelf shelf.old).told }
-    ensures counts { (other : List ℕ) → count_on (H.shelf shelf.old) other ≤ count_on (H.shelf shelf.new) other }
-    ensures disk_count { (D.disk disk).faults ≤ (D.disk result.1).faults }
-    ensures sink_count { (S.sink out.old).faults ≤ (S.sink out.new).faults }
+    ensures shelf { ShelfStays (H.shelf shelf.old) (H.shelf shelf.new) }
 {
     match bring_code(alloc, shelf, ask.reload) {
         Ok(bundle) => drain_with(alloc, ask, bundle, shelf, disk, out, clock),
@@ -58,15 +55,12 @@ pub(crate) fn drain_with<H: Shelf, D: Disk, S: Sink, C: Clock>(
 ) -> (Status, D)
     requires loads { (code : List ℕ) → bundle ≡ Some code → IsSome (intel.facts code) }
     ensures drained { (before : ShelfView) → (H.shelf shelf.old).told ≡ before.told → ((other : List ℕ) → count_on before other ≤ count_on (H.shelf shelf.old) other)
-        → IsDrainedBy D.disk (ask_of ask.entry) (record { shelf = before; shelf_now = H.shelf shelf.new; sink = S.sink out.old; sink_now = S.sink out.new; clock = C.told clock.now }) result.0 (D.disk disk) (D.disk result.1) bundle }
+        → IsDrainedBy D.disk (ask_of ask.entry) (seen_as before (H.shelf shelf.new) (S.sink out.old) (S.sink out.new) (C.told clock.now)) result.0 (D.disk disk) (D.disk result.1) bundle }
     ensures words { result.0 ≢ Status.Words }
-    ensures disk { result.0 ≡ Status.Disk → Rose (D.disk disk).faults (D.disk result.1).faults }
-    ensures sink { result.0 ≡ Status.Sink → Rose (S.sink out.old).faults (S.sink out.new).faults }
+    ensures disk { DiskCounts result.0 (D.disk disk) (D.disk result.1) }
+    ensures sink { SinkCounts result.0 (S.sink out.old) (S.sink out.new) }
     ensures failed { (other : List ℕ) → result.0 ≡ Status.Feed other FailedWhy → Rose (count_on (H.shelf shelf.old) other) (count_on (H.shelf shelf.new) other) }
-    ensures told { (H.shelf shelf.new).told ≡ (H.shelf shelf.old).told }
-    ensures counts { (other : List ℕ) → count_on (H.shelf shelf.old) other ≤ count_on (H.shelf shelf.new) other }
-    ensures disk_count { (D.disk disk).faults ≤ (D.disk result.1).faults }
-    ensures sink_count { (S.sink out.old).faults ≤ (S.sink out.new).faults }
+    ensures shelf { ShelfStays (H.shelf shelf.old) (H.shelf shelf.new) }
 {
     let asked = Asked {
         opening: Opening {
@@ -98,10 +92,8 @@ pub(crate) fn undrained<D: Disk, S: Sink>(
         → IsUndrained seen result.0 (D.disk disk) (D.disk result.1) why }
     ensures words { result.0 ≢ Status.Words }
     ensures feed { (other : List ℕ) → result.0 ≡ Status.Feed other FailedWhy → unbrought_status why ≡ Status.Feed other FailedWhy }
-    ensures disk { result.0 ≡ Status.Disk → Rose (D.disk disk).faults (D.disk result.1).faults }
-    ensures sink { result.0 ≡ Status.Sink → Rose (S.sink out.old).faults (S.sink out.new).faults }
-    ensures disk_count { (D.disk disk).faults ≤ (D.disk result.1).faults }
-    ensures sink_count { (S.sink out.old).faults ≤ (S.sink out.new).faults }
+    ensures disk { DiskCounts result.0 (D.disk disk) (D.disk result.1) }
+    ensures sink { SinkCounts result.0 (S.sink out.old) (S.sink out.new) }
 {
     let (end, disk) = complete(alloc, disk, IntelRules::new(), is_said(&why), out);
     (behind_store(end, unbrought_status(why)), disk)

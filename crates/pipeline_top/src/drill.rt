@@ -1,11 +1,11 @@
 //! `drill`: a store is made, and a feed that is made in memory is drained into it.
-ghost use Rattle.std.specs.Prelude.{◌≡◌, ◌≢◌, ◌≤◌, ◌↔◌, ℕ, List, false, IfOk};
-ghost use Rattle.edge_traits.specs.Count.{Rose};
+ghost use Rattle.std.specs.Prelude.{◌≡◌, ◌≢◌, ◌↔◌, ℕ, List, false, IfOk};
 ghost use Rattle.edge_traits.specs.Shelf.{ShelfView};
 ghost use Rattle.config_bundle.specs.Bundle.{bundle_code};
 ghost use Rattle.feed_maker.specs.Drill.{drill_bundle, drill_shelf};
 ghost use Rattle.status_texts.specs.declared.status.FeedWhy.TheVariants.{Failed as FailedWhy};
 ghost use Rattle.pipeline_top.specs.Commands.{IsDrilled};
+ghost use Rattle.pipeline_top.specs.Outside.{seen_as, DiskCounts, SinkCounts};
 
 use crate::Status;
 use crate::drain::drain_with;
@@ -35,13 +35,11 @@ pub fn drill<D: Disk, S: Sink, C: Clock>(
     out: &mut S,
     clock: &C,
 ) -> (Status, D)
-    ensures drilled { (shelf shelf_now : ShelfView) → IsDrilled D.disk lines number (record { shelf = shelf; shelf_now = shelf_now; sink = S.sink out.old; sink_now = S.sink out.new; clock = C.told clock.now }) disk result.1 result.0 }
+    ensures drilled { (shelf shelf_now : ShelfView) → IsDrilled D.disk lines number (seen_as shelf shelf_now (S.sink out.old) (S.sink out.new) (C.told clock.now)) disk result.1 result.0 }
     ensures words { result.0 ≢ Status.Words }
     ensures feed { (name : List ℕ) → result.0 ≢ Status.Feed name FailedWhy }
-    ensures disk { result.0 ≡ Status.Disk → Rose (D.disk disk).faults (D.disk result.1).faults }
-    ensures sink { result.0 ≡ Status.Sink → Rose (S.sink out.old).faults (S.sink out.new).faults }
-    ensures disk_count { (D.disk disk).faults ≤ (D.disk result.1).faults }
-    ensures sink_count { (S.sink out.old).faults ≤ (S.sink out.new).faults }
+    ensures disk { DiskCounts result.0 (D.disk disk) (D.disk result.1) }
+    ensures sink { SinkCounts result.0 (S.sink out.old) (S.sink out.new) }
 {
     match prepare(alloc, lines, number) {
         Ok((bundle, shelf)) => drill_with(alloc, &bundle, shelf, disk, out, clock),
@@ -72,13 +70,11 @@ fn drill_with<D: Disk, S: Sink, C: Clock>(
 ) -> (Status, D)
     requires bundle { bundle.now ≡ bundle_code drill_bundle }
     ensures drilled { (other other_now : ShelfView) (lines number : ℕ) → ⟦<DrillShelf as Shelf>⟧.shelf shelf ≡ drill_shelf lines number
-        → IsDrilled D.disk lines number (record { shelf = other; shelf_now = other_now; sink = S.sink out.old; sink_now = S.sink out.new; clock = C.told clock.now }) disk result.1 result.0 }
+        → IsDrilled D.disk lines number (seen_as other other_now (S.sink out.old) (S.sink out.new) (C.told clock.now)) disk result.1 result.0 }
     ensures words { result.0 ≢ Status.Words }
     ensures feed { (name : List ℕ) → result.0 ≢ Status.Feed name FailedWhy }
-    ensures disk { result.0 ≡ Status.Disk → Rose (D.disk disk).faults (D.disk result.1).faults }
-    ensures sink { result.0 ≡ Status.Sink → Rose (S.sink out.old).faults (S.sink out.new).faults }
-    ensures disk_count { (D.disk disk).faults ≤ (D.disk result.1).faults }
-    ensures sink_count { (S.sink out.old).faults ≤ (S.sink out.new).faults }
+    ensures disk { DiskCounts result.0 (D.disk disk) (D.disk result.1) }
+    ensures sink { SinkCounts result.0 (S.sink out.old) (S.sink out.new) }
 {
     let mut shelf = shelf;
     let (end, disk) = make_store(alloc, disk, IntelRules::new(), bundle);

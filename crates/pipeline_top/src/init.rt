@@ -1,5 +1,5 @@
 //! `init`: a store is made.
-ghost use Rattle.std.specs.Prelude.{◌≡◌, ◌≢◌, ◌≤◌, ℕ, List, None, Option};
+ghost use Rattle.std.specs.Prelude.{◌≡◌, ◌≢◌, ℕ, List, Option};
 ghost use Rattle.edge_traits.specs.Count.{Rose};
 ghost use Rattle.edge_traits.specs.Shelf.{count_on};
 ghost use Rattle.edge_traits.specs.Sink.{SinkView};
@@ -7,7 +7,7 @@ ghost use Rattle.config_bundle.specs.Bundle.{IsBundle};
 ghost use Rattle.runtime_config.specs.Load.{load as loaded};
 ghost use Rattle.status_texts.specs.declared.status.FeedWhy.TheVariants.{Failed as FailedWhy};
 ghost use Rattle.pipeline_top.specs.Commands.{IsInit, IsMadeOf, IsUnmade};
-ghost use Rattle.pipeline_top.specs.Outside.{Seen};
+ghost use Rattle.pipeline_top.specs.Outside.{seen_as, DiskCounts, Seen, ShelfStays, SinkCounts};
 ghost use Rattle.pipeline_top.specs.Statuses.{unbrought_status};
 
 use crate::Status;
@@ -29,15 +29,12 @@ pub fn init<H: Shelf, D: Disk, S: Sink>(
     disk: D,
     out: &mut S,
 ) -> (Status, D)
-    ensures begun { (clock : Option ℕ) → IsInit name.now (record { shelf = H.shelf shelf.old; shelf_now = H.shelf shelf.new; sink = S.sink out.old; sink_now = S.sink out.new; clock = clock }) (D.disk disk) (D.disk result.1) result.0 }
+    ensures begun { (clock : Option ℕ) → IsInit name.now (seen_as (H.shelf shelf.old) (H.shelf shelf.new) (S.sink out.old) (S.sink out.new) clock) (D.disk disk) (D.disk result.1) result.0 }
     ensures words { result.0 ≢ Status.Words }
-    ensures disk { result.0 ≡ Status.Disk → Rose (D.disk disk).faults (D.disk result.1).faults }
-    ensures sink { result.0 ≡ Status.Sink → Rose (S.sink out.old).faults (S.sink out.new).faults }
+    ensures disk { DiskCounts result.0 (D.disk disk) (D.disk result.1) }
+    ensures sink { SinkCounts result.0 (S.sink out.old) (S.sink out.new) }
     ensures failed { (other : List ℕ) → result.0 ≡ Status.Feed other FailedWhy → Rose (count_on (H.shelf shelf.old) other) (count_on (H.shelf shelf.new) other) }
-    ensures told { (H.shelf shelf.new).told ≡ (H.shelf shelf.old).told }
-    ensures counts { (other : List ℕ) → count_on (H.shelf shelf.old) other ≤ count_on (H.shelf shelf.new) other }
-    ensures disk_count { (D.disk disk).faults ≤ (D.disk result.1).faults }
-    ensures sink_count { (S.sink out.old).faults ≤ (S.sink out.new).faults }
+    ensures shelf { ShelfStays (H.shelf shelf.old) (H.shelf shelf.new) }
 {
     match bring(alloc, shelf, name) {
         Ok((bundle, plan)) => make(alloc, &bundle, &plan, disk, out),
@@ -59,10 +56,8 @@ fn make<D: Disk, S: Sink>(
         → IsMadeOf seen result.0 (D.disk disk) (D.disk result.1) (bundle.now, plan.now) }
     ensures words { result.0 ≢ Status.Words }
     ensures feed { (other : List ℕ) → result.0 ≡ Status.Feed other FailedWhy → ⊥ }
-    ensures disk { result.0 ≡ Status.Disk → Rose (D.disk disk).faults (D.disk result.1).faults }
-    ensures sink { result.0 ≡ Status.Sink → Rose (S.sink out.old).faults (S.sink out.new).faults }
-    ensures disk_count { (D.disk disk).faults ≤ (D.disk result.1).faults }
-    ensures sink_count { (S.sink out.old).faults ≤ (S.sink out.new).faults }
+    ensures disk { DiskCounts result.0 (D.disk disk) (D.disk result.1) }
+    ensures sink { SinkCounts result.0 (S.sink out.old) (S.sink out.new) }
 {
     match code_of(alloc, bundle, plan) {
         Ok(code) => {
@@ -78,9 +73,8 @@ fn unmade<D: Disk>(disk: D, why: Unbrought) -> (Status, D)
     ensures unmade { (seen : Seen) → seen.sink_now ≡ seen.sink → IsUnmade seen result.0 (D.disk disk) (D.disk result.1) why }
     ensures words { result.0 ≢ Status.Words }
     ensures feed { (other : List ℕ) → result.0 ≡ Status.Feed other FailedWhy → unbrought_status why ≡ Status.Feed other FailedWhy }
-    ensures disk { result.0 ≡ Status.Disk → Rose (D.disk disk).faults (D.disk result.1).faults }
+    ensures disk { DiskCounts result.0 (D.disk disk) (D.disk result.1) }
     ensures sink { result.0 ≢ Status.Sink }
-    ensures disk_count { (D.disk disk).faults ≤ (D.disk result.1).faults }
 {
     let mut disk = disk;
     let have = match find_store(&mut disk) {

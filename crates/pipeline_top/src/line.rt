@@ -3,8 +3,9 @@ ghost use Rattle.event_model.specs.Lenient.{IsFaultOf};
 ghost use Rattle.event_model.specs.declared.fault.ReadFault.{ReadFault};
 ghost use Rattle.event_model.specs.declared.message.Message.{Message};
 ghost use Rattle.report_cut.specs.Pieces.{longest_line};
-ghost use Rattle.pipeline_top.specs.Convert.{refused, line_of, line_of_reading, read_line, longest_feed, convert_bot, behind_line, IsLineEnd};
+ghost use Rattle.pipeline_top.specs.Convert.{refused, line_of, line_of_reading, read_line, convert_bot, behind_line, IsLineEnd};
 ghost use Rattle.pipeline_top.specs.Line.{PutLine};
+ghost use Rattle.step_code.specs.Content.{longest_feed};
 ghost use Rattle.status_texts.specs.declared.status.Status.TheVariants as status;
 
 use crate::Status;
@@ -14,9 +15,7 @@ use event_json::Cleaner;
 use event_model::ReadFault;
 use report_cut::without_newline;
 use std::alloc::Global;
-
-// No line may end behind this offset of a feed, in bytes.
-const LONGEST_FEED: u64 = 1_073_741_824;
+use step_code::LONGEST_FEED;
 
 /// Where a line stands in a feed.
 #[derive(Clone, Copy, Debug, PartialEq, Eq)]

@@ -5,7 +5,8 @@ ghost use Rattle.edge_traits.specs.Output.{TookFront, Moved};
 ghost use Rattle.edge_traits.specs.Shelf.{count_on, content_of, lacks};
 ghost use Rattle.edge_traits.specs.Sink.{Took};
 ghost use Rattle.report_cut.specs.Pieces.{longest_line};
-ghost use Rattle.pipeline_top.specs.Convert.{longest_feed, conversion, conversion_from, end_of, end_from, IsLineEnd};
+ghost use Rattle.pipeline_top.specs.Convert.{conversion, conversion_from, end_of, end_from, IsLineEnd};
+ghost use Rattle.step_code.specs.Content.{longest_feed};
 ghost use Rattle.pipeline_top.specs.Line.{whole_lines, conversion_unless, end_unless};
 
 use crate::Status;

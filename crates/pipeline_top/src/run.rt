@@ -6,6 +6,7 @@ ghost use Rattle.bot_rules.specs.Intel.{intel};
 ghost use Rattle.command_words.specs.Asked.{run_asked};
 ghost use Rattle.status_texts.specs.declared.status.FeedWhy.TheVariants.{Failed as FailedWhy};
 ghost use Rattle.pipeline_top.specs.Commands.{IsRun, IsRunBy};
+ghost use Rattle.pipeline_top.specs.Outside.{seen_as, DiskCounts, ShelfStays, SinkCounts};
 
 use crate::Status;
 use crate::drain::undrained;
@@ -43,16 +44,14 @@ where
     S: Sink,
     C: Clock + Sync,
     G: Gate + Sync,
-    ensures ran { IsRun D.disk (K.source control.old).told (run_asked ask.entry) (record { shelf = H.shelf shelf.old; shelf_now = H.shelf shelf.new; sink = S.sink out.old; sink_now = S.sink out.new; clock = C.told clock.now }) (D.disk disk) (D.disk result.1) result.0 }
+    ensures ran { IsRun D.disk (K.source control.old).told (run_asked ask.entry) (seen_as (H.shelf shelf.old) (H.shelf shelf.new) (S.sink out.old) (S.sink out.new) (C.told clock.now)) (D.disk disk) (D.disk result.1) result.0 }
     ensures words { result.0 ≢ Status.Words }
-    ensures disk { result.0 ≡ Status.Disk → Rose (D.disk disk).faults (D.disk result.1).faults }
-    ensures sink { result.0 ≡ Status.Sink → Rose (S.sink out.old).faults (S.sink out.new).faults }
-    ensures failed { (other : List ℕ) → result.0 ≡ Status.Feed other FailedWhy → Rose (count_on (H.shelf shelf.old) other) (count_on (H.shelf shelf.new) other) ⊎ ((other ≡ codes "control") × Rose (K.source control.old).faults (K.source control.new).faults) }
-    ensures told { (H.shelf shelf.new).told ≡ (H.shelf shelf.old).told }
-    ensures counts { (other : List ℕ) → count_on (H.shelf shelf.old) other ≤ count_on (H.shelf shelf.new) other }
+    ensures disk { DiskCounts result.0 (D.disk disk) (D.disk result.1) }
+    ensures sink { SinkCounts result.0 (S.sink out.old) (S.sink out.new) }
+    ensures failed { (other : List ℕ) → result.0 ≡ Status.Feed other FailedWhy → Rose (count_on (H.shelf shelf.old) other) (count_on (H.shelf shelf.new) other)
+        ⊎ ((other ≡ codes "control") × Rose (K.source control.old).faults (K.source control.new).faults) }
+    ensures shelf { ShelfStays (H.shelf shelf.old) (H.shelf shelf.new) }
     ensures control_count { (K.source control.old).faults ≤ (K.source control.new).faults }
-    ensures disk_count { (D.disk disk).faults ≤ (D.disk result.1).faults }
-    ensures sink_count { (S.sink out.old).faults ≤ (S.sink out.new).faults }
 {
     match bring_code(alloc, shelf, ask.ask.reload) {
         Ok(bundle) => run_with(
@@ -86,16 +85,14 @@ where
     G: Gate + Sync,
     requires loads { (code : List ℕ) → bundle ≡ Some code → IsSome (intel.facts code) }
     ensures ran { (before : ShelfView) → (H.shelf shelf.old).told ≡ before.told → ((other : List ℕ) → count_on before other ≤ count_on (H.shelf shelf.old) other)
-        → IsRunBy D.disk (K.source control.old).told (run_asked ask.entry) (record { shelf = before; shelf_now = H.shelf shelf.new; sink = S.sink out.old; sink_now = S.sink out.new; clock = C.told clock.now }) result.0 (D.disk disk) (D.disk result.1) bundle }
+        → IsRunBy D.disk (K.source control.old).told (run_asked ask.entry) (seen_as before (H.shelf shelf.new) (S.sink out.old) (S.sink out.new) (C.told clock.now)) result.0 (D.disk disk) (D.disk result.1) bundle }
     ensures words { result.0 ≢ Status.Words }
-    ensures disk { result.0 ≡ Status.Disk → Rose (D.disk disk).faults (D.disk result.1).faults }
-    ensures sink { result.0 ≡ Status.Sink → Rose (S.sink out.old).faults (S.sink out.new).faults }
-    ensures failed { (other : List ℕ) → result.0 ≡ Status.Feed other FailedWhy → Rose (count_on (H.shelf shelf.old) other) (count_on (H.shelf shelf.new) other) ⊎ ((other ≡ codes "control") × Rose (K.source control.old).faults (K.source control.new).faults) }
-    ensures told { (H.shelf shelf.new).told ≡ (H.shelf shelf.old).told }
-    ensures counts { (other : List ℕ) → count_on (H.shelf shelf.old) other ≤ count_on (H.shelf shelf.new) other }
+    ensures disk { DiskCounts result.0 (D.disk disk) (D.disk result.1) }
+    ensures sink { SinkCounts result.0 (S.sink out.old) (S.sink out.new) }
+    ensures failed { (other : List ℕ) → result.0 ≡ Status.Feed other FailedWhy → Rose (count_on (H.shelf shelf.old) other) (count_on (H.shelf shelf.new) other)
+        ⊎ ((other ≡ codes "control") × Rose (K.source control.old).faults (K.source control.new).faults) }
+    ensures shelf { ShelfStays (H.shelf shelf.old) (H.shelf shelf.new) }
     ensures control_count { (K.source control.old).faults ≤ (K.source control.new).faults }
-    ensures disk_count { (D.disk disk).faults ≤ (D.disk result.1).faults }
-    ensures sink_count { (S.sink out.old).faults ≤ (S.sink out.new).faults }
 {
     let Run { ask, stay } = ask;
     let asked = Asked {

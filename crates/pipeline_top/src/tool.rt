@@ -7,6 +7,7 @@ ghost use Rattle.command_words.specs.Words.{command_of};
 ghost use Rattle.status_texts.specs.declared.status.FeedWhy.TheVariants.{Failed};
 ghost use Rattle.pipeline_top.specs.Commands.{IsTool};
 ghost use Rattle.pipeline_top.specs.History.{KeepsHistory, ShowsReplay};
+ghost use Rattle.pipeline_top.specs.Outside.{seen_as};
 
 use crate::Status;
 use crate::audit::audit;
@@ -34,7 +35,7 @@ pub fn run_tool<H: Shelf, D: Disk, S: Sink, C: Clock>(
 ) -> (Status, D)
     // What is done for each command: what it brings from the shelf, what it makes of a store, at any moment of the call and after
     // it, what it prints, and how it ends.
-    ensures done { IsTool D.disk (command_of words.now) (record { shelf = H.shelf shelf.old; shelf_now = H.shelf shelf.new; sink = S.sink out.old; sink_now = S.sink out.new; clock = C.told clock.now }) disk result.1 result.0 }
+    ensures done { IsTool D.disk (command_of words.now) (seen_as (H.shelf shelf.old) (H.shelf shelf.new) (S.sink out.old) (S.sink out.new) (C.told clock.now)) disk result.1 result.0 }
 
     // Whatever a crash leaves at any moment of the call, and after it, holds a history that begins with the steps that the disk
     // stood for, where all generations are looked at: a history is never shortened.

@@ -13,3 +13,4 @@ pub use cutter::Cutter;
 pub use laws::{any_slices, pieces_have_lines, pieces_make_up_feed, runs_are_longest};
 pub use line::{first_line, without_newline};
 pub use piece::{Cut, CutFault, CutList, CutRule};
+pub use scan::LONGEST_LINE;

@@ -9,7 +9,7 @@ use memchr::memchr;
 pub(crate) const NEWLINE: u8 = b'\n';
 
 /// The most bytes of a line, its newline included.
-pub(crate) const LONGEST_LINE: usize = 1_048_576;
+pub const LONGEST_LINE: usize = 1_048_576;
 
 /// What the lines behind a header come to.
 pub(crate) enum Step {

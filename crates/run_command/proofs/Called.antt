@@ -1,5 +1,5 @@
 -- What a run leaves of a store, behind its turns.
-use Rattle.std.proofs.Common.{◌≡◌, ◌≢◌, ◌⊎◌, ◌+◌, ◌-◌, ℕ, List, [], length, Bool, true, false, Option, Some, None, Result, Ok, Err, IfErr, IsErrOf, inl, inr, refl, sym, ap, subst, ◌∙◌, arith}
+use Rattle.std.proofs.Common.{◌≡◌, ◌≢◌, ◌⊎◌, ◌+◌, ◌-◌, ℕ, List, [], length, Bool, true, false, Some, None, Result, Ok, Err, IfErr, IsErrOf, inl, inr, refl, ap, subst, ◌∙◌, arith}
 use Rattle.edge_traits.specs.Disk.{DiskView, Image}
 use Rattle.edge_traits.specs.Output.{TookFront}
 use Rattle.edge_traits.specs.Shelf.{ShelfView}
@@ -21,15 +21,13 @@ use Rattle.drain_turns.specs.Drained.{Place}
 use Rattle.drain_turns.specs.Turn.{Outside}
 use Rattle.drain_turns.specs.declared.end.TurnsEnd.{TurnsEnd}
 use Rattle.drain_turns.specs.declared.end.TurnsEnd.TheVariants as last
-use Rattle.drain_command.specs.Drained.{IsCallBy, IsFailedBeyond, IsToldEnd, MayEndDrain}
+use Rattle.drain_command.specs.Drained.{IsCallBy, IsFailedBeyond, MayEndDrain}
 use Rattle.drain_command.specs.Turned.{ended, IsTurned}
 use Rattle.drain_command.specs.declared.draining.Asked.{Asked}
 use Rattle.drain_command.proofs.Made.{drain_called, ends_finished, told_turns, Reopened}
-use Rattle.live_reload.specs.Followed.{orders_in}
 use Rattle.live_reload.specs.declared.end.OrdersEnd.{OrdersEnd}
 use Rattle.live_reload.specs.declared.end.OrdersEnd.TheVariants as end
 use Rattle.live_reload.specs.declared.order.Order.{Order}
-use Rattle.run_command.specs.Laps.{HasTurned}
 use Rattle.run_command.specs.Runs.{Runs, RunsSo}
 use Rattle.run_command.specs.Said.{run_ended, IsUnanswered}
 use Rattle.run_command.proofs.Worked.{steps_replayed}

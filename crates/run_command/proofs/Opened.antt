@@ -1,5 +1,5 @@
 -- Feeds that are readable behind a run's opening, as it is known ahead, are readable wherever the run comes to.
-use Rattle.std.proofs.Common.{None, ◌≡◌, ℕ, List, [], ◌∷◌, ◌++◌, drop, map, Option, Some, refl, sym, ap, subst, ◌∙◌, append-nil}
+use Rattle.std.proofs.Common.{None, ◌≡◌, ℕ, List, [], ◌∷◌, ◌++◌, drop, map, Option, Some, sym, ap, subst, ◌∙◌, append-nil}
 use Rattle.std.specs.List.{AllByRecursion}
 use Rattle.step_code.specs.declared.base.Base.{Base}
 use Rattle.step_code.specs.declared.rules.Facts.{Facts}
@@ -19,7 +19,7 @@ use Rattle.store_image.proofs.Histories.{seal_kept, seals_on, seals_self}
 use Rattle.worker_turns.proofs.Holding.{own_on}
 use Rattle.live_reload.specs.declared.end.OrdersEnd.{OrdersEnd}
 use Rattle.live_reload.specs.declared.order.Order.{Order}
-use Rattle.run_command.specs.Runs.{carried_in, onto_given, steps_in, AreParts, AreWorkerSteps, EndsAfter, HasWorked, IsPart, IsWorkerStep}
+use Rattle.run_command.specs.Runs.{carried_in, steps_in, AreParts, AreWorkerSteps, EndsAfter, HasWorked, IsWorkerStep}
 use Rattle.run_command.proofs.Ending.{is_behind}
 use Rattle.run_command.proofs.Readable.{feeds_too, workers_keep_feeds_readable, AreAlike}
 

@@ -22,7 +22,7 @@ use Rattle.live_reload.specs.declared.end.OrdersEnd.{OrdersEnd}
 use Rattle.live_reload.specs.declared.order.Order.{Order}
 use Rattle.live_reload.specs.declared.order.Order.TheVariants as order
 use Rattle.run_command.specs.Laps.{IsObeyed}
-use Rattle.run_command.specs.Runs.{carried_in, kinds_of, left_behind, onto_given, steps_in, AreOrdered, AreParts, EndsWithin, IsPart, RunEnds}
+use Rattle.run_command.specs.Runs.{carried_in, kinds_of, left_behind, onto_given, steps_in, AreParts, IsPart, RunEnds}
 use Rattle.run_command.proofs.Ending.{is_behind}
 use Rattle.run_command.proofs.Lapping.{ends_further, few_lists, left_lists, own_whole}
 

@@ -19,7 +19,7 @@ use Rattle.drain_turns.specs.declared.end.TurnsEnd.TheVariants as last
 use Rattle.drain_loop.specs.Calls.{place_of, place_with}
 use Rattle.live_reload.specs.Answers.{brought_answer, IsAnswerTo}
 use Rattle.live_reload.specs.Followed.{answers_to, orders_in, HasFollowed}
-use Rattle.live_reload.specs.Live.{Answers, Follows, LiveView, Stays, Turns, Unprinted, Waits}
+use Rattle.live_reload.specs.Live.{Answers, Follows, LiveView, Stays, Turns, Waits}
 use Rattle.live_reload.specs.Lines.{control_lines}
 use Rattle.live_reload.specs.declared.control.Control.{Control}
 use Rattle.live_reload.specs.declared.control.Control.TheVariants as control

@@ -10,7 +10,8 @@ use Rattle.runtime_text.specs.Named.{file_of, named_files}
 use Rattle.runtime_text.proofs.AllNamed.{files_are_named}
 use Rattle.runtime_text.specs.Runtime.{object_of, runtime_in, Entry, Runtime}
 use Rattle.runtime_config.specs.Faults.{absent_file, bad_parameter, bad_row, bad_rule, content_of, fault_of, fault_when, first_fault, first_some, missing_member, on_cycle, past_limit, places_from, refused_sieve, unknown_module, unknown_path, unknown_queue, HasFiles, Place}
-use Rattle.runtime_config.specs.Load.{load, longest_runtime, of_runtime, runtime_of, unless}
+use Rattle.runtime_config.specs.Load.{load, of_runtime, runtime_of, unless}
+use Rattle.config_bundle.specs.Limits.{longest_runtime}
 use Rattle.runtime_config.specs.declared.fault.LoadFault.{LoadFault}
 use Rattle.runtime_config.specs.declared.fault.LoadFault.TheVariants as fault
 use Rattle.runtime_config.specs.declared.plan.Plan.{Plan}

@@ -16,7 +16,8 @@ use Rattle.runtime_config.specs.Whole.{AreSumsOver}
 use Rattle.runtime_text.specs.Read.{members_of}
 use Rattle.runtime_config.specs.declared.limits.Sums.{Sums}
 use Rattle.runtime_config.specs.declared.whole.Whole.{Whole}
-use Rattle.runtime_config.specs.Load.{load, longest_runtime, of_runtime, planned, runtime_of, unless, IsLoaded}
+use Rattle.runtime_config.specs.Load.{load, of_runtime, planned, runtime_of, unless, IsLoaded}
+use Rattle.config_bundle.specs.Limits.{longest_runtime}
 use Rattle.runtime_text.specs.Runtime.{Entry, Runtime}
 use Rattle.runtime_config.specs.declared.fault.LoadFault.{LoadFault}
 use Rattle.runtime_config.specs.declared.fault.LoadFault.TheVariants as fault

@@ -19,7 +19,8 @@ use Rattle.event_model.specs.Trees.{both, json_of, lexeme_in, tree_in}
 use Rattle.field_types.proofs.Twice.{mapped}
 use Rattle.config_bundle.specs.declared.bundle.Bundle.{Bundle}
 use Rattle.runtime_config.specs.Faults.{first_fault}
-use Rattle.runtime_config.specs.Load.{load, longest_runtime, of_runtime, planned, runtime_of, unless}
+use Rattle.runtime_config.specs.Load.{load, of_runtime, planned, runtime_of, unless}
+use Rattle.config_bundle.specs.Limits.{longest_runtime}
 use Rattle.runtime_text.specs.Runtime.{bot_of, bots_in, global_key, object_of, runtime_in, Entry, Runtime}
 use Rattle.runtime_config.specs.Within.{AreWithin}
 use Rattle.runtime_config.specs.declared.fault.LoadFault.{LoadFault}

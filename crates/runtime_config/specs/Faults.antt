@@ -8,6 +8,7 @@ use Rattle.serde_json.specs.Find.{as_bool, get_member}
 use Rattle.base_types.specs.Lists.{IsIn}
 use Rattle.event_model.specs.Lenient.{least}
 use Rattle.config_bundle.specs.declared.bundle.Bundle.{Bundle}
+use Rattle.config_bundle.specs.Limits.{longest_file}
 use Rattle.module_settings.specs.Modules.{is_output, reads_rules, reads_sieve, reads_table}
 use Rattle.module_settings.specs.Parameters.{Parameter}
 use Rattle.runtime_text.specs.Named.{file_of}
@@ -18,7 +19,7 @@ use Rattle.runtime_config.specs.Sieves.{refusal_of, sieve_of}
 use Rattle.module_settings.specs.Table.{row_count, table_in}
 use Rattle.runtime_config.specs.declared.fault.LoadFault.{LoadFault}
 use Rattle.runtime_config.specs.declared.fault.LoadFault.TheVariants as fault
-use Rattle.module_settings.specs.declared.table.Table.{Table}
+use Rattle.module_settings.specs.declared.table.Rows.{Rows}
 use Rattle.sieve_tree.specs.SieveView.{SieveView}
 use Rattle.expert_modify.specs.declared.rule.Rule.{Rule as FieldRule}
 
@@ -212,9 +213,6 @@ most_rows = 100000
 abbrev pub longest_bundle : ℕ
 longest_bundle = 16777216
 
-abbrev pub longest_file : ℕ
-longest_file = 4194304
-
 abbrev pub most_routes : ℕ
 most_routes = 32
 
@@ -291,7 +289,7 @@ past_limit p = limit_fault p.bundle p.runtime.global p.before p.bot
 
 -- ---- tables
 
-abbrev pub fault_in : Result Table ℕ → Option ℕ
+abbrev pub fault_in : Result Rows ℕ → Option ℕ
 fault_in (Ok table) = None
 fault_in (Err line) = Some line
 

@@ -5,6 +5,7 @@ use Rattle.std.specs.Str.{bytes_eq}
 use Rattle.serde_json.specs.Data.{Members}
 use Rattle.event_model.specs.Trees.{tree_in}
 use Rattle.config_bundle.specs.declared.bundle.Bundle.{Bundle}
+use Rattle.config_bundle.specs.Limits.{longest_runtime}
 use Rattle.runtime_config.specs.Faults.{bot_sieve, first_fault, instances, modify_rules, table_text}
 use Rattle.runtime_text.specs.Runtime.{defaults_in, line, line_in, lines_in, module_of, object_of, routes, runtime_in, set_as, switch_in, whole_in, Entry, Route as Path, Runtime}
 use Rattle.module_settings.specs.Table.{table_in}
@@ -17,7 +18,7 @@ use Rattle.runtime_config.specs.declared.plan.Module.TheVariants as as_module
 use Rattle.runtime_config.specs.declared.plan.Plan.{Plan}
 use Rattle.runtime_config.specs.declared.plan.Planned.{Planned}
 use Rattle.runtime_config.specs.declared.plan.Route.{Route}
-use Rattle.module_settings.specs.declared.table.Table.{Table}
+use Rattle.module_settings.specs.declared.table.Rows.{Rows}
 
 -- ---- one bot
 
@@ -29,11 +30,11 @@ abbrev pub is_allowing : List ℕ → Bool
 is_allowing word = bytes_eq word (codes "allow") || bytes_eq word (codes "whitelist")
 
 -- a table that is none has no rows
-abbrev pub rows_in : Result Table ℕ → Table
+abbrev pub rows_in : Result Rows ℕ → Rows
 rows_in (Ok table) = table
 rows_in (Err n) = record { networks = []; sets = [] }
 
-abbrev pub table_of : Option (List ℕ) → Table
+abbrev pub table_of : Option (List ℕ) → Rows
 table_of None = record { networks = []; sets = [] }
 table_of (Some bytes) = rows_in (table_in bytes)
 
@@ -62,8 +63,7 @@ module_as bundle global bot (Some modules.Dedup) = as_module.Dedup
     (whole_in (set_as global bot (codes "ttl")))
     (whole_in (set_as global bot (codes "cache_max")))
 module_as bundle global bot (Some modules.Prefix) = as_module.Prefix
-    (table_of (table_text bundle global bot)).networks
-    (table_of (table_text bundle global bot)).sets
+    (table_of (table_text bundle global bot))
     (switch_in (set_as global bot (codes "overwrite")))
 module_as bundle global bot (Some modules.Taxonomy) = as_module.Taxonomy
 module_as bundle global bot (Some modules.Modify) = as_module.Modify
@@ -88,10 +88,6 @@ planned bundle global bot = record {
 }
 
 -- ---- the whole
-
--- the greatest length of a runtime text
-abbrev pub longest_runtime : ℕ
-longest_runtime = 1048576
 
 -- the runtime of a bundle, unless its text is too long or isn't such an object
 unfoldable pub runtime_of : Bundle → Option Runtime

@@ -4,7 +4,8 @@ use Rattle.std.specs.List.{list_all, list_any}
 use Rattle.std.specs.Str.{bytes_eq}
 use Rattle.serde_json.specs.Data.{Members}
 use Rattle.config_bundle.specs.declared.bundle.Bundle.{Bundle}
-use Rattle.runtime_config.specs.Faults.{bytes_of, content, instances, is_route, longest_bundle, longest_file, most_bots, most_columns, most_instances, most_routes, most_rows, most_rows_in_all, passes_rules, rows, rows_in_all}
+use Rattle.runtime_config.specs.Faults.{bytes_of, content, instances, is_route, longest_bundle, most_bots, most_columns, most_instances, most_routes, most_rows, most_rows_in_all, passes_rules, rows, rows_in_all}
+use Rattle.config_bundle.specs.Limits.{longest_file}
 use Rattle.runtime_text.specs.Named.{file_of}
 use Rattle.runtime_text.specs.Runtime.{lines_in, routes, set_as, Entry}
 use Rattle.runtime_config.specs.declared.limits.Numbers.{Numbers}

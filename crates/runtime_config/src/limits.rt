@@ -2,7 +2,8 @@
 ghost use Rattle.std.specs.Prelude.{◌≡◌, ◌≤◌, ◌++◌, [], ◌∷◌, ◌||◌, false, length, unwrap_or, option_map, IfOk, OnOk};
 ghost use Rattle.std.specs.List.{list_all, list_any};
 ghost use Rattle.std.specs.Str.{bytes_eq};
-ghost use Rattle.runtime_config.specs.Faults.{is_route, longest_file, most_rows, pass_together, passes_own};
+ghost use Rattle.config_bundle.specs.Limits.{longest_file};
+ghost use Rattle.runtime_config.specs.Faults.{is_route, most_rows, pass_together, passes_own};
 ghost use Rattle.runtime_text.specs.Read.{entries_of, entry_of, members_of};
 ghost use Rattle.runtime_config.specs.Sums.{new_bytes, passes_by, with_file, AreNumbers, AreSmall, AreSums};
 ghost use Rattle.module_settings.specs.Table.{row_count};
@@ -10,7 +11,7 @@ ghost use Rattle.module_settings.specs.Table.{row_count};
 use crate::file_rules::passes_rules;
 use crate::rules::{content, file_of, table_text};
 use base_types::{OutOfMemory, Text, TextList};
-use config_bundle::Bundle;
+use config_bundle::{Bundle, LONGEST_FILE};
 use module_settings::row_count;
 use runtime_text::given::{lines, whole};
 use runtime_text::{Bot, Object};
@@ -23,8 +24,6 @@ const MOST_INSTANCES: u64 = 128;
 const MOST_ROWS: u64 = 100_000;
 
 const MOST_ROWS_IN_ALL: u64 = 1_000_000;
-
-const LONGEST_FILE: u64 = 4_194_304;
 
 const LONGEST_BUNDLE: u64 = 16_777_216;
 
@@ -122,7 +121,7 @@ fn passes_own(
     Ok(
         columns.len() > MOST_COLUMNS
             || numbers.rows > MOST_ROWS
-            || numbers.length > LONGEST_FILE
+            || numbers.length > LONGEST_FILE as u64
             || numbers.many_rules,
     )
 }

@@ -1,10 +1,11 @@
 //! What a bundle means: the plan of its bots, or the first fault.
 ghost use Rattle.std.specs.Prelude.{◌≡◌, ◌<◌, ◌≤◌, ◌+◌, ◌++◌, ◌∷◌, [], false, length, take, map, nat_lt, option_and_then, option_map, slice_get, None, Some, IfOk, MatchResult, OnOk, if◌then◌else◌};
+ghost use Rattle.config_bundle.specs.Limits.{longest_runtime};
 ghost use Rattle.serde_json.specs.View.{view};
 ghost use Rattle.event_model.specs.Trees.{tree_in};
 ghost use Rattle.runtime_config.specs.Faults.{absent_file, bad_parameter, bad_row, bad_rule, fault_of, first_fault, first_of, missing_member, past_limit, rules_of_places, rules_of_settings, rules_of_sieves, unknown_queue};
 ghost use Rattle.runtime_config.specs.Found.{IsFault, IsFound, IsPlannedAs, IsSieveOf};
-ghost use Rattle.runtime_config.specs.Load.{load, longest_runtime, of_runtime, planned, IsLoaded};
+ghost use Rattle.runtime_config.specs.Load.{load, of_runtime, planned, IsLoaded};
 ghost use Rattle.runtime_text.specs.Read.{entries_of, members_of};
 ghost use Rattle.runtime_text.specs.Reaches.{reaches};
 ghost use Rattle.runtime_text.specs.Runtime.{object_of, runtime_in, Entry};
@@ -19,13 +20,11 @@ use crate::sieve::{bot_sieve, has_many_patterns, with_known_paths};
 use crate::whole::{PlacedBot, Whole};
 use crate::{LoadFault, Plan, Planned, PlannedList};
 use base_types::OutOfMemory;
-use config_bundle::Bundle;
+use config_bundle::{Bundle, LONGEST_RUNTIME};
 use runtime_text::{Object, bots_in, comes_back, graph_of, object_of, tree_in};
 use serde_json::Value as Tree;
 use sieve_tree::Sieve;
 use std::alloc::Global;
-
-const LONGEST_RUNTIME: usize = 1_048_576;
 
 // ---- one bot, fault by fault
 

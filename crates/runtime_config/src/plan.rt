@@ -1,7 +1,7 @@
 use base_types::{BotName, ListOf, QueueList, Text, TextList};
 use event_model::Fields;
 use expert_modify::ModifyRules;
-use module_settings::{FieldsList, NetworkList};
+use module_settings::Table;
 use scalar_net::Network;
 use sieve_tree::Sieve;
 
@@ -59,9 +59,8 @@ pub enum Module {
         cache_max: u32,
     },
     Prefix {
-        networks: NetworkList,
-        /// What each of the networks sets.
-        sets: FieldsList,
+        /// Networks, and what each of them sets.
+        table: Table,
         /// Whether fields that are there are set too.
         overwrite: bool,
     },

@@ -160,12 +160,9 @@ fn prefix(alloc: Global, bundle: &Bundle, global: &Object, bot: &Bot) -> Result<
         × (m ≡ module_as bundle.now (members_of global.now) (entry_of bot.now) (Some modules.Prefix)))
         (IsFault (table_fault bundle.now (members_of global.now) (entry_of bot.now))) }
 {
-    let table = table_of(alloc, bundle, global, bot)?;
-    let overwrite = switch(alloc, global, bot, "overwrite")?;
     Ok(Module::Prefix {
-        networks: table.networks,
-        sets: table.sets,
-        overwrite,
+        table: table_of(alloc, bundle, global, bot)?,
+        overwrite: switch(alloc, global, bot, "overwrite")?,
     })
 }
 

@@ -11,14 +11,13 @@ use crate::distinct::{are_apart_below, hands_differ, keys_differ, names_differ};
 use crate::standing::standing;
 use base_types::{BotName, Moment, OutOfMemory, QueueName, queue_of};
 use std::alloc::Global;
-use step_code::{Base, BotCache, Facts, Feed, LAST_MOMENT, Output, collects, is_instance, writes};
+use step_code::{
+    Base, BotCache, Facts, Feed, LAST_MOMENT, LONGEST_BASE, Output, collects, is_instance, writes,
+};
 use stored_types::{Coded, Dump, Hand, Mark, Queue};
 
 /// No number in a state goes past this one, so that sums with lengths fit 64 bits.
 const LAST_NUMBER: u64 = 4_611_686_018_427_387_905;
-
-/// The longest code of a state, in bytes.
-const LONGEST_BASE: u64 = 268_435_456;
 
 const MOST_TRIES: u32 = 100;
 

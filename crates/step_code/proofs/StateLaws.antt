@@ -1,8 +1,5 @@
 -- A state that is read is the state that was written, and what was written is read again.
 use Rattle.std.proofs.Common.{◌≡◌, ℕ, List, ◌++◌, refl, sym}
-use Rattle.stored_types.specs.declared.hand.Hand.{Hand}
-use Rattle.stored_types.specs.declared.message.Dump.{Dump}
-use Rattle.stored_types.specs.declared.queue.Queue.{Queue}
 use Rattle.stored_types.specs.Code.{blob, moment, number, IsBlob, IsBot, IsList, IsMoment, IsNumber}
 use Rattle.stored_types.specs.Hand.{IsHand}
 use Rattle.stored_types.specs.Message.{IsDump}
@@ -12,9 +9,6 @@ use Rattle.stored_types.proofs.FieldLaws.{blob_law, bot_law, flag_law, list_law,
 use Rattle.stored_types.proofs.Laws.{dump_law, hand_law, mark_law, waiting_law}
 use Rattle.step_code.specs.declared.base.Base.{Base}
 use Rattle.step_code.specs.declared.base.Heads.{Heads}
-use Rattle.step_code.specs.declared.cache.BotCache.{BotCache}
-use Rattle.step_code.specs.declared.feed.Feed.{Feed}
-use Rattle.step_code.specs.declared.output.Output.{Output}
 use Rattle.step_code.specs.Code.{cache, code_of_base, feed, first_format, output, IsCache, IsFeed, IsOutput, IsWritableBase}
 use Rattle.step_code.specs.Reading.{base_at, base_of, BaseFields, cache_at, feed_at, heads_at, output_at}
 

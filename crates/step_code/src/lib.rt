@@ -8,6 +8,7 @@ mod decode;
 mod encode;
 mod facts;
 mod feed;
+mod limits;
 mod output;
 mod rules;
 mod step;
@@ -19,9 +20,7 @@ pub use decode::{decode_base, decode_step};
 pub use encode::{encode_base, encode_step};
 pub use facts::{bot_named, collects, is_collector, is_instance, is_live_queue, writes};
 pub use feed::{Feed, FeedList};
+pub use limits::{BACKLOG_LIMIT, LAST_GIVEN, LAST_MOMENT, LONGEST_BASE, LONGEST_FEED};
 pub use output::{OutList, Output};
-pub use rules::{
-    CacheRule, Facts, FactsList, FeedFacts, Given, LAST_MOMENT, LONGEST_FEED, PlanFault, Role,
-    Rules,
-};
+pub use rules::{CacheRule, Facts, FactsList, FeedFacts, Given, PlanFault, Role, Rules};
 pub use step::{Step, StepKind, StepRefusal};

@@ -71,12 +71,6 @@ pub enum Given {
     Fault(FaultNote),
 }
 
-/// The last moment that a step may have: the last second of the year 9999.
-pub const LAST_MOMENT: u64 = 253_402_300_799;
-
-/// No feed is read behind this offset in bytes.
-pub const LONGEST_FEED: u64 = 1_073_741_824;
-
 /// Why a bundle gives no plan.
 #[derive(Clone, Copy, Debug, PartialEq, Eq)]
 pub enum PlanFault {

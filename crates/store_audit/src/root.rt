@@ -16,9 +16,7 @@ use disk_journal::{JournalFault, read_records};
 use edge_traits::Disk;
 use generation_reading::generation_named;
 use std::alloc::Global;
-use store_image::root_heading;
-
-const ROOT: u64 = 0;
+use store_image::{ROOT, root_heading};
 
 // The generation that these bodies name last: none where they name none.
 fn last_named(bodies: &[Blob]) -> Result<Option<u64>, AuditFault>

@@ -19,9 +19,7 @@ use history_laws::legal_histories_leave_sound_states;
 use journal_book::Book;
 use std::alloc::Global;
 use step_code::Rules;
-
-// The number of the root's file.
-const ROOT: u64 = 0;
+use store_image::ROOT;
 
 /// Makes a store of this bundle on a disk whose root is empty, and prints the summary of its first state. The disk comes back.
 pub fn init<D: Disk, R: Rules, S: Sink>(

@@ -4,6 +4,9 @@ ghost use Rattle.store_image.specs.Files.{heading_of, root_heading};
 
 use disk_journal::Heading;
 
+/// The number of the file that names the generations; the last of them is in force.
+pub const ROOT: u64 = 0;
+
 /// The format of the root, and of the generations that can be read.
 pub const FIRST_FORMAT: u32 = 1;
 

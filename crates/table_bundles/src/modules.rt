@@ -28,11 +28,10 @@ pub fn push_module(out: &mut String, module: &Module) -> Result<(), OutOfMemory>
             ttl,
             cache_max,
         } => push_dedup(out, keys, *keep, *ttl, *cache_max),
-        Module::Prefix {
-            networks,
-            sets,
-            overwrite,
-        } => push_prefix(out, networks.len(), sets.len(), *overwrite),
+        Module::Prefix { table, overwrite } => {
+            let rows = table.rows();
+            push_prefix(out, rows.networks.len(), rows.sets.len(), *overwrite)
+        }
         Module::Taxonomy => push_words(out, "taxonomy", ""),
         Module::Modify {
             rules,

@@ -1,4 +1,4 @@
-use Rattle.std.proofs.Common.{[], ◌∷◌, None, refl, sym, ap, subst}
+use Rattle.std.proofs.Common.{[], ◌∷◌, None, refl, sym, subst}
 use Rattle.journal_book.specs.Staged.{staged}
 use Rattle.book_runs.proofs.Going.{goes_nowhere}
 use Rattle.drain_turns.specs.Drained.{Ends}

@@ -1,4 +1,4 @@
-use Rattle.std.proofs.Common.{[], true, refl}
+use Rattle.std.proofs.Common.{[], true}
 use Rattle.book_runs.proofs.Going.{goes_nowhere}
 use Rattle.drain_turns.specs.declared.end.TurnsEnd.TheVariants as end
 use Rattle.drain_loop.specs.Calls.{outside, place_with, rounds_of}

@@ -1,4 +1,4 @@
-use Rattle.std.proofs.Common.{OnOk, refl, subst}
+use Rattle.std.proofs.Common.{OnOk, subst}
 use Rattle.turn_order.specs.Turn.{collectors}
 use Rattle.base_types.proofs.Everywhere.{all_wider}
 use Rattle.collector_feeds.specs.Standing.{IsReady}

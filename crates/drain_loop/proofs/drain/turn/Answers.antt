@@ -2,7 +2,6 @@ use Rattle.std.proofs.Common.{◌≡◌, [], false, None, Err, refl, sym, ap, su
 use Rattle.step_code.specs.declared.base.Base.{Base}
 use Rattle.ack_steps.specs.Core.{CoreView}
 use Rattle.store_image.proofs.Numbers.{number_small}
-use Rattle.journal_book.specs.Book.{BookView}
 use Rattle.journal_book.specs.Staged.{staged, stamp}
 use Rattle.book_runs.specs.Commit.{readied}
 use Rattle.book_runs.proofs.Going.{goes_nowhere}

@@ -3,8 +3,6 @@ use Rattle.edge_traits.proofs.Moments.{widened}
 use Rattle.journal_book.proofs.Histories.{gate_length}
 use Rattle.journal_book.proofs.Recovering.{histories_kept}
 use Rattle.journal_book.proofs.opening.open_journal.Goals as goal
-use Rattle.step_code.specs.Code.{first_format}
-use Rattle.store_image.specs.Files.{heading_of}
 
 pub returns-in-Ok-clause-short : goal.returns-in-Ok-clause-short
 returns-in-Ok-clause-short g c = omega (arith, c.len.type_inv, c.len.ensures, c.in-Ok.ensures.length, gate_length c.args.heading c.in-Ok.bodies 0)

@@ -28,7 +28,7 @@ returns-then-lacks_store-clause-drilled g c = λ other other_now lines number is
     }
 
 pub returns-then-lacks_store-clause-sink : goal.returns-then-lacks_store-clause-sink
-returns-then-lacks_store-clause-sink g c = λ sink. absurd (c.make_store-end.ensures.unprinted (ends_sink c.make_store-end.result.0 c.store_status.result c.store_status.ensures sink))
+returns-then-lacks_store-clause-sink g c = record { fails = λ sink. absurd (c.make_store-end.ensures.unprinted (ends_sink c.make_store-end.result.0 c.store_status.result c.store_status.ensures sink)); count = omega arith }
 
 pub returns-clause-drilled : goal.returns-clause-drilled
 returns-clause-drilled g c = λ other other_now lines number is.
@@ -47,9 +47,9 @@ returns-clause-drilled g c = λ other other_now lines number is.
           (record { shelf = other; shelf_now = other_now; sink = g.S.Sink.sink c.args.out.now; sink_now = g.S.Sink.sink drained.new.out; clock = g.C.Clock.told c.args.clock.now }) mid drained.result.1 drained.result.0 e) (sym made_one)
           (subst (λ (now : ShelfView). IsDrainedBy g.D.Disk.disk no_ask (record { shelf = drill_shelf lines number; shelf_now = now; sink = g.S.Sink.sink c.args.out.now; sink_now = g.S.Sink.sink drained.new.out; clock = g.C.Clock.told c.args.clock.now })
           drained.result.0 (g.D.Disk.disk mid) (g.D.Disk.disk drained.result.1) None)
-          (ap (λ t. record { counts = (feed_name, 0) ∷ []; told = t }) (drained.ensures.told ∙ ap (λ v. v.told) is))
+          (ap (λ t. record { counts = (feed_name, 0) ∷ []; told = t }) (drained.ensures.shelf.told ∙ ap (λ v. v.told) is))
           (drained.ensures.drained (drill_shelf lines number) (ap (λ v. v.told) is) (λ name. omega (arith, ap (λ (v : ShelfView). count_on v name) is))));
     }
 
 pub returns-clause-feed : goal.returns-clause-feed
-returns-clause-feed g c = λ name is. no_rise _ _ (c.drills_never_fail.ensures name) (c.drain_with-drained.ensures.counts name) (c.drain_with-drained.ensures.failed name is)
+returns-clause-feed g c = λ name is. no_rise _ _ (c.drills_never_fail.ensures name) (c.drain_with-drained.ensures.shelf.counts name) (c.drain_with-drained.ensures.failed name is)

@@ -1,5 +1,5 @@
 use Rattle.std.proofs.Common.{◌-◌}
-use Rattle.pipeline_top.specs.Convert.{longest_feed}
+use Rattle.step_code.specs.Content.{longest_feed}
 use Rattle.pipeline_top.proofs.Writing.{ConvertsFeed}
 use Rattle.pipeline_top.proofs.pieces.convert_pieces.Given as goal
 

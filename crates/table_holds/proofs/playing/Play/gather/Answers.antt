@@ -1,5 +1,4 @@
-use Rattle.std.proofs.Common.{List, ℕ, None, IfSome, sym, ap, subst}
-use Rattle.step_code.specs.Rules.{Task}
+use Rattle.std.proofs.Common.{None, IfSome, sym, subst}
 use Rattle.tests_rules.specs.Tiny.{meaning}
 use Rattle.worker_turns.specs.Collecting.{IsLooked, IsPlace, IsSight}
 use Rattle.worker_turns.specs.declared.collector.Collector.{Collector}
